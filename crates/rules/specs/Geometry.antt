@@ -1,0 +1,57 @@
+-- "Geometry": closed rectangles in whole millimetres. Areas and differences are whole numbers that may be negative.
+use mathlib.Core.Bool.{Bool, cond, _&&_}
+use lib.IntN.{ℤ, _-ℤ_, _*ℤ_}
+use lib.Signed.{leZ}
+use Rattle.rules.specs.declared.Rect.{Rect}
+use Rattle.rules.specs.declared.Record.{Record}
+use Rattle.rules.specs.Lists.{same}
+use Rattle.rules.specs.Numbers.{inRange}
+
+-- "a coordinate out of range, or low above high" makes a rectangle bad; "Low may equal high."
+unfoldable pub valid : Rect → Bool
+valid r =
+    inRange (r .lowX) && inRange (r .lowY) && inRange (r .highX) && inRange (r .highY)
+    && leZ (r .lowX) (r .highX) && leZ (r .lowY) (r .highY)
+
+-- "Two rectangles meet when on each axis each low is at most the other's high; touching counts."
+unfoldable pub meets : Rect → Rect → Bool
+meets a b =
+    leZ (a .lowX) (b .highX) && leZ (b .lowX) (a .highX)
+    && leZ (a .lowY) (b .highY) && leZ (b .lowY) (a .highY)
+
+unfoldable pub smaller : ℤ → ℤ → ℤ
+smaller a b = cond (leZ a b) a b
+
+unfoldable pub larger : ℤ → ℤ → ℤ
+larger a b = cond (leZ a b) b a
+
+-- "the smallest rectangle holding both"
+unfoldable pub cover : Rect → Rect → Rect
+cover a b =
+    record {
+      lowX = smaller (a .lowX) (b .lowX);
+      lowY = smaller (a .lowY) (b .lowY);
+      highX = larger (a .highX) (b .highX);
+      highY = larger (a .highY) (b .highY);
+    }
+
+-- "Area is width times height."
+unfoldable pub area : Rect → ℤ
+area r = (r .highX -ℤ r .lowX) *ℤ (r .highY -ℤ r .lowY)
+
+-- "The enlargement of A for B is the area of the smallest rectangle holding both, less A's area."
+unfoldable pub enlargement : Rect → Rect → ℤ
+enlargement a b = area (cover a b) -ℤ area a
+
+-- PS1: "d = area of joint cover less both areas, possibly negative"
+unfoldable pub waste : Rect → Rect → ℤ
+waste a b = area (cover a b) -ℤ area a -ℤ area b
+
+-- the same rectangle; the same pair of number and rectangle
+unfoldable pub sameRect : Rect → Rect → Bool
+sameRect a b =
+    same (a .lowX) (b .lowX) && same (a .lowY) (b .lowY)
+    && same (a .highX) (b .highX) && same (a .highY) (b .highY)
+
+unfoldable pub samePair : Record → Record → Bool
+samePair a b = same (a .number .0) (b .number .0) && sameRect (a .rect) (b .rect)

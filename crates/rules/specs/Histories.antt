@@ -1,0 +1,55 @@
+-- How a closed history is written down, so that anyone can state what it should leave, write `unfolding document01` and prove it by `refl`.
+use mathlib.Core.List.{List, [], _∷_, map}
+use Prim.Native.Nat.{ℕ, _+_, _*_}
+use lib.ListN.{length, replicate}
+use lib.IntN.{ℤ, pos, negℤ}
+use Rattle.rules.specs.declared.Rect.{Rect}
+use Rattle.rules.specs.declared.Record.{Record}
+use Rattle.rules.specs.declared.Request.{Request}
+use Rattle.rules.specs.declared.Answer.{Answer}
+use Rattle.rules.specs.Pool.{number, rectangle, noRect}
+use Rattle.rules.specs.Layout.{headSize, slotSize, blank}
+use Rattle.rules.specs.Answers.{answer}
+use Rattle.rules.specs.Call.{Left, call}
+
+-- ---- requests
+
+-- a whole number below zero, and a rectangle with none
+abbrev pub minus : ℕ → ℤ
+minus n = negℤ (pos n)
+
+abbrev pub box : ℕ → ℕ → ℕ → ℕ → Rect
+box a b c d = rectangle (pos a) (pos b) (pos c) (pos d)
+
+abbrev pub asking : ℕ → ℤ → Rect → Rect → Request
+asking k n r s = record { kind = pos k; number = number n; first = r; second = s }
+
+abbrev pub insert : ℕ → Rect → Request
+insert n r = asking 1 (pos n) r noRect
+
+abbrev pub delete : ℕ → Rect → Request
+delete n r = asking 2 (pos n) r noRect
+
+abbrev pub update : ℕ → Rect → Rect → Request
+update n old new = asking 3 (pos n) old new
+
+abbrev pub search : Rect → Request
+search window = asking 4 (pos 0) window noRect
+
+-- ---- histories
+
+abbrev pub noRecord : Record
+noRecord = record { number = number (pos 0); rect = noRect }
+
+-- a blank pool of n slots
+abbrev pub blankWords : ℕ → List ℤ
+blankWords n = blank (replicate (headSize + slotSize * n) (pos 0)) .pool
+
+-- the requests in one call, with `places` places in the found list
+abbrev pub history : List ℤ → ℕ → List Request → Left
+history w places qs =
+    call (record { pool = w; workspace = w; requests = qs; answers = replicate (length qs) (answer 0 0 0 0); found = replicate places noRecord })
+
+-- answers as they are printed: number, found, start, opened
+abbrev pub said : ℕ → ℕ → ℕ → ℕ → Answer
+said = answer

@@ -1,0 +1,19 @@
+-- Document 01 as definitions, in the document's order. `call` in Call.antt is the top; everything else is a part of it.
+pub mod Lists
+pub mod Numbers
+pub mod Geometry
+pub mod Pool
+pub mod Layout
+pub mod Sound
+pub mod Search
+pub mod Choose
+pub mod Split
+pub mod Insert
+pub mod Delete
+pub mod Answers
+pub mod Request
+pub mod Call
+pub mod Frames
+pub mod Computed
+pub mod Histories
+pub mod Examples

@@ -1,0 +1,127 @@
+-- The quadratic split of nine entries into two groups. A place is an entry's position among the nine, from 0.
+use mathlib.Core.Bool.{Bool, true, false, not}
+use mathlib.Core.List.{List, [], _∷_, _++_, map}
+use Prim.Native.Nat.{ℕ, zero, suc, _+_, _-_}
+use lib.ListN.{length}
+use lib.Dec.{ltb, eqb}
+use lib.IntN.{ℤ, natAbs, _-ℤ_}
+use lib.Signed.{ltZ}
+use Rattle.rules.specs.declared.Rect.{Rect}
+use Rattle.rules.specs.declared.Entry.{Entry}
+use Rattle.rules.specs.Lists.{those, earliestBest, upFrom, lessThen}
+use Rattle.rules.specs.Numbers.{least}
+use Rattle.rules.specs.Geometry.{area, enlargement, waste}
+use Rattle.rules.specs.Pool.{coverOf}
+use Rattle.rules.specs.Choose.{entryFrom, rectFrom, earliest}
+
+-- ---- PickSeeds
+
+-- two places, the earlier first
+pub record Seeds : Type 0 where
+  pub first : ℕ
+  pub second : ℕ
+
+abbrev pub seeds : ℕ → ℕ → Seeds
+seeds i j = record { first = i; second = j }
+
+-- PS1: every pair of the n places from i on, by "earliest first member, then earliest second"
+unfoldable pub pairsFrom : ℕ → ℕ → List Seeds
+pairsFrom i zero = []
+pairsFrom i (suc n) = map (seeds i) (upFrom (suc i) n) ++ pairsFrom (suc i) n
+
+-- d of a pair
+unfoldable pub wasteOf : List Entry → Seeds → ℤ
+wasteOf es a = waste (rectFrom es (a .first)) (rectFrom es (a .second))
+
+-- PS2: "largest d, then earliest first member, then earliest second"
+unfoldable pub pickSeeds : List Entry → Seeds
+pickSeeds es = earliestBest (λ a b. ltZ (wasteOf es b) (wasteOf es a)) (seeds 0 1) (pairsFrom 0 (length es))
+
+-- ---- the groups
+
+-- two groups of places, in the order of joining, and the places that have no group yet, in stored order
+pub record Groups : Type 0 where
+  pub one : List ℕ
+  pub two : List ℕ
+  pub left : List ℕ
+
+-- the smallest rectangle that holds a group
+unfoldable pub coverGroup : List Entry → List ℕ → Rect
+coverGroup es group = coverOf (map (entryFrom es) group)
+
+-- the places of the list but i
+unfoldable pub leaving : ℕ → List ℕ → List ℕ
+leaving i is = those (λ j. not (eqb j i)) is
+
+-- QS1: "The earlier seed opens group 1.", of n places
+unfoldable pub opening : ℕ → Seeds → Groups
+opening n s = record { one = s .first ∷ []; two = s .second ∷ []; left = leaving (s .second) (leaving (s .first) (upFrom 0 n)) }
+
+-- "Groups keep the order of joining."
+unfoldable pub joinOne : ℕ → Groups → Groups
+joinOne i g = record { one = g .one ++ i ∷ []; two = g .two; left = leaving i (g .left) }
+
+unfoldable pub joinTwo : ℕ → Groups → Groups
+joinTwo i g = record { one = g .one; two = g .two ++ i ∷ []; left = leaving i (g .left) }
+
+-- ".. all remaining join it in order"
+unfoldable pub allJoinOne : Groups → Groups
+allJoinOne g = record { one = g .one ++ g .left; two = g .two; left = [] }
+
+unfoldable pub allJoinTwo : Groups → Groups
+allJoinTwo g = record { one = g .one; two = g .two ++ g .left; left = [] }
+
+-- "if a group's size plus the number remaining is 3"
+unfoldable pub needsAll : List ℕ → List ℕ → Bool
+needsAll group left = eqb (length group + length left) least
+
+-- QS2 and QS3 for any next entry and any choice of group: at most n more places join, one at a time; "Before each assignment", the test
+unfoldable pub distribute : (Groups → ℕ) → (Groups → ℕ → Bool) → ℕ → Groups → Groups
+distribute next toTwo zero g = g
+distribute next toTwo (suc n) g =
+    elim (needsAll (g .one) (g .left)) [
+      | true ↦ allJoinOne g
+      | false ↦ elim (needsAll (g .two) (g .left)) [
+        | true ↦ allJoinTwo g
+        | false ↦ elim (toTwo g (next g)) [
+          | true ↦ distribute next toTwo n (joinTwo (next g) g)
+          | false ↦ distribute next toTwo n (joinOne (next g) g)
+        ]
+      ]
+    ]
+
+-- ---- PickNext
+
+-- PN1: the "absolute difference of the two enlargements", of groups with covers a and b
+unfoldable pub preference : List Entry → Rect → Rect → ℕ → ℕ
+preference es a b i = natAbs (enlargement a (rectFrom es i) -ℤ enlargement b (rectFrom es i))
+
+-- PN2: "largest .., then earliest"
+unfoldable pub mostPreferring : List Entry → Rect → Rect → List ℕ → ℕ
+mostPreferring es a b left = earliest (λ i j. ltb (preference es a b j) (preference es a b i)) left
+
+unfoldable pub pickNext : List Entry → Groups → ℕ
+pickNext es g = mostPreferring es (coverGroup es (g .one)) (coverGroup es (g .two)) (g .left)
+
+-- "It joins the group of least enlargement, then smaller area, then fewer entries, then group 1.": whether group 2, of cover b and n
+-- entries, goes before group 1, of cover a and m entries
+unfoldable pub secondFirst : Rect → Rect → ℕ → ℕ → Rect → Bool
+secondFirst a b m n r = lessThen (enlargement b r) (enlargement a r) (lessThen (area b) (area a) (ltb n m))
+
+unfoldable pub joinsTwo : List Entry → Groups → ℕ → Bool
+joinsTwo es g i =
+    secondFirst (coverGroup es (g .one)) (coverGroup es (g .two)) (length (g .one)) (length (g .two)) (rectFrom es i)
+
+-- ---- the whole
+
+unfoldable pub quadraticGroups : List Entry → Groups
+quadraticGroups es = distribute (pickNext es) (joinsTwo es) (length es - 2) (opening (length es) (pickSeeds es))
+
+-- two lists of entries
+pub record Halves : Type 0 where
+  pub one : List Entry
+  pub two : List Entry
+
+unfoldable pub quadraticSplit : List Entry → Halves
+quadraticSplit es =
+    record { one = map (entryFrom es) (quadraticGroups es .one); two = map (entryFrom es) (quadraticGroups es .two) }

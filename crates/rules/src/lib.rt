@@ -1,0 +1,92 @@
+// The things document 01 speaks of, as types that the code and the definitions in specs/ share.
+// There is no code here: specs/ says what is right, and the crates above cite it.
+
+// A closed rectangle in whole millimetres.
+#[repr(C)]
+pub struct Rect {
+    pub lowX: i32,
+    pub lowY: i32,
+    pub highX: i32,
+    pub highY: i32,
+}
+
+// The paper's tuple-identifier. It never meets a slot number.
+#[repr(C)]
+pub struct RecordNumber(pub i32);
+
+// The paper's child-pointer. Slots are counted from 1.
+pub struct SlotNumber(pub usize);
+
+// "A record is a record number and a rectangle." A place of the found list holds one.
+#[repr(C)]
+pub struct Record {
+    pub number: RecordNumber,
+    pub rect: Rect,
+}
+
+// "A leaf's pointer is a record number, any other a child slot."
+pub enum Pointer {
+    Number(RecordNumber),
+    Child(SlotNumber),
+}
+
+// An entry of a node.
+pub struct Entry {
+    pub rect: Rect,
+    pub pointer: Pointer,
+}
+
+// The lowest free slot, where there is one.
+pub enum FreeSlot {
+    At(SlotNumber),
+    Nowhere,
+}
+
+// A place of the lent request list. `kind` is 1 insert, 2 delete, 3 update, 4 search; `first` is the
+// rectangle inserted, deleted or to be replaced, or the window; `second` is an update's new one.
+#[repr(C)]
+pub struct Request {
+    pub kind: i32,
+    pub number: RecordNumber,
+    pub first: Rect,
+    pub second: Rect,
+}
+
+// "A request is of one of the four kinds", with the fields that its kind uses and no other.
+pub enum Asked {
+    Insert(Record),
+    Delete(Record),
+    Update(Record, Rect),
+    Search(Rect),
+}
+
+// What a request came to: each row of the table of document 01 that speaks of a request.
+pub enum Reply {
+    Changed,
+    Listed { found: u32, start: u32, opened: u32 },
+    BadRectangle,
+    BadNumber,
+    NotHeld,
+    Held,
+    NoSlot,
+    NoRoom { found: u32, opened: u32 },
+}
+
+// A place of the answer list: the numbers of a reply.
+#[repr(C)]
+pub struct Answer {
+    pub number: u32,
+    pub found: u32,
+    pub start: u32,
+    pub opened: u32,
+}
+
+// What a call came to: each row of the table that speaks of a call, and a request list that holds
+// something which is no request.
+pub enum Verdict {
+    Served,
+    BadLists,
+    BadLength,
+    NotSound,
+    NoRequest,
+}

@@ -1,0 +1,141 @@
+"""Closed statements about the definitions: text for the checker, and a check of it in a copy of the crate `rules`.
+
+A script (see second/README.md) is a start pool and a list of requests; what it should leave comes from elsewhere, and the
+checker is asked to prove by `refl` that the definitions of document 01 leave exactly that.
+"""
+import os, shutil, subprocess, tempfile
+
+ROOT = os.path.dirname(os.path.dirname(os.path.abspath(__file__)))
+
+HEAD = """-- Closed statements, written by tools/.
+use mathlib.Core.Path.{_≡_, refl}
+use mathlib.Core.List.{List, [], _∷_}
+use Prim.Native.Nat.{ℕ}
+use lib.IntN.{ℤ, pos}
+use Rattle.rules.specs.declared.Record.{Record}
+use Rattle.rules.specs.declared.Request.{Request}
+use Rattle.rules.specs.declared.Answer.{Answer}
+use Rattle.rules.specs.Pool.{number, rectangle}
+use Rattle.rules.specs.Answers.{answer}
+use Rattle.rules.specs.Call.{Left}
+use Rattle.rules.specs.Frames.{dustmap}
+use Rattle.rules.specs.Computed.{document01}
+use Rattle.rules.specs.Histories.{minus, asking, blankWords, history}
+"""
+
+
+def integer(n):
+    return f"pos {n}" if n >= 0 else f"minus {-n}"
+
+
+def listed(items):
+    return "".join(f"{i} ∷ " for i in items) + "[]"
+
+
+def words(ns):
+    return listed(integer(n) for n in ns)
+
+
+def rect(ns):
+    return "(rectangle " + " ".join(f"({integer(n)})" for n in ns) + ")"
+
+
+def record(ns):
+    return f"record {{ number = number ({integer(ns[0])}); rect = {rect(ns[1:])} }}"
+
+
+KINDS = {"insert": 1, "delete": 2, "update": 3, "search": 4}
+
+
+def request(line):
+    """A line of a script as a request of ten words."""
+    kind, *ns = line.split()
+    ns = [int(n) for n in ns]
+    number, rest = (0, ns) if kind == "search" else (ns[0], ns[1:])
+    first, second = rest[:4], (rest[4:] + [0] * 4)[:4]
+    return f"asking {KINDS[kind]} ({integer(number)}) {rect(first)} {rect(second)}"
+
+
+def lines_of(text, *heads):
+    return [l for l in text.splitlines() if l.split(" ", 1)[0] in heads]
+
+
+def numbers(line):
+    return [int(n) for n in line.split()[1:]]
+
+
+def start(script):
+    blank = lines_of(script, "blank")
+    if blank:
+        return f"blankWords {numbers(blank[0])[0]}"
+    return words(numbers(lines_of(script, "pool")[0]))
+
+
+def statement(name, script, output):
+    """That the definitions leave, for a script, what the output of `second script` says."""
+    places = numbers((lines_of(script, "found") or ["found 64"])[0])[0]
+    filled = [record(numbers(l)) for l in lines_of(output, "found")]
+    empty = record([0] * 5)
+    pool = words(numbers(lines_of(output, "pool")[0]))
+    answers = [f"answer {' '.join(l.split()[1:])}" for l in lines_of(output, "answer")]
+    result = numbers(lines_of(output, "result")[0])[0]
+    requests = [request(l) for l in lines_of(script, *KINDS)]
+    workspace = pool if result == 0 else start(script)
+    return f"""
+{name}-start : List ℤ
+{name}-start = {start(script)}
+
+{name}-requests : List Request
+{name}-requests = {listed(requests)}
+
+{name}-pool : List ℤ
+{name}-pool = {pool}
+
+{name}-left : Left
+{name}-left =
+    record {{
+      number = {integer(result)};
+      pool = {name}-pool;
+      workspace = {workspace};
+      answers = {listed(answers)};
+      found = {listed(filled + [empty] * (places - len(filled)))} }}
+
+{name} : history {name}-start {places} {name}-requests ≡ {name}-left
+unfolding document01 {name}-start {name}-requests {name}-pool {name}-left
+{name} = refl
+"""
+
+
+def run_statement(name, frames, lines):
+    """That the definitions print, for the bytes of frames, the bytes of lines."""
+    return f"""
+{name}-input : List ℕ
+{name}-input = {listed(frames)}
+
+{name}-output : List ℕ
+{name}-output = {listed(lines)}
+
+{name} : dustmap {name}-input ≡ {name}-output
+unfolding document01 {name}-input {name}-output
+{name} = refl
+"""
+
+
+def prove(statements, head=HEAD):
+    """Has the checker prove the statements, in a copy of the crate `rules` outside the repository. (proved, what it said)"""
+    room = tempfile.mkdtemp()
+    try:
+        shutil.copytree(os.path.join(ROOT, "crates", "rules"), os.path.join(room, "crates", "rules"))
+        shutil.rmtree(os.path.join(room, "crates", "rules", "must-fail"), ignore_errors=True)
+        specs = os.path.join(room, "crates", "rules", "specs")
+        with open(os.path.join(room, "crates.txt"), "w") as f:
+            f.write("rules:\n")
+        with open(os.path.join(specs, "Lib.antt"), "a") as f:
+            f.write("pub mod Closed\n")
+        with open(os.path.join(specs, "Closed.antt"), "w") as f:
+            f.write(head + "".join(statements))
+        run = subprocess.run(["rt", "check"], cwd=room, capture_output=True, text=True, stdin=subprocess.DEVNULL)
+        said = run.stdout + run.stderr
+        return run.returncode == 0 and "logic=proved" in said, said
+    finally:
+        shutil.rmtree(room, ignore_errors=True)
