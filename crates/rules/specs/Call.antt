@@ -47,8 +47,8 @@ pub record Batch : Type 0 where
   pub filled : ℕ
 
 -- "its answer goes to the same place in the answer list"; "Accepted searches fill the found list one after another"
-unfoldable pub take-turn : ℕ → Batch → Turn → Batch
-take-turn i b t =
+unfoldable pub afterTurn : ℕ → Batch → Turn → Batch
+afterTurn i b t =
     record {
       pool = t .pool;
       answers = set (b .answers) i (answerOf (t .reply));
@@ -59,7 +59,7 @@ take-turn i b t =
 -- the request at place i. (`call` has seen that it is one)
 unfoldable pub doRequest : Choice → ℕ → Batch → Option Asked → Batch
 doRequest c i b none = b
-doRequest c i b (some a) = take-turn i b (request c (b .pool) (b .filled) (length (b .found) - b .filled) a)
+doRequest c i b (some a) = afterTurn i b (request c (b .pool) (b .filled) (length (b .found) - b .filled) a)
 
 -- "each request is done in turn", those from place i on
 unfoldable pub doRequests : Choice → ℕ → List Request → Batch → Batch

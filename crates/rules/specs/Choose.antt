@@ -2,17 +2,14 @@
 use mathlib.Core.Bool.{Bool, false}
 use mathlib.Core.List.{List, [], _∷_}
 use Prim.Native.Nat.{ℕ}
-use lib.ListN.{length, getD}
+use lib.ListN.{length}
 use Rattle.rules.specs.declared.Rect.{Rect}
 use Rattle.rules.specs.declared.Entry.{Entry}
 use Rattle.rules.specs.Lists.{earliestBest, upFrom, lessThen}
 use Rattle.rules.specs.Geometry.{area, enlargement}
-use Rattle.rules.specs.Pool.{noEntry}
+use Rattle.rules.specs.Pool.{entryFrom}
 
--- the entry at place i, from 0, and its rectangle
-unfoldable pub entryFrom : List Entry → ℕ → Entry
-entryFrom es i = getD es i noEntry
-
+-- the rectangle of the entry at place i, from 0
 unfoldable pub rectFrom : List Entry → ℕ → Rect
 rectFrom es i = entryFrom es i .rect
 

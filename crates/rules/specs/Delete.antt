@@ -1,5 +1,5 @@
 -- "Delete and update": FindLeaf, CondenseTree, the entries set aside put back, the tree shortened.
-use mathlib.Core.Bool.{Bool, true, false}
+use mathlib.Core.Bool.{true, false}
 use mathlib.Core.List.{List, [], _∷_, _++_, map}
 use mathlib.Core.Option.{Option, none, some}
 use Prim.Native.Nat.{ℕ, zero, suc, _-_}
@@ -9,15 +9,11 @@ use Rattle.rules.specs.declared.Rect.{Rect}
 use Rattle.rules.specs.declared.SlotNumber.{SlotNumber}
 use Rattle.rules.specs.declared.Record.{Record}
 use Rattle.rules.specs.declared.Entry.{Entry}
-use Rattle.rules.specs.Lists.{oneOf, without}
+use Rattle.rules.specs.Lists.{without}
 use Rattle.rules.specs.Numbers.{least}
 use Rattle.rules.specs.Geometry.{meets, samePair}
-use Rattle.rules.specs.Pool.{Pool, nodeAt, entriesAt, entryAt, childOf, recordOf, records, putEntries, freeSlot, putRoot, putRecords, tighten, isLeaf}
+use Rattle.rules.specs.Pool.{Pool, nodeAt, entriesAt, entryAt, childOf, recordOf, putEntries, zeroSlot, putRoot, putRecords, tighten, isLeaf}
 use Rattle.rules.specs.Insert.{Choice, Change, Done, NoneFree, insertAt, insertRecord}
-
--- a pair is held where some leaf has it
-unfoldable pub held : Pool → Record → Bool
-held p r = oneOf (samePair r) (records p)
 
 -- ---- FindLeaf
 
@@ -81,7 +77,7 @@ asides p s = map (λ (e : Entry). record { level = nodeAt p s .level; entry = e 
 unfoldable pub relieve : Place → SlotNumber → Condensed → Condensed
 relieve a t c =
     elim (ltb (length (entriesAt (c .pool) t)) least) [
-      | true ↦ record { pool = freeSlot (takeOut (c .pool) a) t; setAside = c .setAside ++ asides (c .pool) t }
+      | true ↦ record { pool = zeroSlot (takeOut (c .pool) a) t; setAside = c .setAside ++ asides (c .pool) t }
       | false ↦ record { pool = tighten (c .pool) (a .node) (a .at); setAside = c .setAside }
     ]
 
@@ -97,7 +93,7 @@ shorten p =
     elim (isLeaf (nodeAt p (p .root))) [
       | true ↦ p
       | false ↦ elim (eqb (length (entriesAt p (p .root))) 1) [
-        | true ↦ putRoot (freeSlot p (p .root)) (childOf (entryAt p (p .root) 0)) (p .height - 1)
+        | true ↦ putRoot (zeroSlot p (p .root)) (childOf (entryAt p (p .root) 0)) (p .height - 1)
         | false ↦ p
       ]
     ]

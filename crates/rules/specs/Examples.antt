@@ -12,7 +12,7 @@ use Rattle.rules.specs.declared.Pointer.the-variants.{Number}
 use Rattle.rules.specs.declared.Request.{Request}
 use Rattle.rules.specs.declared.Answer.{Answer}
 use Rattle.rules.specs.Geometry.{meets, enlargement, waste}
-use Rattle.rules.specs.Pool.{Node, Pool, slot, number, rectangle, entry, node, freeNode}
+use Rattle.rules.specs.Pool.{Node, Pool, slot, number, entry, node, freeNode}
 use Rattle.rules.specs.Layout.{words, read}
 use Rattle.rules.specs.Choose.{chooseChild}
 use Rattle.rules.specs.Split.{quadraticGroups}

@@ -1,5 +1,5 @@
 -- How a closed history is written down, so that anyone can state what it should leave, write `unfolding document01` and prove it by `refl`.
-use mathlib.Core.List.{List, [], _∷_, map}
+use mathlib.Core.List.{List}
 use Prim.Native.Nat.{ℕ, _+_, _*_}
 use lib.ListN.{length, replicate}
 use lib.IntN.{ℤ, pos, negℤ}

@@ -1,5 +1,5 @@
 -- "Insert": ChooseLeaf down, SplitNode and AdjustTree up. Deletes put entries back by the same rules, each at its own level.
-use mathlib.Core.Bool.{Bool, true, false}
+use mathlib.Core.Bool.{true, false}
 use mathlib.Core.List.{List, [], _∷_, _++_}
 use Prim.Native.Nat.{ℕ, zero, suc, _+_, _-_}
 use lib.ListN.{length}
@@ -12,7 +12,7 @@ use Rattle.rules.specs.declared.Entry.{Entry}
 use Rattle.rules.specs.declared.FreeSlot.{FreeSlot}
 use Rattle.rules.specs.declared.FreeSlot.the-variants.{At, Nowhere}
 use Rattle.rules.specs.Numbers.{most}
-use Rattle.rules.specs.Pool.{Pool, node, entry, nodeAt, entriesAt, entryAt, childOf, leafEntry, coverOf, lowestFree, putNode, putEntries, putRoot, putRecords, tighten}
+use Rattle.rules.specs.Pool.{Pool, node, entry, nodeAt, entriesAt, entryAt, childOf, leafEntry, coverOf, entryFor, lowestFree, putNode, putEntries, putRoot, putRecords, tighten}
 use Rattle.rules.specs.Choose.{chooseChild}
 use Rattle.rules.specs.Split.{Halves, quadraticSplit}
 
@@ -37,15 +37,22 @@ pub data Change : Type 0 where
   Done : Pool → Change
   NoneFree : Change
 
--- the entry for the node at s, with the smallest rectangle that holds its entries
-unfoldable pub entryFor : Pool → SlotNumber → Entry
-entryFor p s = entry (coverOf (entriesAt p s)) (Child s)
-
 -- "Group 1 stays in the old slot. Group 2 takes the lowest free slot."
 unfoldable pub splitInto : Pool → SlotNumber → Halves → FreeSlot → Grown
 splitInto p s h Nowhere = Full
 splitInto p s h (At t) =
     Split (putNode (putEntries p s (h .one)) t (node (nodeAt p s .level) (h .two))) (entry (coverOf (h .two)) (Child t))
+
+-- I4: "If the root splits, a new root takes the lowest free slot then left, with entries for old root and partner in that order."
+unfoldable pub newRoot : Pool → Entry → FreeSlot → Change
+newRoot p partner Nowhere = NoneFree
+newRoot p partner (At t) =
+    Done (putRoot (putNode p t (node (suc (p .height)) (entryFor p (p .root) ∷ partner ∷ []))) t (suc (p .height)))
+
+unfoldable pub growTree : Grown → Change
+growTree (Kept p) = Done p
+growTree (Split p partner) = newRoot p partner (lowestFree p)
+growTree Full = NoneFree
 
 module _ (c : Choice) where
   -- I2 and AT4: "A new entry goes last. A full node splits over nine entries, the eight in stored order and the new one ninth."
@@ -68,17 +75,6 @@ module _ (c : Choice) where
   insertBelow (suc n) p s e =
       adjust s (c .child (entriesAt p s) (e .rect))
       (insertBelow n p (childOf (entryAt p s (c .child (entriesAt p s) (e .rect)))) e)
-
-  -- I4: "If the root splits, a new root takes the lowest free slot then left, with entries for old root and partner in that order."
-  unfoldable pub newRoot : Pool → Entry → FreeSlot → Change
-  newRoot p partner Nowhere = NoneFree
-  newRoot p partner (At t) =
-      Done (putRoot (putNode p t (node (suc (p .height)) (entryFor p (p .root) ∷ partner ∷ []))) t (suc (p .height)))
-
-  unfoldable pub growTree : Grown → Change
-  growTree (Kept p) = Done p
-  growTree (Split p partner) = newRoot p partner (lowestFree p)
-  growTree Full = NoneFree
 
   -- an entry goes in at a level
   unfoldable pub insertAt : ℕ → Pool → Entry → Change

@@ -1,9 +1,9 @@
 -- "The pool" as an object: a head, and a node in each slot. Layout.antt ties it to the words.
-use mathlib.Core.Bool.{Bool, true, false, _&&_}
+use mathlib.Core.Bool.{Bool, true, false}
 use mathlib.Core.List.{List, [], _∷_, map, foldl}
 use Prim.Native.Nat.{ℕ, suc, _-_}
 use lib.ListN.{length, getD, set, replicate}
-use lib.Dec.{leb, eqb}
+use lib.Dec.{eqb}
 use lib.IntN.{ℤ, pos}
 use Rattle.rules.specs.declared.Rect.{Rect}
 use Rattle.rules.specs.declared.RecordNumber.{RecordNumber}
@@ -14,8 +14,8 @@ use Rattle.rules.specs.declared.Pointer.the-variants.{Number, Child}
 use Rattle.rules.specs.declared.Entry.{Entry}
 use Rattle.rules.specs.declared.FreeSlot.{FreeSlot}
 use Rattle.rules.specs.declared.FreeSlot.the-variants.{At, Nowhere}
-use Rattle.rules.specs.Lists.{those, joined, upFrom}
-use Rattle.rules.specs.Geometry.{cover}
+use Rattle.rules.specs.Lists.{those, oneOf, joined, upFrom}
+use Rattle.rules.specs.Geometry.{cover, samePair}
 
 -- "Level 0 is free, 1 a leaf." The entries are those in use; the count is their number
 pub record Node : Type 0 where
@@ -70,8 +70,12 @@ nodeAt p s = getD (p .slots) (s .0 - 1) freeNode
 unfoldable pub entriesAt : Pool → SlotNumber → List Entry
 entriesAt p s = nodeAt p s .entries
 
+-- the entry at place i of a list, from 0, and of a node
+unfoldable pub entryFrom : List Entry → ℕ → Entry
+entryFrom es i = getD es i noEntry
+
 unfoldable pub entryAt : Pool → SlotNumber → ℕ → Entry
-entryAt p s i = getD (entriesAt p s) i noEntry
+entryAt p s i = entryFrom (entriesAt p s) i
 
 -- an inner entry's child, and a leaf entry's record number (an entry of the other kind has none: slot 0, number 0)
 unfoldable pub childOf : Entry → SlotNumber
@@ -92,12 +96,20 @@ unfoldable pub coverOf : List Entry → Rect
 coverOf [] = noRect
 coverOf (e ∷ es) = foldl (λ r x. cover r (x .rect)) (e .rect) es
 
+-- the entry that a parent has for the node at s
+unfoldable pub entryFor : Pool → SlotNumber → Entry
+entryFor p s = entry (coverOf (entriesAt p s)) (Child s)
+
 unfoldable pub isLeaf : Node → Bool
 isLeaf n = eqb (n .level) 1
 
 -- the stored records: the entries of every leaf, in slot order
-unfoldable pub records : Pool → List Record
-records p = map recordOf (joined (map (λ (n : Node). n .entries) (those isLeaf (p .slots))))
+unfoldable pub stored : Pool → List Record
+stored p = map recordOf (joined (map (λ (n : Node). n .entries) (those isLeaf (p .slots))))
+
+-- a pair is held where some leaf has it
+unfoldable pub held : Pool → Record → Bool
+held p r = oneOf (samePair r) (stored p)
 
 -- "the lowest free slot", of the nodes from slot s on
 unfoldable pub freeFrom : ℕ → List Node → FreeSlot
@@ -117,8 +129,8 @@ unfoldable pub putEntries : Pool → SlotNumber → List Entry → Pool
 putEntries p s es = putNode p s (node (nodeAt p s .level) es)
 
 -- "its slot is zeroed and free at once"
-unfoldable pub freeSlot : Pool → SlotNumber → Pool
-freeSlot p s = putNode p s freeNode
+unfoldable pub zeroSlot : Pool → SlotNumber → Pool
+zeroSlot p s = putNode p s freeNode
 
 unfoldable pub putRoot : Pool → SlotNumber → ℕ → Pool
 putRoot p s h = record { root = s; height = h; records = p .records; slots = p .slots }
@@ -128,7 +140,7 @@ putRecords p n = record { root = p .root; height = p .height; records = n; slots
 
 -- AT3 and CT4: entry i of node s gets the smallest rectangle that holds its child's entries
 unfoldable pub tighten : Pool → SlotNumber → ℕ → Pool
-tighten p s i = putEntries p s (set (entriesAt p s) i (entry (coverOf (entriesAt p (childOf (entryAt p s i)))) (Child (childOf (entryAt p s i)))))
+tighten p s i = putEntries p s (set (entriesAt p s) i (entryFor p (childOf (entryAt p s i))))
 
 -- ---- blanking
 

@@ -1,5 +1,5 @@
 -- One request: the checks in the table's order, and what an accepted one does.
-use mathlib.Core.Bool.{Bool, true, false, not, _&&_, _||_}
+use mathlib.Core.Bool.{not, _&&_, _||_}
 use mathlib.Core.List.{List, [], _∷_}
 use mathlib.Core.Option.{Option, none, some}
 use Prim.Native.Nat.{ℕ}
@@ -16,10 +16,10 @@ use Rattle.rules.specs.declared.Reply.the-variants.{Changed, Listed, Bad
 use Rattle.rules.specs.Lists.{same}
 use Rattle.rules.specs.Numbers.{goodNumber}
 use Rattle.rules.specs.Geometry.{valid, samePair}
-use Rattle.rules.specs.Pool.{Pool}
+use Rattle.rules.specs.Pool.{Pool, held}
 use Rattle.rules.specs.Search.{found, opened}
 use Rattle.rules.specs.Insert.{Choice, Change, Done, NoneFree, insertRecord}
-use Rattle.rules.specs.Delete.{held, deleteRecord, updateRecord}
+use Rattle.rules.specs.Delete.{deleteRecord, updateRecord}
 use Rattle.rules.specs.Answers.{row, firstRow}
 
 -- "A request is of one of the four kinds; fields that its kind doesn't use are not looked at". Any other kind is no request

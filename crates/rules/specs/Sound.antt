@@ -1,16 +1,16 @@
 -- "A pool is sound when ..": each part of the sentence is a question of its own.
 use mathlib.Core.Bool.{Bool, true, false, not, _&&_, _||_}
-use mathlib.Core.List.{List, [], _∷_, map}
+use mathlib.Core.List.{List, map}
 use Prim.Native.Nat.{ℕ, zero, suc}
 use lib.ListN.{length}
 use lib.Dec.{leb, eqb}
 use lib.IntN.{ℤ}
 use Rattle.rules.specs.declared.SlotNumber.{SlotNumber}
 use Rattle.rules.specs.declared.Entry.{Entry}
-use Rattle.rules.specs.Lists.{those, every, joined, total}
+use Rattle.rules.specs.Lists.{those, every, joined}
 use Rattle.rules.specs.Numbers.{most, least, goodNumber}
 use Rattle.rules.specs.Geometry.{valid, sameRect}
-use Rattle.rules.specs.Pool.{Node, Pool, sameSlot, slotNumbers, nodeAt, entriesAt, childOf, numberOf, coverOf, isLeaf, records}
+use Rattle.rules.specs.Pool.{Node, Pool, sameSlot, slotNumbers, nodeAt, entriesAt, childOf, numberOf, coverOf, isLeaf, stored}
 use Rattle.rules.specs.Layout.{words, read, sameWords}
 
 -- "a slot from 1 to N"
@@ -62,7 +62,7 @@ freeEmpty n = inUse n || eqb (length (n .entries)) 0
 
 -- "records counted in leaves equal word 3"
 unfoldable pub recordsSound : Pool → Bool
-recordsSound p = eqb (length (records p)) (p .records)
+recordsSound p = eqb (length (stored p)) (p .records)
 
 -- "A leaf entry needs a valid rectangle and number."
 unfoldable pub leafEntrySound : Entry → Bool

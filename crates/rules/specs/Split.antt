@@ -11,8 +11,8 @@ use Rattle.rules.specs.declared.Entry.{Entry}
 use Rattle.rules.specs.Lists.{those, earliestBest, upFrom, lessThen}
 use Rattle.rules.specs.Numbers.{least}
 use Rattle.rules.specs.Geometry.{area, enlargement, waste}
-use Rattle.rules.specs.Pool.{coverOf}
-use Rattle.rules.specs.Choose.{entryFrom, rectFrom, earliest}
+use Rattle.rules.specs.Pool.{entryFrom, coverOf}
+use Rattle.rules.specs.Choose.{rectFrom, earliest}
 
 -- ---- PickSeeds
 
