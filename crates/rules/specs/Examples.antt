@@ -19,7 +19,7 @@ use Rattle.rules.specs.Split.{quadraticGroups}
 use Rattle.rules.specs.Answers.{answer}
 use Rattle.rules.specs.Call.{Left}
 use Rattle.rules.specs.Computed.{document01}
-use Rattle.rules.specs.Histories.{box, insert, delete, search, blankWords, history, noRecord}
+use Rattle.rules.specs.Histories.{box, insert, delete, search, blankWords, history, noRecord, shown}
 
 -- ---- the table's columns
 
@@ -42,15 +42,12 @@ pub record Example : Type 0 where
 
 -- ---- what the rows speak of
 
-abbrev entriesOf : List Rect → List Entry
-entriesOf rs = map (λ r. entry r (Number (number (pos 1)))) rs
-
 -- the child chosen and the groups made, counted from 1
 abbrev chosen : List Rect → Rect → Says
-chosen rs new = theEntry (suc (chooseChild (entriesOf rs) new))
+chosen rs new = theEntry (suc (chooseChild rs new))
 
 abbrev split : List Rect → Says
-split rs = theGroups (map suc (quadraticGroups (entriesOf rs) .one)) (map suc (quadraticGroups (entriesOf rs) .two))
+split rs = theGroups (map suc (quadraticGroups rs .one)) (map suc (quadraticGroups rs .two))
 
 abbrev square : Rect
 square = box 0 0 10 10
@@ -76,9 +73,6 @@ stored n r = entry r (Number (number (pos n)))
 abbrev leaf : ℕ → List Rect → List Entry
 leaf n [] = []
 leaf n (r ∷ rs) = stored n r ∷ leaf (suc n) rs
-
-abbrev shown : ℕ → Rect → Record
-shown n r = record { number = number (pos n); rect = r }
 
 -- example 9's records from a blank pool of three slots, and then some requests, with `places` places in the found list
 abbrev then : ℕ → List Request → Left

@@ -11,7 +11,8 @@ use Rattle.rules.specs.declared.Record.{Record}
 use Rattle.rules.specs.declared.Request.{Request}
 use Rattle.rules.specs.declared.Answer.{Answer}
 use Rattle.rules.specs.Lists.{joined}
-use Rattle.rules.specs.Pool.{number, rectangle, noRect}
+use Rattle.rules.specs.Pool.{number, rectangle}
+use Rattle.rules.specs.Geometry.{noRect}
 use Rattle.rules.specs.Layout.{headSize, slotSize, wordAt, blank}
 use Rattle.rules.specs.Answers.{row, firstRow, answer}
 use Rattle.rules.specs.Call.{Left, call}

@@ -1,6 +1,7 @@
 -- "Geometry": closed rectangles in whole millimetres. Areas and differences are whole numbers that may be negative.
 use mathlib.Core.Bool.{Bool, cond, _&&_}
-use lib.IntN.{ℤ, _-ℤ_, _*ℤ_}
+use mathlib.Core.List.{List, [], _∷_, foldl}
+use lib.IntN.{ℤ, pos, _-ℤ_, _*ℤ_}
 use lib.Signed.{leZ}
 use Rattle.rules.specs.declared.Rect.{Rect}
 use Rattle.rules.specs.declared.Record.{Record}
@@ -34,6 +35,14 @@ cover a b =
       highX = larger (a .highX) (b .highX);
       highY = larger (a .highY) (b .highY);
     }
+
+-- the smallest rectangle that holds them all; of none, the point (0, 0)
+abbrev pub noRect : Rect
+noRect = record { lowX = pos 0; lowY = pos 0; highX = pos 0; highY = pos 0 }
+
+unfoldable pub coverAll : List Rect → Rect
+coverAll [] = noRect
+coverAll (r ∷ rs) = foldl cover r rs
 
 -- "Area is width times height."
 unfoldable pub area : Rect → ℤ

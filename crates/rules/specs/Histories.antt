@@ -1,13 +1,16 @@
 -- How a closed history is written down, so that anyone can state what it should leave, write `unfolding document01` and prove it by `refl`.
-use mathlib.Core.List.{List}
+pub mod Mixed
+pub mod TwoLevels
+pub mod DeleteRefused
+use mathlib.Core.List.{List, _++_, map}
 use Prim.Native.Nat.{ℕ, _+_, _*_}
-use lib.ListN.{length, replicate}
+use lib.ListN.{length, take, replicate}
 use lib.IntN.{ℤ, pos, negℤ}
 use Rattle.rules.specs.declared.Rect.{Rect}
 use Rattle.rules.specs.declared.Record.{Record}
 use Rattle.rules.specs.declared.Request.{Request}
-use Rattle.rules.specs.declared.Answer.{Answer}
-use Rattle.rules.specs.Pool.{number, rectangle, noRect}
+use Rattle.rules.specs.Pool.{number, rectangle}
+use Rattle.rules.specs.Geometry.{noRect}
 use Rattle.rules.specs.Layout.{headSize, slotSize, blank}
 use Rattle.rules.specs.Answers.{answer}
 use Rattle.rules.specs.Call.{Left, call}
@@ -50,6 +53,11 @@ abbrev pub history : List ℤ → ℕ → List Request → Left
 history w places qs =
     call (record { pool = w; workspace = w; requests = qs; answers = replicate (length qs) (answer 0 0 0 0); found = replicate places noRecord })
 
--- answers as they are printed: number, found, start, opened
-abbrev pub said : ℕ → ℕ → ℕ → ℕ → Answer
-said = answer
+-- ---- what a history leaves
+
+abbrev pub shown : ℕ → Rect → Record
+shown n r = record { number = number (pos n); rect = r }
+
+-- n words: those given, and then zeros
+abbrev pub zeroTo : ℕ → List ℕ → List ℤ
+zeroTo n ws = take n (map pos ws ++ replicate n (pos 0))

@@ -12,13 +12,13 @@ use Rattle.rules.specs.declared.Entry.{Entry}
 use Rattle.rules.specs.declared.FreeSlot.{FreeSlot}
 use Rattle.rules.specs.declared.FreeSlot.the-variants.{At, Nowhere}
 use Rattle.rules.specs.Numbers.{most}
-use Rattle.rules.specs.Pool.{Pool, node, entry, nodeAt, entriesAt, entryAt, childOf, leafEntry, coverOf, entryFor, lowestFree, putNode, putEntries, putRoot, putRecords, tighten}
+use Rattle.rules.specs.Pool.{Pool, node, entry, nodeAt, entriesAt, entryAt, childOf, leafEntry, rects, coverOf, entryFor, lowestFree, putNode, putEntries, putRoot, putRecords, tighten}
 use Rattle.rules.specs.Choose.{chooseChild}
 use Rattle.rules.specs.Split.{Halves, quadraticSplit}
 
 -- the two choices that a tree leaves open: which entry of an inner node a rectangle goes below, and how nine entries make two groups
 pub record Choice : Type 0 where
-  pub child : List Entry → Rect → ℕ
+  pub child : List Rect → Rect → ℕ
   pub split : List Entry → Halves
 
 -- document 01's
@@ -73,8 +73,8 @@ module _ (c : Choice) where
   unfoldable pub insertBelow : ℕ → Pool → SlotNumber → Entry → Grown
   insertBelow zero p s e = install p s e
   insertBelow (suc n) p s e =
-      adjust s (c .child (entriesAt p s) (e .rect))
-      (insertBelow n p (childOf (entryAt p s (c .child (entriesAt p s) (e .rect)))) e)
+      adjust s (c .child (rects (entriesAt p s)) (e .rect))
+      (insertBelow n p (childOf (entryAt p s (c .child (rects (entriesAt p s)) (e .rect)))) e)
 
   -- an entry goes in at a level
   unfoldable pub insertAt : ℕ → Pool → Entry → Change

@@ -5,6 +5,7 @@ use Prim.Native.Nat.{ℕ, zero, suc, _+_, _*_, _-_, _/_}
 use lib.ListN.{length, getD, take, drop, replicate}
 use lib.Dec.{leb, eqb}
 use lib.IntN.{ℤ, pos, negsuc}
+use Rattle.rules.specs.declared.Rect.{Rect}
 use Rattle.rules.specs.declared.Pointer.{Pointer}
 use Rattle.rules.specs.declared.Pointer.the-variants.{Number, Child}
 use Rattle.rules.specs.declared.Entry.{Entry}
@@ -74,9 +75,12 @@ runs width (suc n) ws = take width ws ∷ runs width n (drop width ws)
 unfoldable pub pointerOf : ℕ → ℤ → Pointer
 pointerOf level z = elim (eqb level 1) [ true ↦ Number (number z) | false ↦ Child (slot (natural z)) ]
 
--- an entry of a node of a level, from its five words
+-- an entry's rectangle, and the entry, of a node of a level, from its five words
+unfoldable pub rectOf : List ℤ → Rect
+rectOf ws = rectangle (wordAt ws 0) (wordAt ws 1) (wordAt ws 2) (wordAt ws 3)
+
 unfoldable pub entryOf : ℕ → List ℤ → Entry
-entryOf level ws = entry (rectangle (wordAt ws 0) (wordAt ws 1) (wordAt ws 2) (wordAt ws 3)) (pointerOf level (wordAt ws 4))
+entryOf level ws = entry (rectOf ws) (pointerOf level (wordAt ws 4))
 
 -- a node from its 42 words: as many of the 8 entries as the count says
 unfoldable pub nodeOf : List ℤ → Node

@@ -1,6 +1,6 @@
 -- "The pool" as an object: a head, and a node in each slot. Layout.antt ties it to the words.
 use mathlib.Core.Bool.{Bool, true, false}
-use mathlib.Core.List.{List, [], _∷_, map, foldl}
+use mathlib.Core.List.{List, [], _∷_, map}
 use Prim.Native.Nat.{ℕ, suc, _-_}
 use lib.ListN.{length, getD, set, replicate}
 use lib.Dec.{eqb}
@@ -15,7 +15,7 @@ use Rattle.rules.specs.declared.Entry.{Entry}
 use Rattle.rules.specs.declared.FreeSlot.{FreeSlot}
 use Rattle.rules.specs.declared.FreeSlot.the-variants.{At, Nowhere}
 use Rattle.rules.specs.Lists.{those, oneOf, joined, upFrom}
-use Rattle.rules.specs.Geometry.{cover, samePair}
+use Rattle.rules.specs.Geometry.{noRect, coverAll, samePair}
 
 -- "Level 0 is free, 1 a leaf." The entries are those in use; the count is their number
 pub record Node : Type 0 where
@@ -39,9 +39,6 @@ number n = record { 0 = n }
 
 abbrev pub rectangle : ℤ → ℤ → ℤ → ℤ → Rect
 rectangle a b c d = record { lowX = a; lowY = b; highX = c; highY = d }
-
-abbrev pub noRect : Rect
-noRect = rectangle (pos 0) (pos 0) (pos 0) (pos 0)
 
 abbrev pub entry : Rect → Pointer → Entry
 entry r p = record { rect = r; pointer = p }
@@ -91,10 +88,12 @@ recordOf e = record { number = numberOf e; rect = e .rect }
 unfoldable pub leafEntry : Record → Entry
 leafEntry r = entry (r .rect) (Number (r .number))
 
--- "the smallest holding that node's entries"
+-- the entries' rectangles, and "the smallest holding that node's entries"
+unfoldable pub rects : List Entry → List Rect
+rects es = map (λ (e : Entry). e .rect) es
+
 unfoldable pub coverOf : List Entry → Rect
-coverOf [] = noRect
-coverOf (e ∷ es) = foldl (λ r x. cover r (x .rect)) (e .rect) es
+coverOf es = coverAll (rects es)
 
 -- the entry that a parent has for the node at s
 unfoldable pub entryFor : Pool → SlotNumber → Entry

@@ -1,4 +1,5 @@
--- The quadratic split of nine entries into two groups. A place is an entry's position among the nine, from 0.
+-- The quadratic split of nine entries into two groups. A place is an entry's position among the nine, from 0; only the entries'
+-- rectangles matter.
 use mathlib.Core.Bool.{Bool, true, false, not}
 use mathlib.Core.List.{List, [], _∷_, _++_, map}
 use Prim.Native.Nat.{ℕ, zero, suc, _+_, _-_}
@@ -10,8 +11,8 @@ use Rattle.rules.specs.declared.Rect.{Rect}
 use Rattle.rules.specs.declared.Entry.{Entry}
 use Rattle.rules.specs.Lists.{those, earliestBest, upFrom, lessThen}
 use Rattle.rules.specs.Numbers.{least}
-use Rattle.rules.specs.Geometry.{area, enlargement, waste}
-use Rattle.rules.specs.Pool.{entryFrom, coverOf}
+use Rattle.rules.specs.Geometry.{coverAll, area, enlargement, waste}
+use Rattle.rules.specs.Pool.{entryFrom, rects}
 use Rattle.rules.specs.Choose.{rectFrom, earliest}
 
 -- ---- PickSeeds
@@ -30,12 +31,12 @@ pairsFrom i zero = []
 pairsFrom i (suc n) = map (seeds i) (upFrom (suc i) n) ++ pairsFrom (suc i) n
 
 -- d of a pair
-unfoldable pub wasteOf : List Entry → Seeds → ℤ
-wasteOf es a = waste (rectFrom es (a .first)) (rectFrom es (a .second))
+unfoldable pub wasteOf : List Rect → Seeds → ℤ
+wasteOf rs a = waste (rectFrom rs (a .first)) (rectFrom rs (a .second))
 
 -- PS2: "largest d, then earliest first member, then earliest second"
-unfoldable pub pickSeeds : List Entry → Seeds
-pickSeeds es = earliestBest (λ a b. ltZ (wasteOf es b) (wasteOf es a)) (seeds 0 1) (pairsFrom 0 (length es))
+unfoldable pub pickSeeds : List Rect → Seeds
+pickSeeds rs = earliestBest (λ a b. ltZ (wasteOf rs b) (wasteOf rs a)) (seeds 0 1) (pairsFrom 0 (length rs))
 
 -- ---- the groups
 
@@ -46,8 +47,8 @@ pub record Groups : Type 0 where
   pub left : List ℕ
 
 -- the smallest rectangle that holds a group
-unfoldable pub coverGroup : List Entry → List ℕ → Rect
-coverGroup es group = coverOf (map (entryFrom es) group)
+unfoldable pub coverGroup : List Rect → List ℕ → Rect
+coverGroup rs group = coverAll (map (rectFrom rs) group)
 
 -- the places of the list but i
 unfoldable pub leaving : ℕ → List ℕ → List ℕ
@@ -93,35 +94,38 @@ distribute next toTwo (suc n) g =
 -- ---- PickNext
 
 -- PN1: the "absolute difference of the two enlargements", of groups with covers a and b
-unfoldable pub preference : List Entry → Rect → Rect → ℕ → ℕ
-preference es a b i = natAbs (enlargement a (rectFrom es i) -ℤ enlargement b (rectFrom es i))
+unfoldable pub preference : List Rect → Rect → Rect → ℕ → ℕ
+preference rs a b i = natAbs (enlargement a (rectFrom rs i) -ℤ enlargement b (rectFrom rs i))
 
 -- PN2: "largest .., then earliest"
-unfoldable pub mostPreferring : List Entry → Rect → Rect → List ℕ → ℕ
-mostPreferring es a b left = earliest (λ i j. ltb (preference es a b j) (preference es a b i)) left
+unfoldable pub mostPreferring : List Rect → Rect → Rect → List ℕ → ℕ
+mostPreferring rs a b left = earliest (λ i j. ltb (preference rs a b j) (preference rs a b i)) left
 
-unfoldable pub pickNext : List Entry → Groups → ℕ
-pickNext es g = mostPreferring es (coverGroup es (g .one)) (coverGroup es (g .two)) (g .left)
+unfoldable pub pickNext : List Rect → Groups → ℕ
+pickNext rs g = mostPreferring rs (coverGroup rs (g .one)) (coverGroup rs (g .two)) (g .left)
 
 -- "It joins the group of least enlargement, then smaller area, then fewer entries, then group 1.": whether group 2, of cover b and n
 -- entries, goes before group 1, of cover a and m entries
 unfoldable pub secondFirst : Rect → Rect → ℕ → ℕ → Rect → Bool
 secondFirst a b m n r = lessThen (enlargement b r) (enlargement a r) (lessThen (area b) (area a) (ltb n m))
 
-unfoldable pub joinsTwo : List Entry → Groups → ℕ → Bool
-joinsTwo es g i =
-    secondFirst (coverGroup es (g .one)) (coverGroup es (g .two)) (length (g .one)) (length (g .two)) (rectFrom es i)
+unfoldable pub joinsTwo : List Rect → Groups → ℕ → Bool
+joinsTwo rs g i =
+    secondFirst (coverGroup rs (g .one)) (coverGroup rs (g .two)) (length (g .one)) (length (g .two)) (rectFrom rs i)
 
 -- ---- the whole
 
-unfoldable pub quadraticGroups : List Entry → Groups
-quadraticGroups es = distribute (pickNext es) (joinsTwo es) (length es - 2) (opening (length es) (pickSeeds es))
+unfoldable pub quadraticGroups : List Rect → Groups
+quadraticGroups rs = distribute (pickNext rs) (joinsTwo rs) (length rs - 2) (opening (length rs) (pickSeeds rs))
 
 -- two lists of entries
 pub record Halves : Type 0 where
   pub one : List Entry
   pub two : List Entry
 
+-- the entries at the places of the groups
+unfoldable pub halves : List Entry → Groups → Halves
+halves es g = record { one = map (entryFrom es) (g .one); two = map (entryFrom es) (g .two) }
+
 unfoldable pub quadraticSplit : List Entry → Halves
-quadraticSplit es =
-    record { one = map (entryFrom es) (quadraticGroups es .one); two = map (entryFrom es) (quadraticGroups es .two) }
+quadraticSplit es = halves es (quadraticGroups (rects es))
