@@ -9,6 +9,7 @@ pub mod Search
 pub mod Choose
 pub mod Split
 pub mod Insert
+pub mod Lawful
 pub mod Delete
 pub mod Answers
 pub mod Request

@@ -1,0 +1,2 @@
+-- Laws of the definitions of document 01.
+pub mod Picks

@@ -1,0 +1,1 @@
+// No code: laws of the definitions of `rules`, for the crates above.
