@@ -12,6 +12,7 @@ use mathlib.Core.Path.{_≡_, refl}
 use mathlib.Core.List.{List, [], _∷_}
 use Prim.Native.Nat.{ℕ}
 use lib.IntN.{ℤ, pos}
+use lib.ListN.{replicate}
 use Rattle.rules.specs.declared.Record.{Record}
 use Rattle.rules.specs.declared.Request.{Request}
 use Rattle.rules.specs.declared.Answer.{Answer}
@@ -20,7 +21,7 @@ use Rattle.rules.specs.Answers.{answer}
 use Rattle.rules.specs.Call.{Left}
 use Rattle.rules.specs.Frames.{dustmap}
 use Rattle.rules.specs.Computed.{document01}
-use Rattle.rules.specs.Histories.{minus, asking, blankWords, history}
+use Rattle.rules.specs.Histories.{minus, asking, noRecord, blankWords, history}
 """
 
 
@@ -28,8 +29,8 @@ def integer(n):
     return f"pos {n}" if n >= 0 else f"minus {-n}"
 
 
-def listed(items):
-    return "".join(f"{i} ∷ " for i in items) + "[]"
+def listed(items, rest="[]"):
+    return "".join(f"{i} ∷ " for i in items) + rest
 
 
 def words(ns):
@@ -75,7 +76,6 @@ def statement(name, script, output):
     """That the definitions leave, for a script, what the output of `second script` says."""
     places = numbers((lines_of(script, "found") or ["found 64"])[0])[0]
     filled = [record(numbers(l)) for l in lines_of(output, "found")]
-    empty = record([0] * 5)
     pool = words(numbers(lines_of(output, "pool")[0]))
     answers = [f"answer {' '.join(l.split()[1:])}" for l in lines_of(output, "answer")]
     result = numbers(lines_of(output, "result")[0])[0]
@@ -98,7 +98,7 @@ def statement(name, script, output):
       pool = {name}-pool;
       workspace = {workspace};
       answers = {listed(answers)};
-      found = {listed(filled + [empty] * (places - len(filled)))} }}
+      found = {listed(filled, f'replicate {places - len(filled)} noRecord')} }}
 
 {name} : history {name}-start {places} {name}-requests ≡ {name}-left
 unfolding document01 {name}-start {name}-requests {name}-pool {name}-left

@@ -1,6 +1,6 @@
--- As two-levels, with two records more. The delete sets entries aside on two levels; a record
--- going in again splits a leaf, and a child going in again splits the node over the leaves, so
--- the root keeps two children. The freed slots are used again within the request.
+-- From blank to a tree of height 3. The delete sets entries aside on two levels; a record going in
+-- again splits a leaf, and a child going in again splits the node over the leaves, so the root keeps
+-- two children. The freed slots are used again within the request.
 use mathlib.Core.Path.{_≡_, refl}
 use mathlib.Core.List.{List, [], _∷_, _++_}
 use lib.IntN.{ℤ, pos}

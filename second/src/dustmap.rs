@@ -1,0 +1,112 @@
+//! The program `dustmap`: frames in, lines out.
+
+use crate::call::{call, Answer, Found, Request, DELETE, INSERT, SEARCH, UPDATE};
+use crate::pool::{blank, HEAD_WORDS, SLOT_WORDS};
+
+/// "a 128-slot pool (5,384 words)"
+const POOL_SLOTS: usize = 128;
+
+/// "a found list of 64"
+const FOUND_PLACES: usize = 64;
+
+/// A frame that is cut, of unknown kind or of wrong length.
+struct BadFrame;
+
+/// The pool and what stands beside it for batches of one.
+struct Station {
+    pool: Vec<i32>,
+    work: Vec<i32>,
+    found: Vec<Found>,
+}
+
+/// Reads all frames and gives all that is printed.
+pub fn run(input: &[u8]) -> String {
+    let mut station = Station::new();
+    let mut output = String::new();
+    let mut rest = input;
+    let mut place = 1;
+    while !rest.is_empty() {
+        match next_frame(&mut rest) {
+            Ok(request) => station.answer(place, request, &mut output),
+            Err(BadFrame) => {
+                output.push_str(&format!("bad frame {place}\n"));
+                break;
+            }
+        }
+        place += 1;
+    }
+    output
+}
+
+impl Station {
+    fn new() -> Station {
+        let mut pool = vec![0; HEAD_WORDS + SLOT_WORDS * POOL_SLOTS];
+        blank(&mut pool);
+        let work = pool.clone();
+        Station { pool, work, found: vec![Found::default(); FOUND_PLACES] }
+    }
+
+    /// "Each frame is a batch of one". Prints "request place from 1, answer number, found,
+    /// opened; then after an accepted search a line per record".
+    fn answer(&mut self, place: usize, request: Request, output: &mut String) {
+        let mut answers = [Answer::default()];
+        let result =
+            call(&mut self.pool, &mut self.work, &[request], &mut answers, &mut self.found);
+        assert_eq!(result, 0, "the pool is sound");
+        let Answer { number, found, opened, .. } = answers[0];
+        output.push_str(&format!("{place} {number} {found} {opened}\n"));
+        if request.kind == SEARCH && number == 0 {
+            for record in &self.found[..found as usize] {
+                let Found { number, low_x, low_y, high_x, high_y } = record;
+                output.push_str(&format!("{number} {low_x} {low_y} {high_x} {high_y}\n"));
+            }
+        }
+    }
+}
+
+/// "two bytes length of what follows, two bytes kind, then signed 32-bit words, all
+/// little-endian". Takes the frame off the front.
+fn next_frame(rest: &mut &[u8]) -> Result<Request, BadFrame> {
+    let length = usize::from(take_two(rest)?);
+    if rest.len() < length {
+        return Err(BadFrame);
+    }
+    let (mut body, after) = rest.split_at(length);
+    *rest = after;
+    let kind = i32::from(take_two(&mut body)?);
+    request_of(kind, length, body)
+}
+
+/// "Kind 1 insert and 2 delete: number, rectangle (length 22). 3 update: number, old, new (38).
+/// 4 search: window (18)."
+fn request_of(kind: i32, length: usize, body: &[u8]) -> Result<Request, BadFrame> {
+    match (kind, length) {
+        (INSERT | DELETE, 22) => {
+            let w = words_of(body);
+            Ok(Request { kind, number: w[0], first: four(&w[1..5]), second: [0; 4] })
+        }
+        (UPDATE, 38) => {
+            let w = words_of(body);
+            Ok(Request { kind, number: w[0], first: four(&w[1..5]), second: four(&w[5..9]) })
+        }
+        (SEARCH, 18) => Ok(Request::search(four(&words_of(body)))),
+        _ => Err(BadFrame),
+    }
+}
+
+fn take_two(rest: &mut &[u8]) -> Result<u16, BadFrame> {
+    if rest.len() < 2 {
+        return Err(BadFrame);
+    }
+    let value = u16::from_le_bytes([rest[0], rest[1]]);
+    *rest = &rest[2..];
+    Ok(value)
+}
+
+fn words_of(body: &[u8]) -> Vec<i32> {
+    body.chunks_exact(4).map(|b| i32::from_le_bytes([b[0], b[1], b[2], b[3]])).collect()
+}
+
+fn four(words: &[i32]) -> [i32; 4] {
+    [words[0], words[1], words[2], words[3]]
+}

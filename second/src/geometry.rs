@@ -1,0 +1,80 @@
+//! "Two dimensions, whole millimetres, closed rectangles."
+//!
+//! Coordinates are kept in 64 bits and areas in 128, so that nothing here can wrap, not even
+//! for rectangles that a request is refused for.
+
+/// "Coordinates: -1,000,000,000 to 1,000,000,000."
+pub const COORDINATE_LIMIT: i64 = 1_000_000_000;
+
+/// A closed rectangle. The order of the fields is the document's order (low x, low y, high x,
+/// high y), so the derived order is the one in which found records are put.
+#[derive(Clone, Copy, Debug, PartialEq, Eq, PartialOrd, Ord)]
+pub struct Rect {
+    pub low_x: i64,
+    pub low_y: i64,
+    pub high_x: i64,
+    pub high_y: i64,
+}
+
+impl Rect {
+    pub fn new(low_x: i64, low_y: i64, high_x: i64, high_y: i64) -> Rect {
+        Rect { low_x, low_y, high_x, high_y }
+    }
+
+    /// The rectangle in four words: low x, low y, high x, high y.
+    pub fn from_words(words: [i32; 4]) -> Rect {
+        let [low_x, low_y, high_x, high_y] = words.map(i64::from);
+        Rect { low_x, low_y, high_x, high_y }
+    }
+
+    /// Back to four words. Only rectangles that came from words are ever written back.
+    pub fn to_words(self) -> [i32; 4] {
+        [self.low_x, self.low_y, self.high_x, self.high_y]
+            .map(|c| i32::try_from(c).expect("a coordinate fits a word"))
+    }
+
+    /// Every coordinate in range and no low above its high. "Low may equal high."
+    pub fn valid(&self) -> bool {
+        let in_range = |c: i64| (-COORDINATE_LIMIT..=COORDINATE_LIMIT).contains(&c);
+        [self.low_x, self.low_y, self.high_x, self.high_y].into_iter().all(in_range)
+            && self.low_x <= self.high_x
+            && self.low_y <= self.high_y
+    }
+}
+
+/// "Two rectangles meet when on each axis each low is at most the other's high; touching
+/// counts."
+pub fn meets(a: &Rect, b: &Rect) -> bool {
+    a.low_x <= b.high_x && b.low_x <= a.high_x && a.low_y <= b.high_y && b.low_y <= a.high_y
+}
+
+/// "Area is width times height."
+pub fn area(a: &Rect) -> i128 {
+    i128::from(a.high_x - a.low_x) * i128::from(a.high_y - a.low_y)
+}
+
+/// The smallest rectangle holding both.
+pub fn joint_cover(a: &Rect, b: &Rect) -> Rect {
+    Rect {
+        low_x: a.low_x.min(b.low_x),
+        low_y: a.low_y.min(b.low_y),
+        high_x: a.high_x.max(b.high_x),
+        high_y: a.high_y.max(b.high_y),
+    }
+}
+
+/// The smallest rectangle holding all of them; none for no rectangles.
+pub fn cover(rects: &[Rect]) -> Option<Rect> {
+    rects.iter().copied().reduce(|a, b| joint_cover(&a, &b))
+}
+
+/// "The enlargement of A for B is the area of the smallest rectangle holding both, less A's
+/// area."
+pub fn enlargement(a: &Rect, b: &Rect) -> i128 {
+    area(&joint_cover(a, b)) - area(a)
+}
+
+/// PS1: "d = area of joint cover less both areas, possibly negative".
+pub fn waste(a: &Rect, b: &Rect) -> i128 {
+    area(&joint_cover(a, b)) - area(a) - area(b)
+}

@@ -1,0 +1,128 @@
+//! The styles of generated histories: how rectangles, windows and numbers are drawn.
+
+use crate::dice::Dice;
+use crate::geometry::{Rect, COORDINATE_LIMIT};
+
+#[derive(Clone, Copy, Debug, PartialEq, Eq)]
+pub enum Style {
+    Random,
+    Clustered,
+    Grid,
+    Points,
+    Lines,
+    Duplicates,
+    Limits,
+    Churn,
+}
+
+/// Every style with its name on the command line.
+pub const STYLES: [(&str, Style); 8] = [
+    ("random", Style::Random),
+    ("clustered", Style::Clustered),
+    ("grid", Style::Grid),
+    ("points", Style::Points),
+    ("lines", Style::Lines),
+    ("duplicates", Style::Duplicates),
+    ("limits", Style::Limits),
+    ("churn", Style::Churn),
+];
+
+/// Coordinates at the limits and about the middle.
+const EDGE: [i64; 7] =
+    [-COORDINATE_LIMIT, 1 - COORDINATE_LIMIT, -1, 0, 1, COORDINATE_LIMIT - 1, COORDINATE_LIMIT];
+
+impl Style {
+    pub fn named(name: &str) -> Option<Style> {
+        STYLES.iter().find(|(known, _)| *known == name).map(|&(_, style)| style)
+    }
+
+    /// A rectangle in this style. All are valid, but for one in twelve of `limits`.
+    pub fn rect(self, dice: &mut Dice) -> Rect {
+        match self {
+            Style::Random => sized(dice, 1_000_000, 20_000),
+            Style::Clustered => clustered(dice),
+            Style::Grid => unit_square(dice),
+            Style::Points => sized(dice, 60, 0),
+            Style::Lines => line(dice),
+            Style::Duplicates => duplicate(dice),
+            Style::Limits => at_the_limits(dice),
+            Style::Churn => sized(dice, 40, 6),
+        }
+    }
+
+    /// A record number in this style.
+    pub fn number(self, dice: &mut Dice) -> i32 {
+        match self {
+            Style::Duplicates => dice.between(1, 4) as i32,
+            Style::Limits => dice.pick(&[1, 2, 3, 0, i32::MAX - 1, i32::MAX, i32::MAX, 7, 8, 9]),
+            _ => dice.between(1, 500) as i32,
+        }
+    }
+
+    /// A window: a rectangle of the style, or the joint cover of two of them, or the site.
+    pub fn window(self, dice: &mut Dice) -> Rect {
+        let rect = self.rect(dice);
+        match dice.below(10) {
+            0 => whole_site(),
+            1..=4 => rect,
+            5 => Rect { high_x: rect.low_x, high_y: rect.low_y, ..rect },
+            _ => crate::geometry::joint_cover(&rect, &self.rect(dice)),
+        }
+    }
+}
+
+/// Every place a valid rectangle can be.
+pub fn whole_site() -> Rect {
+    let limit = COORDINATE_LIMIT;
+    Rect::new(-limit, -limit, limit, limit)
+}
+
+fn sized(dice: &mut Dice, reach: i64, size: i64) -> Rect {
+    let (x, y) = (dice.between(-reach, reach), dice.between(-reach, reach));
+    Rect::new(x, y, x + dice.between(0, size), y + dice.between(0, size))
+}
+
+/// Small rectangles about one of six places.
+fn clustered(dice: &mut Dice) -> Rect {
+    let centres = [(0, 0), (5_000, 0), (-40_000, 900), (5_000, 60_000), (70, 70), (9_999, -8)];
+    let (x, y) = dice.pick(&centres);
+    let near = sized(dice, 200, 50);
+    Rect::new(near.low_x + x, near.low_y + y, near.high_x + x, near.high_y + y)
+}
+
+/// Touching unit squares on a small grid.
+fn unit_square(dice: &mut Dice) -> Rect {
+    let (x, y) = (dice.between(0, 15), dice.between(0, 15));
+    Rect::new(x, y, x + 1, y + 1)
+}
+
+/// A level or upright line, without area.
+fn line(dice: &mut Dice) -> Rect {
+    let (x, y, length) = (dice.between(-50, 50), dice.between(-50, 50), dice.between(0, 40));
+    if dice.chance(50) {
+        Rect::new(x, y, x + length, y)
+    } else {
+        Rect::new(x, y, x, y + length)
+    }
+}
+
+/// One of nine rectangles.
+fn duplicate(dice: &mut Dice) -> Rect {
+    let (x, y) = (dice.between(0, 2) * 10, dice.between(0, 2) * 10);
+    Rect::new(x, y, x + 10, y + 15)
+}
+
+/// Corners at the limits; one rectangle in twelve has a coordinate just beyond.
+fn at_the_limits(dice: &mut Dice) -> Rect {
+    let (a, b) = (dice.pick(&EDGE), dice.pick(&EDGE));
+    let (c, d) = (dice.pick(&EDGE), dice.pick(&EDGE));
+    let mut rect = Rect::new(a.min(b), c.min(d), a.max(b), c.max(d));
+    match dice.below(48) {
+        0 => rect.low_x = -COORDINATE_LIMIT - 1,
+        1 => rect.low_y = -COORDINATE_LIMIT - 1,
+        2 => rect.high_x = COORDINATE_LIMIT + 1,
+        3 => rect.high_y = COORDINATE_LIMIT + 1,
+        _ => (),
+    }
+    rect
+}

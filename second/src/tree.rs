@@ -1,0 +1,251 @@
+//! Search, insert, delete and update over the plain nodes of a map.
+//!
+//! Guttman's steps are named beside the lines that render them.
+
+use crate::choose::{choose_child, split_nine, LEAST_ENTRIES, MOST_ENTRIES};
+use crate::geometry::{meets, Rect};
+use crate::pool::{Entry, Map, Node, Pair, Pointer, Slot};
+
+/// "the rules call for a slot at a moment when none is free"
+#[derive(Clone, Copy, Debug, PartialEq, Eq)]
+pub struct NoSlotFree;
+
+/// One step of the way down: a node and the place (from 1) of the entry taken in it.
+#[derive(Clone, Copy, Debug)]
+struct Step {
+    node: Slot,
+    place: usize,
+}
+
+/// An entry set aside, with the level of the node it stood in.
+struct SetAside {
+    level: i64,
+    entry: Entry,
+}
+
+/// The records found by a search, in order, and the number of nodes opened.
+pub struct Finding {
+    pub pairs: Vec<Pair>,
+    pub opened: i64,
+}
+
+impl Map {
+    /// Whether the pair is held: a look at every leaf.
+    pub fn held(&self, pair: &Pair) -> bool {
+        let mut leaves = self.nodes().iter().filter(|node| node.is_leaf());
+        leaves.any(|leaf| leaf.entries.contains(&record_entry(pair)))
+    }
+
+    /// "Found records are ordered by record number, then low x, low y, high x, high y."
+    pub fn search(&self, window: &Rect) -> Finding {
+        let mut finding = Finding { pairs: Vec::new(), opened: 0 };
+        self.open(self.root, window, &mut finding);
+        finding.pairs.sort();
+        finding
+    }
+
+    /// Opens a node. "The root is always opened."
+    fn open(&self, slot: Slot, window: &Rect, finding: &mut Finding) {
+        finding.opened += 1;
+        for entry in self.node(slot).entries.iter().filter(|e| meets(&e.rect, window)) {
+            match entry.pointer {
+                // S1: "opens every child whose entry rectangle meets the window"
+                Pointer::Child(child) => self.open(child, window, finding),
+                // S2: a qualifying record.
+                Pointer::Record(number) => finding.pairs.push(Pair { number, rect: entry.rect }),
+            }
+        }
+    }
+
+    /// Insert of a pair that is not held.
+    pub fn insert(&mut self, pair: &Pair) -> Result<(), NoSlotFree> {
+        self.insert_entry(record_entry(pair), 1)?;
+        self.records += 1;
+        Ok(())
+    }
+
+    /// Delete of a pair that is held: D1 to D4.
+    pub fn delete(&mut self, pair: &Pair) -> Result<(), NoSlotFree> {
+        let mut path = Vec::new();
+        let found = self.find_leaf(self.root, pair, &mut path);
+        assert!(found, "the pair is held");
+        let last = path.pop().expect("the leaf");
+        // D2: "Later entries close up".
+        self.node_mut(last.node).entries.remove(last.place - 1);
+        self.records -= 1;
+        let set_aside = self.condense(&path, last.node);
+        self.insert_again(set_aside)?;
+        self.shorten();
+        Ok(())
+    }
+
+    /// "Update deletes the old pair, then inserts the new rectangle under the same number; also
+    /// where old equals new."
+    pub fn update(&mut self, old: &Pair, new: &Rect) -> Result<(), NoSlotFree> {
+        self.delete(old)?;
+        self.insert(&Pair { number: old.number, rect: *new })
+    }
+
+    /// FL1, FL2: "FindLeaf visits children in stored order; the first exact pair found goes."
+    /// The path is left as the steps from the root to the leaf, the last at the pair's place.
+    fn find_leaf(&self, slot: Slot, pair: &Pair, path: &mut Vec<Step>) -> bool {
+        for (index, entry) in self.node(slot).entries.iter().enumerate() {
+            path.push(Step { node: slot, place: index + 1 });
+            let found = match entry.pointer {
+                Pointer::Child(child) => {
+                    meets(&entry.rect, &pair.rect) && self.find_leaf(child, pair, path)
+                }
+                Pointer::Record(_) => *entry == record_entry(pair),
+            };
+            if found {
+                return true;
+            }
+            path.pop();
+        }
+        false
+    }
+
+    /// Insert of an entry into a node of the given level, by the insert rules.
+    fn insert_entry(&mut self, entry: Entry, level: i64) -> Result<(), NoSlotFree> {
+        // I1
+        let (path, target) = self.choose_node(&entry.rect, level);
+        // I2
+        let mut partner = self.add(target, entry)?;
+        // I3: AdjustTree, upwards from the chosen node.
+        let mut below = target;
+        for step in path.into_iter().rev() {
+            // AT3 comes before AT4: the cover is tight before the partner is added.
+            self.tighten(step, below);
+            partner = match partner {
+                Some(slot) => self.add(step.node, self.entry_for(slot))?,
+                None => None,
+            };
+            below = step.node;
+        }
+        // I4
+        match partner {
+            Some(slot) => self.grow(slot),
+            None => Ok(()),
+        }
+    }
+
+    /// CL1 to CL4, down to the level asked for: the steps on the way and the node chosen.
+    fn choose_node(&self, rect: &Rect, level: i64) -> (Vec<Step>, Slot) {
+        let mut path = Vec::new();
+        let mut slot = self.root;
+        while self.node(slot).level > level {
+            let place = choose_child(&self.node(slot).rects(), rect);
+            path.push(Step { node: slot, place });
+            slot = self.node(slot).entries[place - 1].child();
+        }
+        assert_eq!(self.node(slot).level, level, "the tree reaches the level");
+        (path, slot)
+    }
+
+    /// "A new entry goes last." A full node splits; then its partner's slot is given.
+    fn add(&mut self, slot: Slot, entry: Entry) -> Result<Option<Slot>, NoSlotFree> {
+        let mut entries = self.node(slot).entries.clone();
+        entries.push(entry);
+        if entries.len() <= MOST_ENTRIES {
+            self.node_mut(slot).entries = entries;
+            return Ok(None);
+        }
+        self.split(slot, &entries).map(Some)
+    }
+
+    /// "Group 1 stays in the old slot. Group 2 takes the lowest free slot."
+    fn split(&mut self, slot: Slot, nine: &[Entry]) -> Result<Slot, NoSlotFree> {
+        let rects: Vec<Rect> = nine.iter().map(|e| e.rect).collect();
+        let (group_1, group_2) = split_nine(&rects);
+        let members = |group: Vec<usize>| group.into_iter().map(|p| nine[p - 1]).collect();
+        let level = self.node(slot).level;
+        let partner = self.lowest_free_slot()?;
+        self.node_mut(slot).entries = members(group_1);
+        *self.node_mut(partner) = Node { level, entries: members(group_2) };
+        self.trace.splits += 1;
+        self.trace.levels_split.insert(level);
+        Ok(partner)
+    }
+
+    /// "If the root splits, a new root takes the lowest free slot then left, with entries for
+    /// old root and partner in that order."
+    fn grow(&mut self, partner: Slot) -> Result<(), NoSlotFree> {
+        let new_root = self.lowest_free_slot()?;
+        let entries = vec![self.entry_for(self.root), self.entry_for(partner)];
+        self.height += 1;
+        *self.node_mut(new_root) = Node { level: self.height, entries };
+        self.root = new_root;
+        self.trace.root_split = true;
+        Ok(())
+    }
+
+    fn lowest_free_slot(&self) -> Result<Slot, NoSlotFree> {
+        let index = self.nodes().iter().position(|node| node.level == 0).ok_or(NoSlotFree)?;
+        Ok(Slot(index + 1))
+    }
+
+    /// CT1 to CT5. "a non-root node with fewer than 3 entries leaves its parent, its entries
+    /// are set aside, and its slot is zeroed and free at once"; "Covers on the path are made
+    /// tight." Gives the entries set aside, lowest level first, in stored order.
+    fn condense(&mut self, path: &[Step], leaf: Slot) -> Vec<SetAside> {
+        let mut set_aside = Vec::new();
+        let mut below = leaf;
+        for step in path.iter().rev() {
+            if self.node(below).entries.len() < LEAST_ENTRIES {
+                // CT3
+                self.node_mut(step.node).entries.remove(step.place - 1);
+                let thin = std::mem::replace(self.node_mut(below), Node::free());
+                self.trace.levels_condensed.insert(thin.level);
+                let level = thin.level;
+                set_aside.extend(thin.entries.into_iter().map(|entry| SetAside { level, entry }));
+            } else {
+                // CT4
+                self.tighten(*step, below);
+            }
+            // CT5
+            below = step.node;
+        }
+        set_aside
+    }
+
+    /// CT6: "entries set aside are inserted again, lowest level first, in stored order, each at
+    /// its own level, by the insert rules".
+    fn insert_again(&mut self, set_aside: Vec<SetAside>) -> Result<(), NoSlotFree> {
+        for SetAside { level, entry } in set_aside {
+            let splits_before = self.trace.splits;
+            self.insert_entry(entry, level)?;
+            self.trace.split_by_entry_set_aside |= self.trace.splits > splits_before;
+        }
+        Ok(())
+    }
+
+    /// D4: "Last, an inner root with one child is freed and that child is root."
+    fn shorten(&mut self) {
+        let root = self.node(self.root);
+        if root.is_leaf() || root.entries.len() != 1 {
+            return;
+        }
+        let child = root.entries[0].child();
+        let old_root = self.root;
+        *self.node_mut(old_root) = Node::free();
+        self.root = child;
+        self.height -= 1;
+        self.trace.root_shortened = true;
+    }
+
+    /// Sets the cover at a step tight about the node below it.
+    fn tighten(&mut self, step: Step, below: Slot) {
+        let tight = self.node(below).cover();
+        self.node_mut(step.node).entries[step.place - 1].rect = tight;
+    }
+
+    /// The entry that a parent holds for a node.
+    fn entry_for(&self, slot: Slot) -> Entry {
+        Entry { rect: self.node(slot).cover(), pointer: Pointer::Child(slot) }
+    }
+}
+
+/// The leaf entry of a pair.
+fn record_entry(pair: &Pair) -> Entry {
+    Entry { rect: pair.rect, pointer: Pointer::Record(pair.number) }
+}
