@@ -1,0 +1,166 @@
+-- The measures of valid rectangles: they are naturals, they fit 64 bits, and a cover is valid and no smaller than what it covers. Each
+-- is proved of boxes of naturals, where `omega` can work, and carried over.
+use mathlib.Core.Path.{_≡_, refl, sym, ap, ap₂, _∙_}
+use mathlib.Core.Bool.{Bool, true, false, cond, _&&_}
+use Prim.Native.Nat.{ℕ, suc, _≤_, _*_, _-_, _+_, min, max}
+use native.Mathlib.Nat.{mul-le-mul}
+use native.Mathlib.Omega.{arith}
+use lib.Dec.{leb, ltb}
+use lib.IntN.{ℤ, pos, _-ℤ_, subℕ}
+use lib.Signed.{leZ, ltZ}
+use borrow.Author.Tests.{leb-true, leb-false, le-leb}
+use Rattle.rules.specs.declared.Rect.{Rect}
+use Rattle.rules.specs.Numbers.{inRange}
+use Rattle.rules.specs.Geometry.{valid, smaller, larger, cover, area}
+use Rattle.geometry.proofs.Ints.{and-both, leb-same, off, off-le, off-order, le-off, sub-off, sub-pos, sub-same, pos-minus, sub-minus, sub-lt}
+
+-- ---- the parts of `valid`
+
+pub record Valid (r : Rect) : Type 0 where
+  pub lowX : inRange (r .lowX) ≡ true
+  pub lowY : inRange (r .lowY) ≡ true
+  pub highX : inRange (r .highX) ≡ true
+  pub highY : inRange (r .highY) ≡ true
+  pub x : leZ (r .lowX) (r .highX) ≡ true
+  pub y : leZ (r .lowY) (r .highY) ≡ true
+
+pub valid-parts : (r : Rect) → valid r ≡ true → Valid r
+unfolding valid
+valid-parts r e =
+    let a = and-both _ _ e in
+    let b = and-both _ _ (a .0) in
+    let c = and-both _ _ (b .0) in
+    let d = and-both _ _ (c .0) in
+    let f = and-both _ _ (d .0) in
+    record { lowX = f .0; lowY = f .1; highX = d .1; highY = c .1; x = b .1; y = a .1 }
+
+pub parts-valid : {r : Rect} → Valid r → valid r ≡ true
+unfolding valid
+parts-valid v = rw (v .lowX, v .lowY, v .highX, v .highY, v .x, v .y)
+
+-- ---- boxes: rectangles counted from the lowest corner of the site
+
+record Box : Type 0 where
+  lx : ℕ
+  ly : ℕ
+  hx : ℕ
+  hy : ℕ
+
+record Good (b : Box) : Type 0 where
+  x : b .lx ≤ b .hx
+  y : b .ly ≤ b .hy
+  right : b .hx ≤ 2000000000
+  top : b .hy ≤ 2000000000
+
+boxOf : Rect → Box
+boxOf r = record { lx = off (r .lowX); ly = off (r .lowY); hx = off (r .highX); hy = off (r .highY) }
+
+both : Box → Box → Box
+both a b = record { lx = min (a .lx) (b .lx); ly = min (a .ly) (b .ly); hx = max (a .hx) (b .hx); hy = max (a .hy) (b .hy) }
+
+size : Box → ℕ
+size b = (b .hx - b .lx) * (b .hy - b .ly)
+
+box-good : {r : Rect} → Valid r → Good (boxOf r)
+unfolding boxOf
+box-good {r} v = record {
+  x = off-order (r .lowX) (r .highX) (v .lowX) (v .highX) (v .x);
+  y = off-order (r .lowY) (r .highY) (v .lowY) (v .highY) (v .y);
+  right = off-le (r .highX) (v .highX);
+  top = off-le (r .highY) (v .highY);
+}
+
+both-good : {a b : Box} → Good a → Good b → Good (both a b)
+unfolding both
+both-good g h = record { x = omega arith; y = omega arith; right = omega arith; top = omega arith }
+
+size-bound : {b : Box} → Good b → size b ≤ 4000000000000000000
+unfolding size
+size-bound g = mul-le-mul {n₂ = 2000000000} {m₂ = 2000000000} (omega arith) (omega arith)
+
+size-grows : {a b : Box} → Good a → Good b → size a ≤ size (both a b)
+unfolding size both
+size-grows g h = mul-le-mul (omega arith) (omega arith)
+
+-- ---- carried over
+
+smaller-off : (a b : ℤ) → inRange a ≡ true → inRange b ≡ true → off (smaller a b) ≡ min (off a) (off b)
+unfolding smaller
+smaller-off a b h k = go (leZ a b) refl
+  where
+    go : (t : Bool) → leZ a b ≡ t → off (cond t a b) ≡ min (off a) (off b)
+    go true e = omega (arith, leb-true (off a) (off b) (sym (le-off a b h k) ∙ e))
+    go false e = omega (arith, leb-false (off a) (off b) (sym (le-off a b h k) ∙ e))
+
+larger-off : (a b : ℤ) → inRange a ≡ true → inRange b ≡ true → off (larger a b) ≡ max (off a) (off b)
+unfolding larger
+larger-off a b h k = go (leZ a b) refl
+  where
+    go : (t : Bool) → leZ a b ≡ t → off (cond t b a) ≡ max (off a) (off b)
+    go true e = omega (arith, leb-true (off a) (off b) (sym (le-off a b h k) ∙ e))
+    go false e = omega (arith, leb-false (off a) (off b) (sym (le-off a b h k) ∙ e))
+
+one-of : (t : Bool) (a b : ℤ) → inRange a ≡ true → inRange b ≡ true → inRange (cond t a b) ≡ true
+one-of true a b h k = h
+one-of false a b h k = k
+
+module _ {a b : Rect} (v : Valid a) (w : Valid b) where
+  cover-box : boxOf (cover a b) ≡ both (boxOf a) (boxOf b)
+  unfolding boxOf both cover
+  cover-box = λ i. record {
+    lx = smaller-off (a .lowX) (b .lowX) (v .lowX) (w .lowX) i;
+    ly = smaller-off (a .lowY) (b .lowY) (v .lowY) (w .lowY) i;
+    hx = larger-off (a .highX) (b .highX) (v .highX) (w .highX) i;
+    hy = larger-off (a .highY) (b .highY) (v .highY) (w .highY) i;
+  }
+
+  cover-parts : Valid (cover a b)
+  unfolding boxOf cover smaller larger
+  cover-parts =
+      let lx = one-of (leZ (a .lowX) (b .lowX)) (a .lowX) (b .lowX) (v .lowX) (w .lowX) in
+      let ly = one-of (leZ (a .lowY) (b .lowY)) (a .lowY) (b .lowY) (v .lowY) (w .lowY) in
+      let hx = one-of (leZ (a .highX) (b .highX)) (b .highX) (a .highX) (w .highX) (v .highX) in
+      let hy = one-of (leZ (a .highY) (b .highY)) (b .highY) (a .highY) (w .highY) (v .highY) in
+      let m = cover a b in
+      let g : Good (boxOf m) = rw cover-box (both-good (box-good v) (box-good w)) in
+      record {
+        lowX = lx;
+        lowY = ly;
+        highX = hx;
+        highY = hy;
+        x = le-off (m .lowX) (m .highX) lx hx ∙ le-leb _ _ (g .x);
+        y = le-off (m .lowY) (m .highY) ly hy ∙ le-leb _ _ (g .y);
+      }
+
+area-box : {r : Rect} → Valid r → area r ≡ pos (size (boxOf r))
+unfolding boxOf size area
+area-box {r} v = rw (sub-off (r .highX) (r .lowX) (v .highX) (v .lowX) (box-good v .x), sub-off (r .highY) (r .lowY) (v .highY) (v .lowY) (box-good v .y))
+
+-- ---- what the code and the crates above need
+
+pub cover-valid : (a b : Rect) → valid a ≡ true → valid b ≡ true → valid (cover a b) ≡ true
+cover-valid a b v w = parts-valid (cover-parts (valid-parts a v) (valid-parts b w))
+
+-- a natural that is an area is at most 4,000,000,000,000,000,000
+pub area-small : (r : Rect) (n : ℕ) → valid r ≡ true → pos n ≡ area r → n ≤ 4000000000000000000
+area-small r n v e =
+    let q = area-box (valid-parts r v) in
+    let same : n ≡ size (boxOf r) = cc in
+    rw same (size-bound (box-good (valid-parts r v)))
+
+-- .. and no more than that of a cover
+pub area-grows : (a b : Rect) (n m : ℕ) → valid a ≡ true → valid b ≡ true → pos n ≡ area a → pos m ≡ area (cover a b) → n ≤ m
+area-grows a b n m v w e f =
+    let va = valid-parts a v in
+    let vb = valid-parts b w in
+    let q = area-box va in
+    let k = area-box (cover-parts va vb) ∙ ap (λ c. pos (size c)) (cover-box va vb) in
+    let small : n ≡ size (boxOf a) = cc in
+    let large : m ≡ size (both (boxOf a) (boxOf b)) = cc in
+    rw (small, large) (size-grows (box-good va) (box-good vb))
+
+-- d counted from -8,000,000,000,000,000,000 compares as d does
+pub waste-lt : (m n : ℕ) (d e : ℤ) → subℕ m 8000000000000000000 ≡ d → subℕ n 8000000000000000000 ≡ e → ltZ d e ≡ ltb m n
+waste-lt m n d e p q =
+    ap₂ ltZ (sym p) (sym q) ∙ sub-lt m 8000000000000000000 n 8000000000000000000
+    ∙ leb-same (suc (m + 8000000000000000000)) (n + 8000000000000000000) (suc m) n (omega arith) (omega arith)

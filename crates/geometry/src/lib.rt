@@ -1,0 +1,126 @@
+// Rectangles of whole millimetres and their measures, as document 01 has them. It knows nothing of nodes or pools.
+// A measure that cannot be negative is a u64; d can be, and is counted from -8,000,000,000,000,000,000.
+ghost use mathlib.Core.Path.{_≡_};
+ghost use mathlib.Core.Bool.{true, _&&_};
+ghost use Prim.Native.Nat.{_≤_};
+ghost use lib.IntN.{pos, subℕ, _-ℤ_};
+ghost use lib.Signed.{leZ};
+ghost use Rattle.rules.specs.Lists as L;
+ghost use Rattle.rules.specs.Numbers as N;
+ghost use Rattle.rules.specs.Geometry as G;
+use rules::Rect;
+
+fn and(p: bool, q: bool) -> bool
+    ensures { λ r. ⌜ r ≡ (p && q) ⌝ }
+{
+    if p { q } else { false }
+}
+
+fn le(a: i32, b: i32) -> bool
+    ensures { λ r. ⌜ r ≡ leZ a b ⌝ }
+{
+    a <= b
+}
+
+fn same(a: i32, b: i32) -> bool
+    ensures { λ r. ⌜ r ≡ L.same a b ⌝ }
+{
+    and(le(a, b), le(b, a))
+}
+
+fn in_range(x: i32) -> bool
+    ensures { λ r. ⌜ r ≡ N.inRange x ⌝ }
+{
+    and(le(-1000000000, x), le(x, 1000000000))
+}
+
+// Low may equal high.
+pub fn valid(r: Rect) -> bool
+    ensures { λ s. ⌜ s ≡ G.valid r ⌝ }
+{
+    let low = and(in_range(r.lowX), in_range(r.lowY));
+    let all = and(and(low, in_range(r.highX)), in_range(r.highY));
+    and(and(all, le(r.lowX, r.highX)), le(r.lowY, r.highY))
+}
+
+// Touching counts.
+pub fn meets(a: Rect, b: Rect) -> bool
+    ensures { λ r. ⌜ r ≡ G.meets a b ⌝ }
+{
+    let x = and(le(a.lowX, b.highX), le(b.lowX, a.highX));
+    and(and(x, le(a.lowY, b.highY)), le(b.lowY, a.highY))
+}
+
+pub fn same_rect(a: Rect, b: Rect) -> bool
+    ensures { λ r. ⌜ r ≡ G.sameRect a b ⌝ }
+{
+    let low = and(same(a.lowX, b.lowX), same(a.lowY, b.lowY));
+    and(and(low, same(a.highX, b.highX)), same(a.highY, b.highY))
+}
+
+fn smaller(a: i32, b: i32) -> i32
+    ensures { λ r. ⌜ r ≡ G.smaller a b ⌝ }
+{
+    if le(a, b) { a } else { b }
+}
+
+fn larger(a: i32, b: i32) -> i32
+    ensures { λ r. ⌜ r ≡ G.larger a b ⌝ }
+{
+    if le(a, b) { b } else { a }
+}
+
+// The smallest rectangle holding both.
+pub fn cover(a: Rect, b: Rect) -> Rect
+    ensures { λ r. ⌜ r ≡ G.cover a b ⌝ }
+{
+    let lowX = smaller(a.lowX, b.lowX);
+    let lowY = smaller(a.lowY, b.lowY);
+    let highX = larger(a.highX, b.highX);
+    let highY = larger(a.highY, b.highY);
+    Rect {
+        lowX,
+        lowY,
+        highX,
+        highY,
+    }
+}
+
+// How far apart the ends of a valid rectangle are on one axis.
+fn span(low: i32, high: i32) -> u64
+    requires { ⌜ N.inRange low ≡ true ⌝ }
+    requires { ⌜ N.inRange high ≡ true ⌝ }
+    requires { ⌜ leZ low high ≡ true ⌝ }
+    ensures is { λ r. ⌜ pos r ≡ high -ℤ low ⌝ }
+    ensures small { λ r. ⌜ r ≤ 2000000000 ⌝ }
+{
+    (high as i64 - low as i64) as u64
+}
+
+// Width times height, 4,000,000,000,000,000,000 at most.
+pub fn area(r: Rect) -> u64
+    requires { ⌜ G.valid r ≡ true ⌝ }
+    ensures is { λ s. ⌜ pos s ≡ G.area r ⌝ }
+    ensures small { λ s. ⌜ s ≤ 4000000000000000000 ⌝ }
+{
+    span(r.lowX, r.highX) * span(r.lowY, r.highY)
+}
+
+// The area of the joint cover less a's.
+pub fn enlargement(a: Rect, b: Rect) -> u64
+    requires { ⌜ G.valid a ≡ true ⌝ }
+    requires { ⌜ G.valid b ≡ true ⌝ }
+    ensures is { λ s. ⌜ pos s ≡ G.enlargement a b ⌝ }
+    ensures small { λ s. ⌜ s ≤ 4000000000000000000 ⌝ }
+{
+    area(cover(a, b)) - area(a)
+}
+
+// PS1: d, which may be negative, and 8,000,000,000,000,000,000 more.
+pub fn waste(a: Rect, b: Rect) -> u64
+    requires { ⌜ G.valid a ≡ true ⌝ }
+    requires { ⌜ G.valid b ≡ true ⌝ }
+    ensures { λ s. ⌜ subℕ s 8000000000000000000 ≡ G.waste a b ⌝ }
+{
+    area(cover(a, b)) + (8000000000000000000 - (area(a) + area(b)))
+}
