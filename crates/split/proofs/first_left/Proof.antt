@@ -1,0 +1,67 @@
+use mathlib.Core.Bool.{Bool, false}
+use lib.ListN.{length, getD, drop}
+use Rattle.split.proofs.Nexts.{not-true, not-false, first-here, first-later, first-never}
+use borrow.Author.Needs.{needs}
+use mathlib.Core.Path.{_≡_, sym, _∙_}
+use mathlib.Core.List.{List}
+use Prim.Native.Nat.{ℕ, _-_, _≤_, _<_}
+use native.Mathlib.Omega.{arith}
+use Rattle.split.specs.State.{unjoined, firstOf}
+use Rattle.split.proofs.first_left.Statement.{statement}
+use Rattle.split.proofs.first_left.Tie as tie
+use Rattle.split.proofs.first_left.Reads as reads
+use Rattle.split.proofs.first_left.Lts as lts
+
+-- the places from i on have the same first as all
+record Turn (joined : List Bool) (i : ℕ) : Type 0 where
+  most : i ≤ 9
+  nine : length joined ≡ 9
+  rest : firstOf (unjoined (drop i joined) i) ≡ firstOf (unjoined joined 0)
+
+abbrev Inv-loop : tie.InvT-loop
+Inv-loop joined i₀ i = Turn joined i
+
+abbrev μ-loop : tie.MeasureT-loop
+μ-loop joined i₀ i = 9 - i
+
+-- src/lib.rt:146:5
+loop-holds : tie.Need-loop-holds Inv-loop μ-loop
+loop-holds c = search needs
+
+-- src/lib.rt:147:13
+array-read-if1 : tie.Need-array-read-if1 Inv-loop μ-loop
+array-read-if1 c = search needs
+
+-- src/lib.rt:148:13
+returns : tie.Need-returns Inv-loop μ-loop
+returns c = let l = c .before .before .loop in let m = c .before .before .before .args .t1 in let k : l .i < length m = omega arith in (sym (first-here m (l .i) k (not-true (getD m (l .i) false) (c .if1 .taken))) ∙ l .inv .rest, c .before .loop-test .taken)
+
+-- src/lib.rt:150:9
+add-i : tie.Need-add-i Inv-loop μ-loop
+add-i c = search needs
+
+-- src/lib.rt:146:5
+loop-less : tie.Need-loop-less Inv-loop μ-loop
+loop-less c = search needs
+
+-- src/lib.rt:146:5
+loop-again : tie.Need-loop-again Inv-loop μ-loop
+loop-again c = let l = c .before .before .loop in let m = c .before .before .before .args .t1 in let k : l .i < length m = omega arith in record { most = omega arith; nine = l .inv .nine; rest = sym (first-later m (l .i) k (not-false (getD m (l .i) false) (c .if1 .left))) ∙ l .inv .rest }
+
+-- src/lib.rt:142:1
+returns-2 : tie.Need-returns-2 Inv-loop μ-loop
+returns-2 c = let l = c .before .loop in let m = c .before .before .args .t1 in let k : length m ≤ l .i = omega arith in (sym (first-never m (l .i) k) ∙ l .inv .rest, omega arith)
+
+pub first-left-spec : {M : Type 1} → statement M
+first-left-spec =
+    tie.close
+    (tie.spec
+    Inv-loop
+    μ-loop
+    loop-holds
+    array-read-if1
+    returns
+    add-i
+    loop-less
+    loop-again
+    returns-2)

@@ -1,0 +1,113 @@
+use borrow.Author.Needs.{needs}
+use mathlib.Core.Path.{_≡_, sym, _∙_}
+use mathlib.Core.Bool.{Bool, true, false, cond}
+use mathlib.Core.List.{List}
+use Prim.Native.Nat.{ℕ, _+_, _-_, _≤_, _<_}
+use native.Mathlib.Omega.{arith}
+use lib.ListN.{length, getD}
+use Rattle.rules.specs.declared.Rect.{Rect}
+use Rattle.rules.specs.Choose.{rectFrom}
+use Rattle.rules.specs.Split.{preference, mostPreferring}
+use Rattle.split.specs.declared.Next.{Next}
+use Rattle.split.specs.State.{widerNext, unjoined}
+use Rattle.split.proofs.Nexts.{ahead, next-key, next-step, next-none, next-first}
+use Rattle.split.proofs.pick_next.Statement.{statement}
+use Rattle.split.proofs.pick_next.Tie as tie
+use Rattle.split.proofs.pick_next.Reads as reads
+use Rattle.split.proofs.pick_next.Lts as lts
+use Rattle.split.proofs.first_left.Reads as first-left-reads
+use Rattle.split.proofs.look.Reads as look-reads
+use Rattle.split.proofs.preference.Reads as preference-reads
+
+-- the key is the place's preference, and the places from i on give what all give
+record Turn (one two : Rect) (nine : List Rect) (joined : List Bool) (best : Next) (i : ℕ) : Type 0 where
+  most : i ≤ 9
+  marks : length joined ≡ 9
+  key : best .key ≡ preference nine one two (best .at)
+  rest : ahead nine one two joined (best .at) i ≡ mostPreferring nine one two (unjoined joined 0)
+
+-- a turn, whether the place has a group or not
+turn : {one two : Rect} {nine : List Rect} {joined : List Bool} {best : Next} {i : ℕ} → Turn one two nine joined best i → i < 9
+    → Turn one two nine joined (cond (getD joined i false) best (widerNext nine one two best i)) (i + 1)
+turn {one} {two} {nine} {joined} {best} {i} u h =
+    let l : i < length joined = omega arith in
+    record {
+      most = omega arith;
+      marks = u .marks;
+      key = kept (getD joined i false);
+      rest = sym (next-step nine one two joined best i l (u .key)) ∙ u .rest;
+    }
+  where
+    kept : (t : Bool) → (cond t best (widerNext nine one two best i)) .key ≡ preference nine one two ((cond t best (widerNext nine one two best i)) .at)
+    kept true = u .key
+    kept false = next-key nine one two best i (u .key)
+
+abbrev Inv-loop : tie.InvT-loop
+Inv-loop one two nine joined at key best₀ i₀ best i = Turn one two nine joined best i
+
+abbrev μ-loop : tie.MeasureT-loop
+μ-loop one two nine joined at key best₀ i₀ best i = 9 - i
+
+-- src/lib.rt:163:9
+first-left-requires : tie.Need-first-left-requires Inv-loop μ-loop
+first-left-requires c κs = search needs
+
+-- src/lib.rt:164:26
+mul-preference : tie.Need-mul-preference Inv-loop μ-loop
+mul-preference c = omega (arith, c .first-left .ensures .1)
+
+-- src/lib.rt:164:26
+array-copy-out-preference : tie.Need-array-copy-out-preference Inv-loop μ-loop
+array-copy-out-preference c = c .first-left .ensures .1
+
+-- src/lib.rt:164:9
+preference-requires : tie.Need-preference-requires Inv-loop μ-loop
+unfolding rectFrom
+preference-requires c κs = let s = c .before .before in (s .pre .0 .ok (c .before .first-left .result) (c .before .first-left .ensures .1), (s .pre .1 .0, s .pre .1 .1))
+
+-- src/lib.rt:167:5
+loop-holds : tie.Need-loop-holds Inv-loop μ-loop
+unfolding preference rectFrom
+loop-holds c = let s = c .before .before .before in let f = c .before .before .first-left .ensures .0 in record { most = omega arith; marks = search needs; key = c .preference .ensures; rest = rw f (next-first (s .args .t1) (s .args .one) (s .args .two) (unjoined (s .args .t2) 0)) }
+
+-- src/lib.rt:168:30
+array-read-look : tie.Need-array-read-look Inv-loop μ-loop
+array-read-look c = search needs
+
+-- src/lib.rt:168:9
+look-requires : tie.Need-look-requires Inv-loop μ-loop
+look-requires c κs = let s = c .before .before .before .before .before in (s .pre .0, (c .loop-test .taken, (s .pre .1 .0, s .pre .1 .1)))
+
+-- src/lib.rt:169:9
+add-i : tie.Need-add-i Inv-loop μ-loop
+add-i c = search needs
+
+-- src/lib.rt:167:5
+loop-less : tie.Need-loop-less Inv-loop μ-loop
+loop-less c = search needs
+
+-- src/lib.rt:167:5
+loop-again : tie.Need-loop-again Inv-loop μ-loop
+loop-again c = rw (c .look .ensures) (turn (c .before .before .loop .inv) (c .before .loop-test .taken))
+
+-- src/lib.rt:157:1
+returns : tie.Need-returns Inv-loop μ-loop
+returns c = let s = c .before .before .before .before .before in let l = c .before .loop in let k : length (s .args .t2) ≤ l .i = omega arith in sym (next-none (s .args .t1) (s .args .one) (s .args .two) (s .args .t2) (l .best .at) (l .i) k) ∙ l .inv .rest
+
+pub pick-next-spec : {M : Type 1} → statement M
+pick-next-spec =
+    tie.close
+    (tie.spec
+    Inv-loop
+    μ-loop
+    first-left-requires
+    mul-preference
+    array-copy-out-preference
+    preference-requires
+    loop-holds
+    array-read-look
+    look-requires
+    add-i
+    loop-less
+    loop-again
+    returns)

@@ -1,0 +1,83 @@
+use borrow.Author.Needs.{needs}
+use mathlib.Core.Path.{_≡_, sym, _∙_}
+use mathlib.Core.List.{List}
+use Prim.Native.Nat.{ℕ, _-_, _≤_}
+use native.Mathlib.Omega.{arith}
+use Rattle.rules.specs.declared.Rect.{Rect}
+use Rattle.rules.specs.Choose.{rectFrom}
+use Rattle.rules.specs.Split.{wasteOf, pickSeeds}
+use Rattle.split.specs.declared.Pair.{Pair}
+use Rattle.split.specs.State.{Keyed, placesOf}
+use Rattle.split.proofs.Seeds.{outer, outer-step, outer-none, outer-all}
+use Rattle.split.proofs.pick_seeds.Statement.{statement}
+use Rattle.split.proofs.pick_seeds.Tie as tie
+use Rattle.split.proofs.pick_seeds.Reads as reads
+use Rattle.split.proofs.pick_seeds.Lts as lts
+use Rattle.geometry.proofs.waste.Reads as waste-reads
+use Rattle.split.proofs.pairs_of.Reads as pairs-of-reads
+
+-- the pair is keyed, and the first members from i on give what all give
+record Round (nine : List Rect) (b : Pair) (i : ℕ) : Type 0 where
+  most : i ≤ 9
+  keyed : Keyed nine b
+  rest : outer nine (placesOf b) i ≡ pickSeeds nine
+
+abbrev Inv-loop : tie.InvT-loop
+Inv-loop nine key b₀ i₀ b i = Round nine b i
+
+abbrev μ-loop : tie.MeasureT-loop
+μ-loop nine key b₀ i₀ b i = 9 - i
+
+-- src/lib.rt:64:31
+array-copy-out-waste : tie.Need-array-copy-out-waste Inv-loop μ-loop
+array-copy-out-waste c = search needs
+
+-- src/lib.rt:64:40
+array-copy-out-waste-2 : tie.Need-array-copy-out-waste-2 Inv-loop μ-loop
+array-copy-out-waste-2 c = search needs
+
+-- src/lib.rt:64:9
+waste-requires : tie.Need-waste-requires Inv-loop μ-loop
+unfolding rectFrom
+waste-requires c κs = let s = c .before .before in (s .pre .ok 0 (omega arith), s .pre .ok 1 (omega arith))
+
+-- src/lib.rt:71:5
+loop-holds : tie.Need-loop-holds Inv-loop μ-loop
+unfolding wasteOf rectFrom
+loop-holds c = let s = c .before .before .before in record { most = omega arith; keyed = record { order = omega arith; inside = omega arith; key = c .waste .ensures }; rest = outer-all (s .args .t1) (s .pre .nine) }
+
+-- src/lib.rt:72:9
+pairs-of-requires : tie.Need-pairs-of-requires Inv-loop μ-loop
+pairs-of-requires c κs = let s = c .before .before .before .before .before in (s .pre, (c .loop-test .taken, c .before .loop .inv .keyed))
+
+-- src/lib.rt:73:9
+add-i : tie.Need-add-i Inv-loop μ-loop
+add-i c = search needs
+
+-- src/lib.rt:71:5
+loop-less : tie.Need-loop-less Inv-loop μ-loop
+loop-less c = search needs
+
+-- src/lib.rt:71:5
+loop-again : tie.Need-loop-again Inv-loop μ-loop
+loop-again c = let s = c .before .before .before .before .before .before in let l = c .before .before .loop in record { most = omega arith; keyed = c .pairs-of .ensures .1; rest = rw (c .pairs-of .ensures .0) (sym (outer-step (s .args .t1) (placesOf (l .b)) (l .i) (c .before .loop-test .taken)) ∙ l .inv .rest) }
+
+-- src/lib.rt:59:1
+returns : tie.Need-returns Inv-loop μ-loop
+returns c = let s = c .before .before .before .before .before in let l = c .before .loop in (sym (outer-none (s .args .t1) (placesOf (l .b)) (l .i) (c .loop-test .left)) ∙ l .inv .rest, l .inv .keyed)
+
+pub pick-seeds-spec : {M : Type 1} → statement M
+pick-seeds-spec =
+    tie.close
+    (tie.spec
+    Inv-loop
+    μ-loop
+    array-copy-out-waste
+    array-copy-out-waste-2
+    waste-requires
+    loop-holds
+    pairs-of-requires
+    add-i
+    loop-less
+    loop-again
+    returns)

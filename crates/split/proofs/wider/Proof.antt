@@ -1,0 +1,16 @@
+use borrow.Author.Tests.{lt-ltb, le-ltb}
+use Rattle.split.proofs.wider.Statement.{statement}
+use Rattle.split.proofs.wider.Tie as tie
+use Rattle.split.proofs.wider.Reads as reads
+use Rattle.split.proofs.wider.Lts as lts
+
+-- src/lib.rt:116:1
+returns : tie.Need-returns
+returns c = rw (lt-ltb _ _ (c .if1 .taken))
+
+-- src/lib.rt:116:1
+returns-2 : tie.Need-returns-2
+returns-2 c = rw (le-ltb _ _ (c .if1 .left))
+
+pub wider-spec : {M : Type 1} → statement M
+wider-spec = tie.close (tie.spec returns returns-2)

@@ -1,0 +1,172 @@
+// Guttman's quadratic split of nine rectangles into two groups, with the ties of document 01. It knows nothing of pools: a place is a
+// position among the nine, from 0.
+ghost use mathlib.Core.Path.{_≡_};
+ghost use mathlib.Core.Bool.{true, cond};
+ghost use mathlib.Core.List.{map};
+ghost use Prim.Native.Nat.{ℕ, _+_, _-_, _≤_, _<_};
+ghost use lib.Dec.{ltb, leb};
+ghost use lib.ListN.{take, getD};
+ghost use lib.IntN.{natAbs, _-ℤ_};
+ghost use Rattle.rules.specs.Lists.{earliestBest, upFrom};
+ghost use Rattle.rules.specs.Geometry as G;
+ghost use Rattle.rules.specs.Split as S;
+ghost use Rattle.split.specs.State.{AllValid, Keyed, wastesMore, placesOf, widerNext, unjoined, firstOf};
+use rules::Rect;
+
+// ---- PickSeeds
+
+// Two places, the earlier first, and their d as `geometry::waste` counts it.
+pub struct Pair {
+    pub first: usize,
+    pub second: usize,
+    pub key: u64,
+}
+
+// PS2: largest d; a tie stays with the earlier.
+fn keep(best: Pair, other: Pair) -> Pair
+    ensures { λ r. ⌜ r ≡ cond (ltb (best .key) (other .key)) other best ⌝ }
+{
+    if best.key < other.key { other } else { best }
+}
+
+// PS1 for one first member: the best pair so far, and those of the place i with each later one.
+fn pairs_of(nine: [Rect; 9], i: usize, best: Pair) -> Pair
+    requires { ⌜ AllValid nine ⌝ }
+    requires { ⌜ i < 9 ⌝ }
+    requires { ⌜ Keyed nine best ⌝ }
+    ensures is { λ r. ⌜ placesOf r ≡ earliestBest (wastesMore nine) (placesOf best) (map (S.seeds i) (upFrom (i + 1) (9 - (i + 1)))) ⌝ }
+    ensures keyed { λ r. ⌜ Keyed nine r ⌝ }
+{
+    let a = nine[i];
+    let mut b = best;
+    let mut j = i + 1;
+    while j < 9 {
+        let key = geometry::waste(a, nine[j]);
+        b = keep(
+            b,
+            Pair {
+                first: i,
+                second: j,
+                key,
+            },
+        );
+        j += 1;
+    }
+    b
+}
+
+// Largest d, then earliest first member, then earliest second.
+pub fn pick_seeds(nine: [Rect; 9]) -> Pair
+    requires { ⌜ AllValid nine ⌝ }
+    ensures is { λ r. ⌜ placesOf r ≡ S.pickSeeds nine ⌝ }
+    ensures keyed { λ r. ⌜ Keyed nine r ⌝ }
+{
+    let key = geometry::waste(nine[0], nine[1]);
+    let mut b = Pair {
+        first: 0,
+        second: 1,
+        key,
+    };
+    let mut i: usize = 0;
+    while i < 9 {
+        b = pairs_of(nine, i, b);
+        i += 1;
+    }
+    b
+}
+
+// ---- the groups
+
+// Two groups of places in the order of joining, with their covers, and for each place whether it has a group.
+pub struct Groups {
+    pub joined: [bool; 9],
+    pub one: [usize; 9],
+    pub ones: usize,
+    pub two: [usize; 9],
+    pub twos: usize,
+    pub coverOne: Rect,
+    pub coverTwo: Rect,
+}
+
+// ---- PickNext
+
+fn apart(x: u64, y: u64) -> u64
+    ensures { λ r. ⌜ r ≡ (x - y) + (y - x) ⌝ }
+{
+    if x < y { y - x } else { x - y }
+}
+
+// PN1: the absolute difference of the two enlargements.
+fn preference(r: Rect, one: Rect, two: Rect) -> u64
+    requires { ⌜ G.valid r ≡ true ⌝ }
+    requires { ⌜ G.valid one ≡ true ⌝ }
+    requires { ⌜ G.valid two ≡ true ⌝ }
+    ensures { λ s. ⌜ s ≡ natAbs (G.enlargement one r -ℤ G.enlargement two r) ⌝ }
+{
+    apart(geometry::enlargement(one, r), geometry::enlargement(two, r))
+}
+
+// A place, and its preference.
+pub struct Next {
+    pub at: usize,
+    pub key: u64,
+}
+
+// PN2: largest difference; a tie stays with the earlier.
+fn wider(best: Next, at: usize, key: u64) -> Next
+    ensures { λ r. ⌜ r ≡ cond (ltb (best .key) key) (record { at = at; key = key }) best ⌝ }
+{
+    if best.key < key {
+        Next { at, key }
+    } else {
+        best
+    }
+}
+
+// The place i is looked at, unless it has a group.
+fn look(nine: [Rect; 9], i: usize, joined: bool, one: Rect, two: Rect, best: Next) -> Next
+    requires { ⌜ AllValid nine ⌝ }
+    requires { ⌜ i < 9 ⌝ }
+    requires { ⌜ G.valid one ≡ true ⌝ }
+    requires { ⌜ G.valid two ≡ true ⌝ }
+    ensures { λ r. ⌜ r ≡ cond joined best (widerNext nine one two best i) ⌝ }
+{
+    if joined {
+        return best;
+    }
+    let key = preference(nine[i], one, two);
+    wider(best, i, key)
+}
+
+// The first place that has no group, or 0.
+fn first_left(joined: [bool; 9]) -> usize
+    ensures is { λ r. ⌜ r ≡ firstOf (unjoined joined 0) ⌝ }
+    ensures small { λ r. ⌜ r < 9 ⌝ }
+{
+    let mut i = 0;
+    while i < 9 {
+        if !joined[i] {
+            return i;
+        }
+        i += 1;
+    }
+    0
+}
+
+// Largest absolute difference of the two enlargements, then earliest.
+fn pick_next(nine: [Rect; 9], joined: [bool; 9], one: Rect, two: Rect) -> usize
+    requires { ⌜ AllValid nine ⌝ }
+    requires { ⌜ G.valid one ≡ true ⌝ }
+    requires { ⌜ G.valid two ≡ true ⌝ }
+    ensures { λ r. ⌜ r ≡ S.mostPreferring nine one two (unjoined joined 0) ⌝ }
+{
+    let at = first_left(joined);
+    let key = preference(nine[at], one, two);
+    let mut best = Next { at, key };
+    let mut i: usize = 0;
+    while i < 9 {
+        best = look(nine, i, joined[i], one, two, best);
+        i += 1;
+    }
+    best.at
+}
