@@ -1,18 +1,18 @@
 -- The measures of valid rectangles: they are naturals, they fit 64 bits, and a cover is valid and no smaller than what it covers. Each
 -- is proved of boxes of naturals, where `omega` can work, and carried over.
 use mathlib.Core.Path.{_≡_, refl, sym, ap, ap₂, _∙_}
-use mathlib.Core.Bool.{Bool, true, false, cond, _&&_}
+use mathlib.Core.Bool.{Bool, true, false, cond}
 use Prim.Native.Nat.{ℕ, suc, _≤_, _*_, _-_, _+_, min, max}
 use native.Mathlib.Nat.{mul-le-mul}
 use native.Mathlib.Omega.{arith}
-use lib.Dec.{leb, ltb}
-use lib.IntN.{ℤ, pos, _-ℤ_, subℕ}
+use lib.Dec.{ltb}
+use lib.IntN.{ℤ, pos, subℕ}
 use lib.Signed.{leZ, ltZ}
 use borrow.Author.Tests.{leb-true, leb-false, le-leb}
 use Rattle.rules.specs.declared.Rect.{Rect}
 use Rattle.rules.specs.Numbers.{inRange}
 use Rattle.rules.specs.Geometry.{valid, smaller, larger, cover, area}
-use Rattle.geometry.proofs.Ints.{and-both, leb-same, off, off-le, off-order, le-off, sub-off, sub-pos, sub-same, pos-minus, sub-minus, sub-lt}
+use Rattle.geometry.proofs.Ints.{and-both, leb-same, off, off-le, off-order, le-off, sub-off, sub-lt}
 
 -- ---- the parts of `valid`
 

@@ -1,2 +1,7 @@
 -- Laws of the definitions of document 01.
+pub mod Orders
+pub mod Places
+pub mod Parts
+pub mod Earliest
 pub mod Picks
+pub mod Splits

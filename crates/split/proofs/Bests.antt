@@ -1,7 +1,7 @@
 -- `earliestBest` one candidate at a time, as a loop goes through them.
 use mathlib.Core.Path.{_≡_, refl}
-use mathlib.Core.Bool.{Bool, true, false, cond}
-use mathlib.Core.List.{List, [], _∷_, _++_}
+use mathlib.Core.Bool.{Bool, cond}
+use mathlib.Core.List.{List, [], _∷_}
 use Prim.Native.Nat.{ℕ, suc, _+_, _-_, _≤_, _<_}
 use native.Mathlib.Numerals.{add-one}
 use native.Mathlib.Omega.{arith}
@@ -15,11 +15,6 @@ module _ {A : Type 0} (better : A → A → Bool) where
   pub best-cons : (x y : A) (ys : List A) → earliestBest better x (y ∷ ys) ≡ earliestBest better (cond (better y x) y x) ys
   unfolding earliestBest
   best-cons x y ys = refl
-
-  pub best-append : (x : A) (ys zs : List A) → earliestBest better x (ys ++ zs) ≡ earliestBest better (earliestBest better x ys) zs
-  unfolding earliestBest
-  best-append x [] zs = refl
-  best-append x (y ∷ ys) zs = best-append (cond (better y x) y x) ys zs
 
 -- the numbers from i to n
 pub up-more : (i n : ℕ) → i < n → upFrom i (n - i) ≡ i ∷ upFrom (i + 1) (n - (i + 1))

@@ -2,3 +2,7 @@
 pub mod Bests
 pub mod Seeds
 pub mod Nexts
+pub mod Joins
+pub mod Steps
+pub mod Turns
+pub mod Starts

@@ -1,7 +1,7 @@
 -- A turn of each of PickSeeds' two loops: the pair kept is the one that `earliestBest` keeps, since keys compare as d does.
-use mathlib.Core.Path.{_≡_, refl, sym, ap, _∙_}
+use mathlib.Core.Path.{_≡_, refl}
 use mathlib.Core.Bool.{Bool, true, false, cond}
-use mathlib.Core.List.{List, [], _∷_, _++_, map}
+use mathlib.Core.List.{List, [], _++_, map}
 use Prim.Native.Nat.{ℕ, suc, _+_, _-_, _≤_, _<_}
 use native.Mathlib.Numerals.{add-one}
 use native.Mathlib.Omega.{arith}
@@ -10,10 +10,11 @@ use lib.ListN.{length}
 use Rattle.rules.specs.declared.Rect.{Rect}
 use Rattle.rules.specs.Lists.{earliestBest, upFrom}
 use Rattle.rules.specs.Split.{Seeds, seeds, pairsFrom, wasteOf, pickSeeds}
+use Rattle.laws.proofs.Earliest.{best-append}
 use Rattle.geometry.proofs.Measures.{waste-lt}
 use Rattle.split.specs.declared.Pair.{Pair}
-use Rattle.split.specs.State.{AllValid, Keyed, wastesMore, placesOf}
-use Rattle.split.proofs.Bests.{best-nil, best-cons, best-append, up-more, up-none}
+use Rattle.split.specs.State.{Keyed, wastesMore, placesOf}
+use Rattle.split.proofs.Bests.{best-nil, best-cons, up-more, up-none}
 
 -- the pair that the code keeps
 abbrev pub kept : Pair → Pair → Pair

@@ -5,11 +5,11 @@ use mathlib.Core.Bool.{Bool, true, false, cond}
 use mathlib.Core.List.{List, [], _∷_}
 use Prim.Native.Nat.{ℕ, suc, _+_, _-_, _≤_, _<_}
 use lib.Dec.{ltb}
-use lib.ListN.{length, take, getD}
+use lib.ListN.{length, take, getD, set}
 use lib.IntN.{subℕ}
 use lib.Signed.{ltZ}
 use Rattle.rules.specs.declared.Rect.{Rect}
-use Rattle.rules.specs.Geometry.{valid}
+use Rattle.rules.specs.Geometry.{valid, cover}
 use Rattle.rules.specs.Choose.{rectFrom}
 use Rattle.rules.specs.Split as S
 use Rattle.split.specs.declared.Pair.{Pair}
@@ -84,3 +84,43 @@ pub record Ok (rs : List Rect) (t : Groups) : Type 0 where
   pub coverTwo : t .coverTwo ≡ S.coverGroup rs (take (t .twos) (t .two))
   pub validOne : valid (t .coverOne) ≡ true
   pub validTwo : valid (t .coverTwo) ≡ true
+
+-- the two groups under each other's name
+abbrev pub flipped : Groups → Groups
+flipped t =
+    record {
+      joined = t .joined;
+      one = t .two;
+      ones = t .twos;
+      two = t .one;
+      twos = t .ones;
+      coverOne = t .coverTwo;
+      coverTwo = t .coverOne;
+    }
+
+-- .. and with the place k in group 1
+abbrev pub withOne : List Rect → Groups → ℕ → Groups
+withOne rs t k =
+    record {
+      joined = set (t .joined) k true;
+      one = set (t .one) (t .ones) k;
+      ones = t .ones + 1;
+      two = t .two;
+      twos = t .twos;
+      coverOne = cover (t .coverOne) (rectFrom rs k);
+      coverTwo = t .coverTwo;
+    }
+
+-- what the groups come to when all have joined
+unfoldable pub ends : List Rect → Groups → S.Groups
+ends rs t = S.distribute (S.pickNext rs) (S.joinsTwo rs) (remaining t) (groupsOf t)
+
+-- what a caller may go by: 3 to 6 places in each group, all of them places of the nine
+pub record Whole (t : Groups) : Type 0 where
+  pub all : t .ones + t .twos ≡ 9
+  pub ones : 3 ≤ t .ones
+  pub twos : 3 ≤ t .twos
+  pub one9 : length (t .one) ≡ 9
+  pub two9 : length (t .two) ≡ 9
+  pub inOne : (k : ℕ) → k < t .ones → getD (t .one) k 0 < 9
+  pub inTwo : (k : ℕ) → k < t .twos → getD (t .two) k 0 < 9

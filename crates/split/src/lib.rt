@@ -3,14 +3,14 @@
 ghost use mathlib.Core.Path.{_≡_};
 ghost use mathlib.Core.Bool.{true, cond};
 ghost use mathlib.Core.List.{map};
-ghost use Prim.Native.Nat.{ℕ, _+_, _-_, _≤_, _<_};
-ghost use lib.Dec.{ltb, leb};
-ghost use lib.ListN.{take, getD};
-ghost use lib.IntN.{natAbs, _-ℤ_};
-ghost use Rattle.rules.specs.Lists.{earliestBest, upFrom};
+ghost use Prim.Native.Nat.{_+_, _-_, _<_};
+ghost use lib.Dec.{ltb};
+ghost use lib.ListN.{take};
+ghost use lib.IntN.{pos, natAbs, _-ℤ_};
+ghost use Rattle.rules.specs.Lists.{earliestBest, upFrom, lessThen};
 ghost use Rattle.rules.specs.Geometry as G;
 ghost use Rattle.rules.specs.Split as S;
-ghost use Rattle.split.specs.State.{AllValid, Keyed, wastesMore, placesOf, widerNext, unjoined, firstOf};
+ghost use Rattle.split.specs.State.{AllValid, Keyed, wastesMore, placesOf, widerNext, unjoined, firstOf, groupsOf, Free, Fill, Ok, flipped, withOne, ends, Whole};
 use rules::Rect;
 
 // ---- PickSeeds
@@ -169,4 +169,169 @@ fn pick_next(nine: [Rect; 9], joined: [bool; 9], one: Rect, two: Rect) -> usize
         i += 1;
     }
     best.at
+}
+
+// ---- the groups grow
+
+// Group 1 and group 2 change names.
+fn swapped(t: Groups) -> Groups
+    ensures { λ r. ⌜ r ≡ flipped t ⌝ }
+{
+    let joined = t.joined;
+    let one = t.two;
+    let two = t.one;
+    let coverOne = t.coverTwo;
+    let coverTwo = t.coverOne;
+    Groups {
+        joined,
+        one,
+        ones: t.twos,
+        two,
+        twos: t.ones,
+        coverOne,
+        coverTwo,
+    }
+}
+
+// The place k joins group 1, last.
+fn join_one(nine: [Rect; 9], t: Groups, k: usize) -> Groups
+    requires { ⌜ Ok nine t ⌝ }
+    requires { ⌜ Free t k ⌝ }
+    ensures { λ r. ⌜ r ≡ withOne nine t k ⌝ }
+{
+    let mut joined = t.joined;
+    let mut one = t.one;
+    let ones = t.ones;
+    let two = t.two;
+    let old = t.coverOne;
+    let coverTwo = t.coverTwo;
+    let coverOne = geometry::cover(old, nine[k]);
+    joined[k] = true;
+    one[ones] = k;
+    Groups {
+        joined,
+        one,
+        ones: ones + 1,
+        two,
+        twos: t.twos,
+        coverOne,
+        coverTwo,
+    }
+}
+
+// .. group 2.
+fn join_two(nine: [Rect; 9], t: Groups, k: usize) -> Groups
+    requires { ⌜ Ok nine t ⌝ }
+    requires { ⌜ Free t k ⌝ }
+    ensures { λ r. ⌜ r ≡ flipped (withOne nine (flipped t) k) ⌝ }
+{
+    swapped(join_one(nine, swapped(t), k))
+}
+
+// A rule and the next, twice: e below f; then a below b; then m below n.
+fn before(e: u64, f: u64, a: u64, b: u64, m: usize, n: usize) -> bool
+    ensures { λ r. ⌜ r ≡ lessThen (pos e) (pos f) (lessThen (pos a) (pos b) (ltb m n)) ⌝ }
+{
+    if e < f {
+        return true;
+    }
+    if f < e {
+        return false;
+    }
+    if a < b {
+        return true;
+    }
+    if b < a {
+        return false;
+    }
+    m < n
+}
+
+// Least enlargement, then smaller area, then fewer entries, then group 1: whether group 2 goes before group 1.
+fn second_first(r: Rect, one: Rect, two: Rect, ones: usize, twos: usize) -> bool
+    requires { ⌜ G.valid r ≡ true ⌝ }
+    requires { ⌜ G.valid one ≡ true ⌝ }
+    requires { ⌜ G.valid two ≡ true ⌝ }
+    ensures { λ s. ⌜ s ≡ S.secondFirst one two ones twos r ⌝ }
+{
+    let e = geometry::enlargement(two, r);
+    let f = geometry::enlargement(one, r);
+    let a = geometry::area(two);
+    let b = geometry::area(one);
+    before(e, f, a, b, twos, ones)
+}
+
+// QS2 and QS3: one place joins a group. Where a group needs all that are left, the first of them joins it, and so on to the last.
+fn assign(nine: [Rect; 9], t: Groups) -> Groups
+    requires { ⌜ AllValid nine ⌝ }
+    requires { ⌜ Ok nine t ⌝ }
+    requires { ⌜ (t .ones + t .twos < 9) × Fill t ⌝ }
+    ensures is { λ r. ⌜ ends nine r ≡ ends nine t ⌝ }
+    ensures ok { λ r. ⌜ Ok nine r ⌝ }
+    ensures count { λ r. ⌜ (r .ones + r .twos ≡ t .ones + t .twos + 1) × Fill r ⌝ }
+{
+    let ones = t.ones;
+    let twos = t.twos;
+    let left = 9 - (ones + twos);
+    let joined = t.joined;
+    if ones + left == 3 {
+        return join_one(nine, t, first_left(joined));
+    }
+    if twos + left == 3 {
+        return join_two(nine, t, first_left(joined));
+    }
+    let one = t.coverOne;
+    let two = t.coverTwo;
+    let at = pick_next(nine, joined, one, two);
+    if second_first(nine[at], one, two, ones, twos) {
+        return join_two(nine, t, at);
+    }
+    join_one(nine, t, at)
+}
+
+// QS1: the earlier seed opens group 1.
+fn begun(nine: [Rect; 9], i: usize, j: usize) -> Groups
+    requires { ⌜ AllValid nine ⌝ }
+    requires { ⌜ (i < j) × (j < 9) ⌝ }
+    ensures is { λ r. ⌜ groupsOf r ≡ S.opening 9 (S.seeds i j) ⌝ }
+    ensures ok { λ r. ⌜ Ok nine r ⌝ }
+    ensures count { λ r. ⌜ (r .ones ≡ 1) × (r .twos ≡ 1) ⌝ }
+{
+    let mut joined = [false; 9];
+    joined[i] = true;
+    joined[j] = true;
+    let mut one = [0usize; 9];
+    one[0] = i;
+    let mut two = [0usize; 9];
+    two[0] = j;
+    let coverOne = nine[i];
+    let coverTwo = nine[j];
+    Groups {
+        joined,
+        one,
+        ones: 1,
+        two,
+        twos: 1,
+        coverOne,
+        coverTwo,
+    }
+}
+
+// Nine rectangles in two groups, by Guttman's quadratic split.
+pub fn split_nine(nine: [Rect; 9]) -> Groups
+    requires { ⌜ AllValid nine ⌝ }
+    ensures one { λ r. ⌜ take (r .ones) (r .one) ≡ S.quadraticGroups nine .one ⌝ }
+    ensures two { λ r. ⌜ take (r .twos) (r .two) ≡ S.quadraticGroups nine .two ⌝ }
+    ensures whole { λ r. ⌜ Whole r ⌝ }
+{
+    let p = pick_seeds(nine);
+    let i = p.first;
+    let j = p.second;
+    let mut t = begun(nine, i, j);
+    let mut n: usize = 0;
+    while n < 7 {
+        t = assign(nine, t);
+        n += 1;
+    }
+    t
 }

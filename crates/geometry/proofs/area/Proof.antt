@@ -1,4 +1,4 @@
-use mathlib.Core.Path.{_≡_, refl, ap₂, _∙_}
+use mathlib.Core.Path.{_≡_, ap₂, _∙_}
 use Prim.Native.Nat.{_*_}
 use lib.IntN.{pos, _*ℤ_}
 use native.Mathlib.Nat.{mul-le-mul, lt-of-le-of-lt}

@@ -2,7 +2,7 @@ use lib.IntN.{subℕ}
 use Rattle.rules.specs.Split.{seeds, wasteOf}
 use Rattle.split.proofs.Seeds.{kept, inner, inner-step, inner-none, kept-places, kept-keyed}
 use borrow.Author.Needs.{needs}
-use mathlib.Core.Path.{_≡_, refl, sym, ap, ap₂, _∙_}
+use mathlib.Core.Path.{_≡_, refl, sym, _∙_}
 use mathlib.Core.List.{List}
 use Prim.Native.Nat.{ℕ, _+_, _-_, _≤_, _<_}
 use native.Mathlib.Omega.{arith}

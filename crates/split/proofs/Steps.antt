@@ -1,0 +1,189 @@
+-- One place joins a group, and what the groups come to stays the same. A forced joining takes the first of those left: then the group
+-- still needs all the others, so they join it in order.
+use mathlib.Core.Path.{_≡_, refl, sym, ap, _∙_}
+use mathlib.Core.Bool.{Bool, true, false, cond}
+use mathlib.Core.List.{List, [], _∷_, _++_, append-nil}
+use Prim.Native.Nat.{ℕ, zero, suc, _+_, _-_, _≤_, _<_}
+use native.Mathlib.Omega.{arith}
+use lib.ListN.{length, getD, length-append, length-take}
+use lib.Seq.{append-snoc}
+use borrow.Author.Tests.{eq-eqb, ne-eqb}
+use Rattle.rules.specs.declared.Rect.{Rect}
+use Rattle.rules.specs.Lists.{those, earliestBest}
+use Rattle.rules.specs.Choose.{earliest}
+use Rattle.rules.specs.Split as S
+use Rattle.split.specs.declared.Groups.{Groups}
+use Rattle.split.specs.State.{unjoined, firstOf, groupsOf, remaining, Free, Ok}
+use Rattle.split.proofs.Joins.{leaving-low}
+
+-- ---- `distribute` case by case
+
+module _ (next : S.Groups → ℕ) (toTwo : S.Groups → ℕ → Bool) (n : ℕ) (g : S.Groups) where
+  all-one : S.needsAll (g .one) (g .left) ≡ true → S.distribute next toTwo (suc n) g ≡ S.allJoinOne g
+  unfolding S.distribute
+  all-one e = rw (S.distribute, e)
+
+  module _ (e : S.needsAll (g .one) (g .left) ≡ false) where
+    all-two : S.needsAll (g .two) (g .left) ≡ true → S.distribute next toTwo (suc n) g ≡ S.allJoinTwo g
+    unfolding S.distribute
+    all-two f = rw (S.distribute, e, f)
+
+    module _ (f : S.needsAll (g .two) (g .left) ≡ false) where
+      pub next-two : toTwo g (next g) ≡ true → S.distribute next toTwo (suc n) g ≡ S.distribute next toTwo n (S.joinTwo (next g) g)
+      unfolding S.distribute
+      next-two h = rw (S.distribute, e, f, h)
+
+      pub next-one : toTwo g (next g) ≡ false → S.distribute next toTwo (suc n) g ≡ S.distribute next toTwo n (S.joinOne (next g) g)
+      unfolding S.distribute
+      next-one h = rw (S.distribute, e, f, h)
+
+pub none : (next : S.Groups → ℕ) (toTwo : S.Groups → ℕ → Bool) (g : S.Groups) → S.distribute next toTwo 0 g ≡ g
+unfolding S.distribute
+none next toTwo g = refl
+
+-- ---- a forced joining, one place at a time
+
+empty : (m : List ℕ) → length m ≡ 0 → m ≡ []
+empty [] e = refl
+empty (x ∷ m) e = absurd (omega arith)
+
+last-one : (a b m : List ℕ) → length m ≡ 0 → S.allJoinOne (record { one = a; two = b; left = m }) ≡ record { one = a; two = b; left = m }
+unfolding S.allJoinOne
+last-one a b m z = let e = empty m z in λ k. record { one = (ap (λ (x : List ℕ). a ++ x) e ∙ append-nil a) k; two = b; left = sym e k }
+
+last-two : (a b m : List ℕ) → length m ≡ 0 → S.allJoinTwo (record { one = a; two = b; left = m }) ≡ record { one = a; two = b; left = m }
+unfolding S.allJoinTwo
+last-two a b m z = let e = empty m z in λ k. record { one = a; two = (ap (λ (x : List ℕ). b ++ x) e ∙ append-nil b) k; left = sym e k }
+
+pub needs-if : (a b : List ℕ) → length a + length b ≡ 3 → S.needsAll a b ≡ true
+unfolding S.needsAll
+needs-if a b e = eq-eqb (length a + length b) 3 e
+
+pub needs-not : (a b : List ℕ) → (length a + length b ≡ 3 → ⊥) → S.needsAll a b ≡ false
+unfolding S.needsAll
+needs-not a b e = ne-eqb (length a + length b) 3 e
+
+module _ (next : S.Groups → ℕ) (toTwo : S.Groups → ℕ → Bool) (g : S.Groups) (i : ℕ) (rest : List ℕ) (l : g .left ≡ i ∷ rest) (q : S.leaving i (g .left) ≡ rest) where
+  size : length (g .left) ≡ suc (length rest)
+  size = ap length l
+
+  one-left : S.joinOne i g ≡ record { one = g .one ++ i ∷ []; two = g .two; left = rest }
+  unfolding S.joinOne
+  one-left = λ k. record { one = g .one ++ i ∷ []; two = g .two; left = q k }
+
+  two-left : S.joinTwo i g ≡ record { one = g .one; two = g .two ++ i ∷ []; left = rest }
+  unfolding S.joinTwo
+  two-left = λ k. record { one = g .one; two = g .two ++ i ∷ []; left = q k }
+
+  -- the rest joins group 1 after i
+  one-all : S.allJoinOne g ≡ S.allJoinOne (S.joinOne i g)
+  unfolding S.allJoinOne
+  one-all = rw one-left (λ k. record { one = (ap (λ (m : List ℕ). g .one ++ m) l ∙ sym (append-snoc (g .one) i rest)) k; two = g .two; left = [] })
+
+  two-all : S.allJoinTwo g ≡ S.allJoinTwo (S.joinTwo i g)
+  unfolding S.allJoinTwo
+  two-all = rw two-left (λ k. record { one = g .one; two = (ap (λ (m : List ℕ). g .two ++ m) l ∙ sym (append-snoc (g .two) i rest)) k; left = [] })
+
+  pub forced-one : (n : ℕ) → length rest ≡ n → length (g .one) + length (g .left) ≡ 3
+      → S.distribute next toTwo (suc n) g ≡ S.distribute next toTwo n (S.joinOne i g)
+  forced-one zero z e =
+      all-one next toTwo 0 g (needs-if (g .one) (g .left) e) ∙ one-all ∙ ap S.allJoinOne one-left
+      ∙ last-one (g .one ++ i ∷ []) (g .two) rest z ∙ sym one-left ∙ sym (none next toTwo (S.joinOne i g))
+  forced-one (suc n) z e =
+      let f : length (g .one ++ i ∷ []) + length rest ≡ 3 = omega (arith, size, length-append (g .one) (i ∷ [])) in
+      all-one next toTwo (suc n) g (needs-if (g .one) (g .left) e) ∙ one-all
+      ∙ sym (all-one next toTwo n (S.joinOne i g) (rw one-left (needs-if (g .one ++ i ∷ []) rest f)))
+
+  pub forced-two : (n : ℕ) → length rest ≡ n → length (g .two) + length (g .left) ≡ 3 → 4 ≤ length (g .one)
+      → S.distribute next toTwo (suc n) g ≡ S.distribute next toTwo n (S.joinTwo i g)
+  forced-two zero z e h =
+      all-two next toTwo 0 g (needs-not (g .one) (g .left) (λ x. omega arith)) (needs-if (g .two) (g .left) e) ∙ two-all ∙ ap S.allJoinTwo two-left
+      ∙ last-two (g .one) (g .two ++ i ∷ []) rest z ∙ sym two-left ∙ sym (none next toTwo (S.joinTwo i g))
+  forced-two (suc n) z e h =
+      let f : length (g .two ++ i ∷ []) + length rest ≡ 3 = omega (arith, size, length-append (g .two) (i ∷ [])) in
+      all-two next toTwo (suc n) g (needs-not (g .one) (g .left) (λ x. omega arith)) (needs-if (g .two) (g .left) e) ∙ two-all
+      ∙ sym (all-two next toTwo n (S.joinTwo i g) (rw two-left (needs-not (g .one) rest (λ x. omega arith))) (rw two-left (needs-if (g .two ++ i ∷ []) rest f)))
+
+-- ---- the places of a struct
+
+module _ {rs : List Rect} {t : Groups} (o : Ok rs t) where
+  pub size-one : length (groupsOf t .one) ≡ t .ones
+  unfolding groupsOf
+  size-one = length-take (t .ones) (t .one) ∙ omega (arith, o .all, o .one9)
+
+  pub size-two : length (groupsOf t .two) ≡ t .twos
+  unfolding groupsOf
+  size-two = length-take (t .twos) (t .two) ∙ omega (arith, o .all, o .two9)
+
+  pub size-left : length (groupsOf t .left) ≡ remaining t
+  unfolding groupsOf
+  size-left = omega (arith, o .all)
+
+-- ---- the places that may join are free
+
+-- each of a list
+abbrev All : (ℕ → Type 0) → List ℕ → Type 0
+All P [] = Unit {0}
+All P (i ∷ is) = P i × All P is
+
+all-map : (P Q : ℕ → Type 0) → ((k : ℕ) → P k → Q k) → (is : List ℕ) → All P is → All Q is
+all-map P Q f [] a = tt
+all-map P Q f (i ∷ is) a = (f i (a .0), all-map P Q f is (a .1))
+
+best-in : (P : ℕ → Type 0) (better : ℕ → ℕ → Bool) (x : ℕ) (ys : List ℕ) → P x → All P ys → P (earliestBest better x ys)
+unfolding earliestBest
+best-in P better x [] p a = p
+best-in P better x (y ∷ ys) p a = best-in P better (cond (better y x) y x) ys (go (better y x)) (a .1)
+  where
+    go : (t : Bool) → P (cond t y x)
+    go true = a .0
+    go false = p
+
+-- k is one of the places from i on, and has no mark
+record Open (js : List Bool) (i k : ℕ) : Type 0 where
+  low : i ≤ k
+  high : k < i + length js
+  free : getD js (k - i) false ≡ false
+
+later : (b : Bool) (js : List Bool) (i k : ℕ) → Open js (suc i) k → Open (b ∷ js) i k
+later b js i k u =
+    let e : k - i ≡ suc (k - suc i) = omega arith in
+    record { low = omega arith; high = omega arith; free = rw e (u .free) }
+
+all-open : (js : List Bool) (i : ℕ) → All (Open js i) (unjoined js i)
+unfolding unjoined
+all-open [] i = tt
+all-open (true ∷ js) i = all-map (Open js (suc i)) (Open (true ∷ js) i) (later true js i) (unjoined js (suc i)) (all-open js (suc i))
+all-open (false ∷ js) i =
+    let z : i - i ≡ 0 = omega arith in
+    (record { low = omega arith; high = omega arith; free = rw z refl }, all-map (Open js (suc i)) (Open (false ∷ js) i) (later false js i) (unjoined js (suc i)) (all-open js (suc i)))
+
+first-in : (P : ℕ → Type 0) (is : List ℕ) → 0 < length is → All P is → P (firstOf is)
+unfolding firstOf
+first-in P [] h a = absurd (omega arith)
+first-in P (i ∷ is) h a = a .0
+
+next-in : (P : ℕ → Type 0) (rs : List Rect) (a b : Rect) (is : List ℕ) → 0 < length is → All P is → P (S.mostPreferring rs a b is)
+unfolding S.mostPreferring earliest
+next-in P rs a b [] h x = absurd (omega arith)
+next-in P rs a b (i ∷ is) h x = best-in P _ i is (x .0) (x .1)
+
+module _ {rs : List Rect} {t : Groups} (o : Ok rs t) (h : t .ones + t .twos < 9) where
+  pub some-left : 0 < length (unjoined (t .joined) 0)
+  some-left = omega (arith, o .all)
+
+  free-of : (k : ℕ) → Open (t .joined) 0 k → Free t k
+  free-of k u = let z : k - 0 ≡ k = omega arith in record { inside = omega (arith, o .joined9, u .high); free = rw z at (u .free) }
+
+  pub first-free : Free t (firstOf (unjoined (t .joined) 0))
+  first-free = free-of _ (first-in (Open (t .joined) 0) (unjoined (t .joined) 0) some-left (all-open (t .joined) 0))
+
+  pub next-free : (a b : Rect) → Free t (S.mostPreferring rs a b (unjoined (t .joined) 0))
+  next-free a b = free-of _ (next-in (Open (t .joined) 0) rs a b (unjoined (t .joined) 0) some-left (all-open (t .joined) 0))
+
+-- the first of those left, and the others
+pub head-leaves : (js : List Bool) (i : ℕ) → 0 < length (unjoined js i) → unjoined js i ≡ firstOf (unjoined js i) ∷ S.leaving (firstOf (unjoined js i)) (unjoined js i)
+unfolding unjoined firstOf S.leaving those
+head-leaves [] i h = absurd (omega arith)
+head-leaves (true ∷ js) i h = head-leaves js (suc i) h
+head-leaves (false ∷ js) i h = rw (eq-eqb i i refl) (ap (λ (m : List ℕ). i ∷ m) (sym (leaving-low js (suc i) i (omega arith))))
