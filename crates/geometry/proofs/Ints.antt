@@ -11,20 +11,7 @@ use mir.Syntax.{w32, w64}
 use mir.Val.{SFits, toZ, ofZ}
 use mir.Facts.{toZ-ofZ, sfits-widen}
 use Rattle.rules.specs.Numbers.{inRange}
-
--- ---- tests
-
-pub and-both : (p q : Bool) → (p && q) ≡ true → (p ≡ true) × (q ≡ true)
-and-both true q e = (refl, e)
-and-both false q e = (e, ap (λ (b : Bool). cond b true q) e)
-
--- two tests that hold together
-pub leb-same : (a b c d : ℕ) → (a ≤ b → c ≤ d) → (b < a → d < c) → leb a b ≡ leb c d
-leb-same a b c d f g = go (leb a b) refl
-  where
-    go : (t : Bool) → leb a b ≡ t → leb a b ≡ leb c d
-    go true e = e ∙ sym (le-leb c d (f (leb-true a b e)))
-    go false e = e ∙ sym (lt-leb c d (g (leb-false a b e)))
+use Rattle.laws.proofs.Bools.{and-both, leb-same}
 
 -- ---- differences of two naturals
 

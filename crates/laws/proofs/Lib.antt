@@ -5,3 +5,4 @@ pub mod Parts
 pub mod Earliest
 pub mod Picks
 pub mod Splits
+pub mod Bools

@@ -28,14 +28,6 @@ abs-minus x y = rw (pos-minus x y) (go (ltb x y) refl)
     go true e = let l : x < y = ltb-true x y e in rw (sub-neg x y l) (omega arith)
     go false e = let l : y ≤ x = ltb-false x y e in rw (sub-pos x y l) (omega arith)
 
-pub not-true : (b : Bool) → not b ≡ true → b ≡ false
-not-true true e = sym e
-not-true false e = refl
-
-pub not-false : (b : Bool) → not b ≡ false → b ≡ true
-not-false true e = refl
-not-false false e = sym e
-
 -- ---- the places that have no group
 
 unjoined-cons : (b : Bool) (bs : List Bool) (i : ℕ) → unjoined (b ∷ bs) i ≡ cond b (unjoined bs (suc i)) (i ∷ unjoined bs (suc i))

@@ -1,0 +1,28 @@
+-- Tests: a conjunction and its parts, a negation, two tests that hold together.
+use mathlib.Core.Path.{_≡_, refl, sym, ap, _∙_}
+use mathlib.Core.Bool.{Bool, true, false, cond, not, _&&_}
+use Prim.Native.Nat.{ℕ, _≤_, _<_}
+use lib.Dec.{leb}
+use borrow.Author.Tests.{leb-true, leb-false, le-leb, lt-leb}
+
+pub and-both : (p q : Bool) → (p && q) ≡ true → (p ≡ true) × (q ≡ true)
+and-both true q e = (refl, e)
+and-both false q e = (e, ap (λ (b : Bool). cond b true q) e)
+
+pub both-and : (p q : Bool) → p ≡ true → q ≡ true → (p && q) ≡ true
+both-and p q e f = rw (e, f)
+
+pub not-true : (b : Bool) → not b ≡ true → b ≡ false
+not-true true e = sym e
+not-true false e = refl
+
+pub not-false : (b : Bool) → not b ≡ false → b ≡ true
+not-false true e = refl
+not-false false e = sym e
+
+pub leb-same : (a b c d : ℕ) → (a ≤ b → c ≤ d) → (b < a → d < c) → leb a b ≡ leb c d
+leb-same a b c d f g = go (leb a b) refl
+  where
+    go : (t : Bool) → leb a b ≡ t → leb a b ≡ leb c d
+    go true e = e ∙ sym (le-leb c d (f (leb-true a b e)))
+    go false e = e ∙ sym (lt-leb c d (g (leb-false a b e)))

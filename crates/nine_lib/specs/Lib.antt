@@ -1,0 +1,2 @@
+-- What the program `nine` prints for a set of nine rectangles.
+pub mod Sets

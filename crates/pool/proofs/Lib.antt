@@ -1,0 +1,3 @@
+-- Laws of the layout that the proofs of `pool` and of the crates above it cite.
+pub mod Parts
+pub mod Naturals

@@ -1,0 +1,28 @@
+-- A word as a natural number.
+use mathlib.Core.Path.{_≡_, refl, sym, ap, _∙_}
+use mathlib.Core.Bool.{Bool, true, false, cond}
+use Prim.Native.Nat.{ℕ, _<_}
+use native.Mathlib.Omega.{arith}
+use lib.Dec.{T, leb·zero}
+use lib.IntN.{ℤ, pos, negsuc, natAbs}
+use lib.Signed.{leZ, nonNeg}
+use mir.Syntax.{w32, w64}
+use mir.Val.{SFits, Fits}
+use Rattle.rules.specs.Layout.{natural}
+
+wrong : {X : Type 0} → false ≡ true → X
+wrong e = absurd (omega (arith, ap (λ (b : Bool). cond {A = ℕ} b 1 0) e))
+
+pub up : (z : ℤ) → leZ (pos 0) z ≡ true → SFits w32 z → T (nonNeg z) × Fits w64 (natAbs z)
+up (pos n) e f = (tt, record { fits = omega (arith, f .sfits) })
+up (negsuc n) e f = wrong e
+
+pub natural-up : (z : ℤ) → leZ (pos 0) z ≡ true → natAbs z ≡ natural z
+unfolding natural
+natural-up (pos n) e = refl
+natural-up (negsuc n) e = wrong e
+
+pub natural-down : (z : ℤ) → leZ (pos 0) z ≡ false → 0 ≡ natural z
+unfolding natural
+natural-down (pos n) e = wrong (sym e ∙ leb·zero n)
+natural-down (negsuc n) e = refl

@@ -1,0 +1,27 @@
+use lib.ListN.{getD}
+use lib.IntN.{pos}
+use mir.Syntax.{w32}
+use mir.Facts.{toZ-ofZ}
+use borrow.Author.Needs.{sfits-of}
+use Rattle.rules.specs.Layout.{wordAt}
+use borrow.Author.Needs.{needs}
+use Rattle.pool.proofs.word.Statement.{statement}
+use Rattle.pool.proofs.word.Tie as tie
+use Rattle.pool.proofs.word.Reads as reads
+use Rattle.pool.proofs.word.Lts as lts
+
+-- src/lib.rt:27:5
+mul-result : tie.Need-mul-result
+mul-result c = search needs
+
+-- src/lib.rt:27:5
+shared-slice-copy-out-result : tie.Need-shared-slice-copy-out-result
+shared-slice-copy-out-result c = search needs
+
+-- src/lib.rt:23:1
+returns : tie.Need-returns
+unfolding wordAt
+returns c = toZ-ofZ {w = w32} {z = getD (c .before .args .pool .now) (c .before .args .at) (pos 0)} (sfits-of (c .result .given))
+
+pub word-spec : {M : Type 1} → statement M
+word-spec = tie.close (tie.spec mul-result shared-slice-copy-out-result returns)
