@@ -6,3 +6,4 @@ pub mod Earliest
 pub mod Picks
 pub mod Splits
 pub mod Bools
+pub mod Turns

@@ -1,22 +1,20 @@
 -- What `read` reads of a slot stands in the slot's 42 words: runs of a width one behind the other are parts of the list.
 use mathlib.Core.Path.{_≡_, refl, sym, ap, subst, _∙_}
-use mathlib.Core.Bool.{Bool, true, false, _&&_}
+use mathlib.Core.Bool.{true}
 use mathlib.Core.List.{List, [], _∷_, map}
 use Prim.Native.Nat.{ℕ, zero, suc, _+_, _*_, _-_, _≤_, _<_, min}
 use native.Mathlib.Nat.{mul-zero, mul-suc}
 use native.Mathlib.Omega.{arith}
-use lib.Dec.{leb, eqb}
 use lib.ListN.{length, getD, take, drop, length-take, length-map, List·getD-map}
-use lib.Seq.{getD-take, getD-drop, drop-drop, take-take}
+use lib.Seq.{getD-take, getD-drop, drop-drop}
 use lib.IntN.{ℤ, pos}
 use borrow.Author.Tests.{leb-true, eqb-true}
 use Rattle.rules.specs.declared.Rect.{Rect}
 use Rattle.rules.specs.declared.SlotNumber.{SlotNumber}
-use Rattle.rules.specs.declared.Entry.{Entry}
 use Rattle.rules.specs.Geometry.{noRect}
 use Rattle.rules.specs.Choose.{rectFrom}
-use Rattle.rules.specs.Pool.{Node, Pool, rectangle, freeNode, nodeAt, entriesAt, rects}
-use Rattle.rules.specs.Layout.{headSize, entrySize, slotSize, slotCount, rightLength, natural, wordAt, runs, rectOf, pointerOf, entryOf, nodeOf, read}
+use Rattle.rules.specs.Pool.{Node, rectangle, freeNode, nodeAt, entriesAt, rects}
+use Rattle.rules.specs.Layout.{headSize, slotSize, slotCount, rightLength, natural, wordAt, runs, rectOf, entryOf, nodeOf, read}
 use Rattle.laws.proofs.Bools.{and-both}
 use Rattle.pool.specs.Slots.{InPool}
 
@@ -146,7 +144,7 @@ entry-word {w} {s} p i k h l =
 
 pub slot-rect : {w : List ℤ} {s : SlotNumber} → InPool w s → (i : ℕ) → i < length (entriesAt (read w) s)
     → rectFrom (rects (entriesAt (read w) s)) i
-      ≡ rectangle (wordAt w (startOf s + 2 + 5 * i)) (wordAt w (startOf s + 2 + 5 * i + 1)) (wordAt w (startOf s + 2 + 5 * i + 2)) (wordAt w (startOf s + 2 + 5 * i + 3))
+    ≡ rectangle (wordAt w (startOf s + 2 + 5 * i)) (wordAt w (startOf s + 2 + 5 * i + 1)) (wordAt w (startOf s + 2 + 5 * i + 2)) (wordAt w (startOf s + 2 + 5 * i + 3))
 unfolding entriesAt rectOf
 slot-rect {w} {s} p i h =
     let e = slot-node p in

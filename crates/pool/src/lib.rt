@@ -1,7 +1,6 @@
 // The pool, word by word: the one place of the code that knows where a word stands. What is read is what the definition `read` reads, of
 // any words of a right length.
 ghost use mathlib.Core.Path.{_≡_};
-ghost use mathlib.Core.Bool.{true, false};
 ghost use Prim.Native.Nat.{_+_, _-_, _*_, _<_, _≤_};
 ghost use lib.ListN.{length};
 ghost use Rattle.rules.specs.Layout as L;

@@ -1,5 +1,4 @@
 -- Laws that the proofs of `split` cite.
-pub mod Bests
 pub mod Seeds
 pub mod Nexts
 pub mod Joins

@@ -1,7 +1,7 @@
 -- The places that have no group, one at a time; and a turn of PickNext: the place kept is the one that `earliestBest` keeps, since its
 -- key is its preference.
-use mathlib.Core.Path.{_≡_, refl, sym, ap, _∙_}
-use mathlib.Core.Bool.{Bool, true, false, cond, not}
+use mathlib.Core.Path.{_≡_, refl, ap, _∙_}
+use mathlib.Core.Bool.{Bool, true, false, cond}
 use mathlib.Core.List.{List, [], _∷_}
 use Prim.Native.Nat.{ℕ, suc, _+_, _-_, _≤_, _<_}
 use native.Mathlib.Numerals.{add-one}
@@ -18,7 +18,7 @@ use Rattle.rules.specs.Split.{preference, mostPreferring}
 use Rattle.geometry.proofs.Ints.{sub-pos, sub-neg, pos-minus}
 use Rattle.split.specs.declared.Next.{Next}
 use Rattle.split.specs.State.{prefersMore, widerNext, unjoined, firstOf}
-use Rattle.split.proofs.Bests.{best-nil, best-cons}
+use Rattle.laws.proofs.Turns.{best-nil, best-cons}
 
 -- the difference of two naturals, without its sign
 pub abs-minus : (x y : ℕ) → natAbs (pos x -ℤ pos y) ≡ (x - y) + (y - x)

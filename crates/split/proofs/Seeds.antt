@@ -14,7 +14,7 @@ use Rattle.laws.proofs.Earliest.{best-append}
 use Rattle.geometry.proofs.Measures.{waste-lt}
 use Rattle.split.specs.declared.Pair.{Pair}
 use Rattle.split.specs.State.{Keyed, wastesMore, placesOf}
-use Rattle.split.proofs.Bests.{best-nil, best-cons, up-more, up-none}
+use Rattle.laws.proofs.Turns.{best-nil, best-cons, up-more, up-none}
 
 -- the pair that the code keeps
 abbrev pub kept : Pair → Pair → Pair

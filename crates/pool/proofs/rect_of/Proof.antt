@@ -4,7 +4,6 @@ use mir.Facts.{toZ-ofZ}
 use borrow.Author.Needs.{sfits-of}
 use native.Mathlib.Omega.{arith}
 use Rattle.pool.proofs.Parts.{few, room, slot-few, slot-rect}
-use borrow.Author.Needs.{needs}
 use Rattle.pool.proofs.rect_of.Statement.{statement}
 use Rattle.pool.proofs.rect_of.Tie as tie
 use Rattle.pool.proofs.rect_of.Reads as reads

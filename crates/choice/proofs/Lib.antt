@@ -1,0 +1,2 @@
+-- Laws that the proofs of `choice` cite.
+pub mod Turns

@@ -1,0 +1,2 @@
+-- What `choice` asks of a node's rectangles.
+pub mod State
