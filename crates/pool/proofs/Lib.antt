@@ -1,3 +1,5 @@
 -- Laws of the layout that the proofs of `pool` and of the crates above it cite.
 pub mod Parts
 pub mod Naturals
+pub mod Runs
+pub mod Written

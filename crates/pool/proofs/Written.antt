@@ -1,0 +1,237 @@
+-- What is written is read back: a node from its 42 words, a pool from all of them. And a node written into its slot is the node put into
+-- the pool.
+use mathlib.Core.Path.{_≡_, refl, sym, ap, ap₂, subst, _∙_}
+use mathlib.Core.Bool.{Bool, true, false}
+use mathlib.Core.List.{List, [], _∷_, _++_, map, append-nil}
+use Prim.Native.Nat.{ℕ, zero, suc, _+_, _*_, _-_, _/_, _≤_, _<_}
+use native.Mathlib.Nat.{mul-add-div}
+use native.Mathlib.Omega.{arith}
+use lib.ListN.{length, getD, set, take, drop, replicate, length-append, length-take, length-map, length-set, length-replicate, List·getD-map}
+use lib.Seq.{sets, length-sets, take-append-add, drop-at, take-length}
+use lib.Dec.{eqb}
+use lib.IntN.{ℤ, pos}
+use Rattle.rules.specs.declared.SlotNumber.{SlotNumber}
+use Rattle.rules.specs.declared.Pointer.the-variants.{Number, Child}
+use Rattle.rules.specs.declared.Entry.{Entry}
+use Rattle.rules.specs.Lists.{joined}
+use Rattle.rules.specs.Numbers.{most}
+use Rattle.rules.specs.Pool.{Node, Pool, slot, number, putNode}
+use Rattle.rules.specs.Layout.{slotSize, slotCount, rightLength, pointerWord, entryWords, padded, nodeWords, headWords, words, natural, wordAt, runs, rectOf, pointerOf, entryOf, nodeOf, read}
+use Rattle.laws.proofs.Places.{Each, each-at}
+use Rattle.pool.specs.Slots.{InPool, Fit}
+use Rattle.pool.proofs.Parts.{startOf, node-count, length-runs}
+use Rattle.pool.proofs.Runs.{Wide, length-joined, runs-joined, take-runs, sets-right, sets-all, sets-joined}
+
+-- ---- a node
+
+-- the pointer is of the level's kind
+abbrev pub Kind : ℕ → Entry → Type 0
+Kind l e = pointerOf l (pointerWord (e .pointer)) ≡ e .pointer
+
+-- a node that a slot can hold
+pub record Fine (n : Node) : Type 0 where
+  pub few : length (n .entries) ≤ 8
+  pub kinds : Each (Kind (n .level)) (n .entries)
+
+entry-back : (l : ℕ) (e : Entry) → Kind l e → entryOf l (entryWords e) ≡ e
+unfolding entryOf entryWords rectOf wordAt
+entry-back l e k = λ i. record { rect = e .rect; pointer = k i }
+
+entries-back : (l : ℕ) (es : List Entry) → Each (Kind l) es → map (entryOf l) (map entryWords es) ≡ es
+entries-back l [] k = refl
+entries-back l (e ∷ es) k = ap₂ (λ (a : Entry) (b : List Entry). a ∷ b) (entry-back l e (k .0)) (entries-back l es (k .1))
+
+entry-wide : (es : List Entry) → Wide 5 (map entryWords es)
+unfolding entryWords
+entry-wide [] = tt
+entry-wide (e ∷ es) = (refl, entry-wide es)
+
+module _ (es : List Entry) where
+  size : length (joined (map entryWords es)) ≡ 5 * length es
+  size = length-joined 5 (map entryWords es) (entry-wide es) ∙ ap (λ (n : ℕ). 5 * n) (length-map es entryWords)
+
+  -- the words of the entries, and zeros behind them
+  padded-is : length es ≤ 8 → padded 40 (joined (map entryWords es)) ≡ joined (map entryWords es) ++ take (40 - 5 * length es) (replicate 40 (pos 0))
+  unfolding padded
+  padded-is h =
+      let e : 40 ≡ length (joined (map entryWords es)) + (40 - 5 * length es) = omega (arith, size) in
+      ap (λ (n : ℕ). take n (joined (map entryWords es) ++ replicate 40 (pos 0))) e
+      ∙ take-append-add (joined (map entryWords es)) (replicate 40 (pos 0)) (40 - 5 * length es)
+
+pub node-size : (n : Node) → length (nodeWords n) ≡ 42
+unfolding nodeWords padded
+node-size n =
+    let w = joined (map entryWords (n .entries)) in
+    omega (arith, length-take 40 (w ++ replicate 40 (pos 0)), length-append w (replicate 40 (pos 0)), length-replicate 40 (pos 0))
+
+pub node-back : {n : Node} → Fine n → nodeOf (nodeWords n) ≡ n
+unfolding nodeOf nodeWords natural wordAt
+node-back {n} f = λ i. record { level = n .level; entries = same i }
+  where
+    same : map (entryOf (n .level)) (take (length (n .entries)) (runs 5 8 (padded 40 (joined (map entryWords (n .entries)))))) ≡ n .entries
+    same =
+        let ls = map entryWords (n .entries) in
+        ap (map (entryOf (n .level)))
+        (take-runs 5 (length (n .entries)) 8 (padded 40 (joined ls)) (f .few)
+        ∙ ap (runs 5 (length (n .entries))) (padded-is (n .entries) (f .few))
+        ∙ ap (λ (k : ℕ). runs 5 k (joined ls ++ take (40 - 5 * length (n .entries)) (replicate 40 (pos 0)))) (sym (length-map (n .entries) entryWords))
+        ∙ runs-joined 5 ls (entry-wide (n .entries)) (take (40 - 5 * length (n .entries)) (replicate 40 (pos 0))))
+        ∙ entries-back (n .level) (n .entries) (f .kinds)
+
+-- ---- a pool
+
+-- a pool whose nodes slots can hold
+abbrev pub AllFine : Pool → Type 0
+AllFine p = Each Fine (p .slots)
+
+node-wide : (ns : List Node) → Wide 42 (map nodeWords ns)
+node-wide [] = tt
+node-wide (n ∷ ns) = (node-size n, node-wide ns)
+
+nodes-back : (ns : List Node) → Each Fine ns → map nodeOf (map nodeWords ns) ≡ ns
+nodes-back [] f = refl
+nodes-back (n ∷ ns) f = ap₂ (λ (a : Node) (b : List Node). a ∷ b) (node-back (f .0)) (nodes-back ns (f .1))
+
+head-size : (p : Pool) → length (headWords p) ≡ 8
+unfolding headWords padded
+head-size p = refl
+
+behind : (p : Pool) → drop 8 (words p) ≡ joined (map nodeWords (p .slots))
+unfolding words
+behind p = drop-at (headWords p) (joined (map nodeWords (p .slots))) 8 (head-size p)
+
+module _ (p : Pool) where
+  abbrev slotLists : List (List ℤ)
+  slotLists = map nodeWords (p .slots)
+
+  lists : length slotLists ≡ length (p .slots)
+  lists = length-map (p .slots) nodeWords
+
+  pub words-size : length (words p) ≡ 8 + 42 * length (p .slots)
+  unfolding words
+  words-size = omega (arith, length-append (headWords p) (joined slotLists), head-size p, length-joined 42 slotLists (node-wide (p .slots)), lists)
+
+  pub words-slots : slotCount (words p) ≡ length (p .slots)
+  unfolding slotCount
+  words-slots = omega (arith, words-size)
+
+  slots-back : AllFine p → map nodeOf (runs 42 (slotCount (words p)) (drop 8 (words p))) ≡ p .slots
+  slots-back f =
+      ap (map nodeOf) (ap₂ (runs 42) (words-slots ∙ sym lists) (behind p ∙ sym (append-nil (joined slotLists))) ∙ runs-joined 42 slotLists (node-wide (p .slots)) [])
+      ∙ nodes-back (p .slots) f
+
+  pub read-words : AllFine p → read (words p) ≡ p
+  unfolding read words headWords padded natural wordAt
+  read-words f = λ i. record { root = p .root; height = p .height; records = p .records; slots = slots-back f i }
+
+-- ---- a node written into its slot
+
+map-set : (ns : List Node) (i : ℕ) (n : Node) → set (map nodeWords ns) i (nodeWords n) ≡ map nodeWords (set ns i n)
+map-set [] i n = refl
+map-set (m ∷ ns) zero n = refl
+map-set (m ∷ ns) (suc i) n = ap (λ (l : List (List ℤ)). nodeWords m ∷ l) (map-set ns i n)
+
+-- the widths of a list's members
+wide-at : (ls : List (List ℤ)) (m : ℕ) → Wide 42 ls → m < length ls → length (getD ls m []) ≡ 42
+wide-at [] m w h = absurd (omega arith)
+wide-at (l ∷ ls) zero w h = w .0
+wide-at (l ∷ ls) (suc m) w h = wide-at ls m (w .1) (omega arith)
+
+same-head : (p : Pool) (s : SlotNumber) (n : Node) → headWords p ≡ headWords (putNode p s n)
+unfolding putNode headWords
+same-head p s n = refl
+
+pub words-put : (p : Pool) (s : SlotNumber) (n : Node) → 1 ≤ s .0 → s .0 ≤ length (p .slots) → sets (words p) (8 + 42 * (s .0 - 1)) (nodeWords n) ≡ words (putNode p s n)
+unfolding words putNode
+words-put p s n low high =
+    let ls = map nodeWords (p .slots) in
+    let m = s .0 - 1 in
+    let inside : m < length ls = omega (arith, length-map (p .slots) nodeWords) in
+    let here : 8 + 42 * (s .0 - 1) ≡ length (headWords p) + (42 * m + 0) = omega (arith, head-size p) in
+    let fits : 0 + length (nodeWords n) ≤ 42 = omega (arith, node-size n) in
+    let whole : length (nodeWords n) ≡ length (getD ls m []) = node-size n ∙ sym (wide-at ls m (node-wide (p .slots)) inside) in
+    ap (λ (k : ℕ). sets (headWords p ++ joined ls) k (nodeWords n)) here
+    ∙ sets-right (nodeWords n) (headWords p) (joined ls) (42 * m + 0)
+    ∙ ap (λ (l : List ℤ). headWords p ++ l)
+      (sets-joined 42 ls (node-wide (p .slots)) m 0 (nodeWords n) inside fits
+      ∙ ap joined (ap (set ls m) (sets-all (getD ls m []) (nodeWords n) whole) ∙ map-set (p .slots) m n))
+    ∙ ap (λ (h : List ℤ). h ++ joined (map nodeWords (set (p .slots) m n))) (same-head p s n)
+
+-- ---- what is read
+
+number-word : (z : ℤ) → pointerWord (Number (number z)) ≡ z
+unfolding pointerWord
+number-word z = refl
+
+child-word : (z : ℤ) → Child (slot (natural (pointerWord (Child (slot (natural z)))))) ≡ Child (slot (natural z))
+unfolding pointerWord natural
+child-word z = refl
+
+-- the length alone decides whether it is right
+pub right-same : (v w : List ℤ) → length v ≡ length w → rightLength w ≡ true → rightLength v ≡ true
+unfolding rightLength slotCount
+right-same v w e r = rw e r
+
+pointer-number : (l : ℕ) (z : ℤ) → eqb l 1 ≡ true → pointerOf l z ≡ Number (number z)
+unfolding pointerOf
+pointer-number l z e = rw (pointerOf, e)
+
+pointer-child : (l : ℕ) (z : ℤ) → eqb l 1 ≡ false → pointerOf l z ≡ Child (slot (natural z))
+unfolding pointerOf
+pointer-child l z e = rw (pointerOf, e)
+
+-- a pointer that is read is of its level's kind
+pointer-kind : (l : ℕ) (z : ℤ) → pointerOf l (pointerWord (pointerOf l z)) ≡ pointerOf l z
+pointer-kind l z = go (eqb l 1) refl
+  where
+    go : (t : Bool) → eqb l 1 ≡ t → pointerOf l (pointerWord (pointerOf l z)) ≡ pointerOf l z
+    go true e = ap (pointerOf l) (ap pointerWord (pointer-number l z e) ∙ number-word z)
+    go false e = ap (λ q. pointerOf l (pointerWord q)) (pointer-child l z e) ∙ pointer-child l (pointerWord (Child (slot (natural z)))) e ∙ child-word z ∙ sym (pointer-child l z e)
+
+entry-kinds : (l : ℕ) (xs : List (List ℤ)) → Each (Kind l) (map (entryOf l) xs)
+unfolding entryOf
+entry-kinds l [] = tt
+entry-kinds l (x ∷ xs) = (pointer-kind l (wordAt x 4), entry-kinds l xs)
+
+read-kinds : (ws : List ℤ) → Each (Kind (nodeOf ws .level)) (nodeOf ws .entries)
+unfolding nodeOf
+read-kinds ws = entry-kinds (natural (wordAt ws 0)) (take (natural (wordAt ws 1)) (runs 5 8 (drop 2 ws)))
+
+pub node-fine : (ws : List ℤ) → Fine (nodeOf ws)
+node-fine ws = record { few = omega (arith, node-count ws); kinds = read-kinds ws }
+
+nodes-fine : (ls : List (List ℤ)) → Each Fine (map nodeOf ls)
+nodes-fine [] = tt
+nodes-fine (l ∷ ls) = (node-fine l, nodes-fine ls)
+
+pub read-fine : (w : List ℤ) → AllFine (read w)
+unfolding read
+read-fine w = nodes-fine (runs 42 (slotCount w) (drop 8 w))
+
+pub read-slots : (w : List ℤ) → length (read w .slots) ≡ slotCount w
+unfolding read
+read-slots w = length-map (runs 42 (slotCount w) (drop 8 w)) nodeOf ∙ length-runs 42 (slotCount w) (drop 8 w)
+
+each-set : (ns : List Node) (i : ℕ) (n : Node) → Each Fine ns → Fine n → Each Fine (set ns i n)
+each-set [] i n a f = tt
+each-set (m ∷ ns) zero n a f = (f, a .1)
+each-set (m ∷ ns) (suc i) n a f = (a .0, each-set ns i n (a .1) f)
+
+-- ---- a pool's words stay a pool's words
+
+module _ {w : List ℤ} {s : SlotNumber} (f : Fit w) (i : InPool w s) {n : Node} (g : Fine n) where
+  pub put-is : sets w (startOf s) (nodeWords n) ≡ words (putNode (read w) s n)
+  put-is = ap (λ (x : List ℤ). sets x (startOf s) (nodeWords n)) (sym (f .same)) ∙ words-put (read w) s n (i .low) (omega (arith, i .high, read-slots w))
+
+  put-fine : AllFine (putNode (read w) s n)
+  unfolding putNode
+  put-fine = each-set (read w .slots) (s .0 - 1) n (read-fine w) g
+
+  pub put-read : read (sets w (startOf s) (nodeWords n)) ≡ putNode (read w) s n
+  put-read = ap read put-is ∙ read-words (putNode (read w) s n) put-fine
+
+  pub put-fit : Fit (sets w (startOf s) (nodeWords n))
+  put-fit = record {
+    right = right-same (sets w (startOf s) (nodeWords n)) w (length-sets w (startOf s) (nodeWords n)) (f .right);
+    same = ap words put-read ∙ sym put-is;
+  }
