@@ -3,3 +3,4 @@ pub mod Parts
 pub mod Naturals
 pub mod Runs
 pub mod Written
+pub mod Fronts

@@ -3,6 +3,7 @@ use mathlib.Core.Path.{_≡_, refl, sym, ap, ap₂, _∙_}
 use mathlib.Core.List.{List, [], _∷_, _++_, map, append-assoc, append-nil}
 use Prim.Native.Nat.{ℕ, zero, suc, _+_, _*_, _-_, _≤_, _<_}
 use native.Mathlib.Nat.{add-zero, add-suc, suc-add, mul-zero, mul-suc}
+use native.Mathlib.Numerals.{towards-suc}
 use native.Mathlib.Omega.{arith}
 use lib.ListN.{length, getD, set, take, drop, length-append}
 use lib.Seq.{sets, length-sets, set-append-left, lt-length-set, take-at, drop-at}
@@ -81,3 +82,7 @@ module _ (k : ℕ) where
       ap (λ (n : ℕ). sets (x ++ joined ls) n vs) (omega (arith, mul-suc k m, w .0))
       ∙ sets-right vs x (joined ls) (k * m + j)
       ∙ ap (λ (r : List ℤ). x ++ r) (sets-joined ls (w .1) m j vs (omega arith) l)
+
+-- five stores one behind the other
+pub five : {A : Type 0} (w : List A) (p : ℕ) (a b c d e : A) → set (set (set (set (set w p a) (p + 1) b) (p + 2) c) (p + 3) d) (p + 4) e ≡ sets w p (a ∷ b ∷ c ∷ d ∷ e ∷ [])
+five w p a b c d e = simp towards-suc

@@ -15,10 +15,10 @@ use Rattle.rules.specs.declared.Pointer.the-variants.{Number, Child}
 use Rattle.rules.specs.declared.Entry.{Entry}
 use Rattle.rules.specs.Lists.{joined}
 use Rattle.rules.specs.Numbers.{most}
-use Rattle.rules.specs.Pool.{Node, Pool, slot, number, putNode}
+use Rattle.rules.specs.Pool.{Node, Pool, slot, number, node, noEntry, putNode}
 use Rattle.rules.specs.Layout.{slotSize, slotCount, rightLength, pointerWord, entryWords, padded, nodeWords, headWords, words, natural, wordAt, runs, rectOf, pointerOf, entryOf, nodeOf, read}
 use Rattle.laws.proofs.Places.{Each, each-at}
-use Rattle.pool.specs.Slots.{InPool, Fit}
+use Rattle.pool.specs.Slots.{InPool, Fit, KindAll}
 use Rattle.pool.proofs.Parts.{startOf, node-count, length-runs}
 use Rattle.pool.proofs.Runs.{Wide, length-joined, runs-joined, take-runs, sets-right, sets-all, sets-joined}
 
@@ -51,7 +51,7 @@ module _ (es : List Entry) where
   size = length-joined 5 (map entryWords es) (entry-wide es) ∙ ap (λ (n : ℕ). 5 * n) (length-map es entryWords)
 
   -- the words of the entries, and zeros behind them
-  padded-is : length es ≤ 8 → padded 40 (joined (map entryWords es)) ≡ joined (map entryWords es) ++ take (40 - 5 * length es) (replicate 40 (pos 0))
+  pub padded-is : length es ≤ 8 → padded 40 (joined (map entryWords es)) ≡ joined (map entryWords es) ++ take (40 - 5 * length es) (replicate 40 (pos 0))
   unfolding padded
   padded-is h =
       let e : 40 ≡ length (joined (map entryWords es)) + (40 - 5 * length es) = omega (arith, size) in
@@ -153,8 +153,8 @@ words-put p s n low high =
     ap (λ (k : ℕ). sets (headWords p ++ joined ls) k (nodeWords n)) here
     ∙ sets-right (nodeWords n) (headWords p) (joined ls) (42 * m + 0)
     ∙ ap (λ (l : List ℤ). headWords p ++ l)
-      (sets-joined 42 ls (node-wide (p .slots)) m 0 (nodeWords n) inside fits
-      ∙ ap joined (ap (set ls m) (sets-all (getD ls m []) (nodeWords n) whole) ∙ map-set (p .slots) m n))
+    (sets-joined 42 ls (node-wide (p .slots)) m 0 (nodeWords n) inside fits
+    ∙ ap joined (ap (set ls m) (sets-all (getD ls m []) (nodeWords n) whole) ∙ map-set (p .slots) m n))
     ∙ ap (λ (h : List ℤ). h ++ joined (map nodeWords (set (p .slots) m n))) (same-head p s n)
 
 -- ---- what is read
@@ -216,6 +216,15 @@ each-set : (ns : List Node) (i : ℕ) (n : Node) → Each Fine ns → Fine n →
 each-set [] i n a f = tt
 each-set (m ∷ ns) zero n a f = (f, a .1)
 each-set (m ∷ ns) (suc i) n a f = (a .0, each-set ns i n (a .1) f)
+
+-- the first n entries of an array make a fine node
+kinds-taken : (l : ℕ) (es : List Entry) (n : ℕ) → ((i : ℕ) → i < n → Kind l (getD es i noEntry)) → Each (Kind l) (take n es)
+kinds-taken l es zero k = tt
+kinds-taken l [] (suc n) k = tt
+kinds-taken l (e ∷ es) (suc n) k = (k 0 (omega arith), kinds-taken l es n (λ i h. k (suc i) (omega arith)))
+
+pub fine-node : (l : ℕ) (es : List Entry) (n : ℕ) → n ≤ 8 → KindAll l es n → Fine (node l (take n es))
+fine-node l es n h k = record { few = omega (arith, length-take n es); kinds = kinds-taken l es n (k .kind) }
 
 -- ---- a pool's words stay a pool's words
 

@@ -2,12 +2,14 @@
 // any words of a right length.
 ghost use mathlib.Core.Path.{_≡_};
 ghost use Prim.Native.Nat.{_+_, _-_, _*_, _<_, _≤_};
-ghost use lib.ListN.{length};
+ghost use lib.ListN.{length, take};
+ghost use lib.Seq.{sets};
 ghost use Rattle.rules.specs.Layout as L;
 ghost use Rattle.rules.specs.Pool as P;
 ghost use Rattle.rules.specs.Choose.{rectFrom};
-ghost use Rattle.pool.specs.Slots.{InPool};
-use rules::RecordNumber;
+ghost use Rattle.pool.specs.Slots.{Fit, InPool, KindAll, Small, SmallAll, usedAt};
+use rules::Entry;
+use rules::Pointer;
 use rules::Rect;
 use rules::SlotNumber;
 
@@ -86,4 +88,96 @@ pub fn rect_of(pool: &[i32], s: SlotNumber, i: usize) -> Rect
         highX,
         highY,
     }
+}
+
+// ---- written
+
+// The word of a pointer: where a record number or a slot number is unwrapped.
+fn pointer_word(p: Pointer) -> i32
+    requires { ⌜ Small p ⌝ }
+    ensures { λ r. ⌜ r ≡ L.pointerWord p ⌝ }
+{
+    match p {
+        Pointer::Number(n) => n.0,
+        Pointer::Child(s) => {
+            let k = s.0;
+            k as i32
+        }
+    }
+}
+
+// The five words of an entry, from a place on.
+fn put_entry(pool: &mut [i32], at: usize, e: Entry)
+    requires { ⌜ at + 5 ≤ length (now pool) ⌝ }
+    requires { ⌜ Small (e .pointer) ⌝ }
+    ensures { λ _. ⌜ now (pool .exit) ≡ sets (now (pool .entry)) at (L.entryWords e) ⌝ }
+{
+    let r = e.rect;
+    let p = e.pointer;
+    let a = r.lowX;
+    let b = r.lowY;
+    let c = r.highX;
+    let d = r.highY;
+    let k = pointer_word(p);
+    pool[at] = a;
+    pool[at + 1] = b;
+    pool[at + 2] = c;
+    pool[at + 3] = d;
+    pool[at + 4] = k;
+}
+
+// Five zero words.
+fn no_entry() -> Entry
+    ensures { λ r. ⌜ r ≡ P.noEntry ⌝ }
+{
+    Entry {
+        rect: Rect {
+            lowX: 0,
+            lowY: 0,
+            highX: 0,
+            highY: 0,
+        },
+        pointer: Pointer::Child(SlotNumber(0)),
+    }
+}
+
+// The entry at place i of those in use, or five zero words.
+fn used(es: [Entry; 9], n: usize, i: usize) -> Entry
+    requires { ⌜ i < 9 ⌝ }
+    ensures { λ r. ⌜ r ≡ usedAt es n i ⌝ }
+{
+    if i < n { es[i] } else { no_entry() }
+}
+
+// The words of a slot: level, count, the first n of the entries, and zeros.
+fn write_slot(pool: &mut [i32], s: SlotNumber, level: usize, es: [Entry; 9], n: usize)
+    requires { ⌜ InPool (now pool) s ⌝ }
+    requires { ⌜ level ≤ 4096 ⌝ }
+    requires { ⌜ n ≤ 8 ⌝ }
+    requires { ⌜ SmallAll es n ⌝ }
+    ensures { λ _. ⌜ now (pool .exit) ≡ sets (now (pool .entry)) (8 + 42 * (s .0 - 1)) (L.nodeWords (P.node level (take n es))) ⌝ }
+{
+    let at = begin(s);
+    pool[at] = level as i32;
+    pool[at + 1] = n as i32;
+    let mut i: usize = 0;
+    while i < 8 {
+        let e = used(es, n, i);
+        put_entry(pool, at + 2 + 5 * i, e);
+        i += 1;
+    }
+}
+
+// A node is put into its slot: its level, and the first n of the entries.
+pub fn put_node(pool: &mut [i32], s: SlotNumber, level: usize, es: [Entry; 9], n: usize)
+    requires { ⌜ Fit (now pool) ⌝ }
+    requires { ⌜ InPool (now pool) s ⌝ }
+    requires { ⌜ level ≤ 4096 ⌝ }
+    requires { ⌜ n ≤ 8 ⌝ }
+    requires { ⌜ SmallAll es n ⌝ }
+    requires { ⌜ KindAll level es n ⌝ }
+    ensures is { λ _. ⌜ L.read (now (pool .exit)) ≡ P.putNode (L.read (now (pool .entry))) s (P.node level (take n es)) ⌝ }
+    ensures fit { λ _. ⌜ Fit (now (pool .exit)) ⌝ }
+{
+    write_slot(pool, s, level, es, n);
 }

@@ -118,6 +118,10 @@ freeFrom s (n ∷ ns) = elim (eqb (n .level) 0) [ true ↦ At (slot s) | false �
 unfoldable pub lowestFree : Pool → FreeSlot
 lowestFree p = freeFrom 1 (p .slots)
 
+-- how many slots are free
+unfoldable pub freeCount : Pool → ℕ
+freeCount p = length (those (λ (n : Node). eqb (n .level) 0) (p .slots))
+
 -- ---- changed
 
 unfoldable pub putNode : Pool → SlotNumber → Node → Pool
