@@ -2,10 +2,10 @@
 use mathlib.Core.Path.{_≡_, refl, sym, ap, ap₂, _∙_}
 use mathlib.Core.Bool.{Bool, true, false, cond}
 use mathlib.Core.List.{List, [], _∷_, _++_, map, map-append, append-assoc, append-nil}
-use Prim.Native.Nat.{ℕ, zero, suc, _+_, _*_, _-_, _≤_, _<_, min}
+use Prim.Native.Nat.{ℕ, zero, suc, _+_, _*_, _-_, _≤_}
 use native.Mathlib.Numerals.{add-one}
 use native.Mathlib.Omega.{arith}
-use lib.ListN.{length, getD, set, take, replicate, length-append, length-take, replicate-append-replicate}
+use lib.ListN.{length, getD, set, take, replicate, length-append, replicate-append-replicate}
 use lib.Seq.{sets, take-suc, length-take-le}
 use lib.Dec.{ltb}
 use lib.IntN.{ℤ, pos}
@@ -95,7 +95,7 @@ module _ (es : List Entry) (n : ℕ) (h : n ≤ length es) where
       let few : length (take n es) ≤ 8 = omega arith in
       ap (front es n) eight ∙ behind (8 - n)
       ∙ ap (λ (r : List ℤ). joined (map entryWords (take n es)) ++ r)
-        (ap (λ (m : ℕ). replicate m (pos 0)) last ∙ sym (take-zeros (40 - 5 * length (take n es)) 40 (omega arith)))
+      (ap (λ (m : ℕ). replicate m (pos 0)) last ∙ sym (take-zeros (40 - 5 * length (take n es)) 40 (omega arith)))
       ∙ sym (padded-is (take n es) few)
 
   -- .. behind the level and the count

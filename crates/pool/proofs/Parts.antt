@@ -1,5 +1,5 @@
 -- What `read` reads of a slot stands in the slot's 42 words: runs of a width one behind the other are parts of the list.
-use mathlib.Core.Path.{_≡_, refl, sym, ap, subst, _∙_}
+use mathlib.Core.Path.{_≡_, refl, sym, ap, ap₂, subst, _∙_}
 use mathlib.Core.Bool.{true}
 use mathlib.Core.List.{List, [], _∷_, map}
 use Prim.Native.Nat.{ℕ, zero, suc, _+_, _*_, _-_, _≤_, _<_, min}
@@ -11,11 +11,13 @@ use lib.IntN.{ℤ, pos}
 use borrow.Author.Tests.{leb-true, eqb-true}
 use Rattle.rules.specs.declared.Rect.{Rect}
 use Rattle.rules.specs.declared.SlotNumber.{SlotNumber}
+use Rattle.rules.specs.declared.Entry.{Entry}
 use Rattle.rules.specs.Geometry.{noRect}
 use Rattle.rules.specs.Choose.{rectFrom}
-use Rattle.rules.specs.Pool.{Node, rectangle, freeNode, nodeAt, entriesAt, rects}
-use Rattle.rules.specs.Layout.{headSize, slotSize, slotCount, rightLength, natural, wordAt, runs, rectOf, entryOf, nodeOf, read}
+use Rattle.rules.specs.Pool.{Node, Pool, rectangle, entry, noEntry, freeNode, nodeAt, entriesAt, entryFrom, entryAt, rects}
+use Rattle.rules.specs.Layout.{headSize, slotSize, slotCount, rightLength, natural, wordAt, runs, rectOf, entryOf, nodeOf, read, pointerOf}
 use Rattle.laws.proofs.Bools.{and-both}
+use Rattle.laws.proofs.Places.{getD-any}
 use Rattle.pool.specs.Slots.{InPool}
 
 -- ---- runs of a width
@@ -158,3 +160,48 @@ slot-rect {w} {s} p i h =
 -- a slot has eight entries at most
 pub slot-few : {w : List ℤ} {s : SlotNumber} → InPool w s → length (entriesAt (read w) s) ≤ 8
 slot-few p = omega (arith, slot-count p)
+
+-- ---- an entry, rectangle and pointer
+
+pub rect-entry : (es : List Entry) (i : ℕ) → rectFrom (rects es) i ≡ getD es i noEntry .rect
+unfolding rectFrom rects
+rect-entry es i = List·getD-map (λ (e : Entry). e .rect) es i noEntry
+
+entry-pointer : (l : ℕ) (ws : List ℤ) → entryOf l ws .pointer ≡ pointerOf l (wordAt ws 4)
+unfolding entryOf
+entry-pointer l ws = refl
+
+entry-at : (p : Pool) (s : SlotNumber) (i : ℕ) → getD (entriesAt p s) i noEntry .rect ≡ entryAt p s i .rect
+unfolding entryAt entryFrom
+entry-at p s i = refl
+
+node-pointer : (ws : List ℤ) (i : ℕ) → i < length (nodeOf ws .entries)
+    → getD (nodeOf ws .entries) i noEntry .pointer ≡ pointerOf (nodeOf ws .level) (wordAt (take 5 (drop (2 + 5 * i) ws)) 4)
+unfolding nodeOf
+node-pointer ws i h =
+    let l = natural (wordAt ws 0) in
+    let c = natural (wordAt ws 1) in
+    let r = runs 5 8 (drop 2 ws) in
+    let n : i < min c 8 = rw (node-count ws) at h in
+    let k : getD (take c r) i [] ≡ take 5 (drop (2 + 5 * i) ws) =
+    getD-take c r i [] (omega arith) ∙ run-at 5 8 i (drop 2 ws) (omega arith) ∙ ap (take 5) (drop-drop (5 * i) 2 ws) in
+    ap (λ (e : Entry). e .pointer) (getD-any (map (entryOf l) (take c r)) i noEntry (entryOf l []) h ∙ List·getD-map (entryOf l) (take c r) i [] ∙ ap (entryOf l) k)
+    ∙ entry-pointer l (take 5 (drop (2 + 5 * i) ws))
+
+pub slot-pointer : {w : List ℤ} {s : SlotNumber} → InPool w s → (i : ℕ) → i < length (entriesAt (read w) s)
+    → entryAt (read w) s i .pointer ≡ pointerOf (nodeAt (read w) s .level) (wordAt w (startOf s + 6 + 5 * i))
+unfolding entryAt entryFrom entriesAt
+slot-pointer {w} {s} p i h =
+    let e = slot-node p in
+    let n : i < length (nodeOf (slotWords w s) .entries) = subst (λ (x : Node). i < length (x .entries)) e h in
+    let m : i < 8 = omega (arith, node-count (slotWords w s)) in
+    let same : startOf s + 2 + 5 * i + 4 ≡ startOf s + 6 + 5 * i = omega arith in
+    ap (λ (x : Node). getD (x .entries) i noEntry .pointer) e ∙ node-pointer (slotWords w s) i n
+    ∙ ap₂ pointerOf (ap (λ (x : Node). x .level) (sym e)) (entry-word p i 4 m (omega arith) ∙ ap (wordAt w) same)
+
+pub slot-entry : {w : List ℤ} {s : SlotNumber} → InPool w s → (i : ℕ) → i < length (entriesAt (read w) s)
+    → entry (rectFrom (rects (entriesAt (read w) s)) i) (pointerOf (nodeAt (read w) s .level) (wordAt w (startOf s + 6 + 5 * i))) ≡ entryAt (read w) s i
+slot-entry {w} {s} p i h = λ j. record { rect = same-rect j; pointer = sym (slot-pointer p i h) j }
+  where
+    same-rect : rectFrom (rects (entriesAt (read w) s)) i ≡ entryAt (read w) s i .rect
+    same-rect = rect-entry (entriesAt (read w) s) i ∙ entry-at (read w) s i

@@ -1,12 +1,12 @@
 -- Lists of a width one behind the other, over any width: read apart again, and a store in one of them. Over any list: a run of stores.
 use mathlib.Core.Path.{_≡_, refl, sym, ap, ap₂, _∙_}
-use mathlib.Core.List.{List, [], _∷_, _++_, map, append-assoc, append-nil}
-use Prim.Native.Nat.{ℕ, zero, suc, _+_, _*_, _-_, _≤_, _<_}
+use mathlib.Core.List.{List, [], _∷_, _++_, append-assoc}
+use Prim.Native.Nat.{ℕ, zero, suc, _+_, _*_, _≤_, _<_}
 use native.Mathlib.Nat.{add-zero, add-suc, suc-add, mul-zero, mul-suc}
 use native.Mathlib.Numerals.{towards-suc}
 use native.Mathlib.Omega.{arith}
 use lib.ListN.{length, getD, set, take, drop, length-append}
-use lib.Seq.{sets, length-sets, set-append-left, lt-length-set, take-at, drop-at}
+use lib.Seq.{sets, length-sets, set-append-left, take-at, drop-at}
 use lib.IntN.{ℤ}
 use Rattle.rules.specs.Lists.{joined}
 use Rattle.rules.specs.Layout.{runs}

@@ -3,21 +3,20 @@
 use mathlib.Core.Path.{_≡_, refl, sym, ap, ap₂, subst, _∙_}
 use mathlib.Core.Bool.{Bool, true, false}
 use mathlib.Core.List.{List, [], _∷_, _++_, map, append-nil}
-use Prim.Native.Nat.{ℕ, zero, suc, _+_, _*_, _-_, _/_, _≤_, _<_}
-use native.Mathlib.Nat.{mul-add-div}
+use Prim.Native.Nat.{ℕ, zero, suc, _+_, _*_, _-_, _≤_, _<_}
 use native.Mathlib.Omega.{arith}
-use lib.ListN.{length, getD, set, take, drop, replicate, length-append, length-take, length-map, length-set, length-replicate, List·getD-map}
-use lib.Seq.{sets, length-sets, take-append-add, drop-at, take-length}
+use lib.ListN.{length, getD, set, take, drop, replicate, length-append, length-take, length-map, length-set, length-replicate}
+use lib.Seq.{sets, length-sets, take-append-add, drop-at}
 use lib.Dec.{eqb}
 use lib.IntN.{ℤ, pos}
 use Rattle.rules.specs.declared.SlotNumber.{SlotNumber}
+use Rattle.rules.specs.declared.Pointer.{Pointer}
 use Rattle.rules.specs.declared.Pointer.the-variants.{Number, Child}
 use Rattle.rules.specs.declared.Entry.{Entry}
 use Rattle.rules.specs.Lists.{joined}
-use Rattle.rules.specs.Numbers.{most}
-use Rattle.rules.specs.Pool.{Node, Pool, slot, number, node, noEntry, putNode}
-use Rattle.rules.specs.Layout.{slotSize, slotCount, rightLength, pointerWord, entryWords, padded, nodeWords, headWords, words, natural, wordAt, runs, rectOf, pointerOf, entryOf, nodeOf, read}
-use Rattle.laws.proofs.Places.{Each, each-at}
+use Rattle.rules.specs.Pool.{Node, Pool, slot, number, node, noEntry, childOf, isLeaf, putNode, putRoot, putRecords}
+use Rattle.rules.specs.Layout.{slotCount, rightLength, pointerWord, entryWords, padded, nodeWords, headWords, words, natural, wordAt, runs, rectOf, pointerOf, entryOf, nodeOf, read}
+use Rattle.laws.proofs.Places.{Each}
 use Rattle.pool.specs.Slots.{InPool, Fit, KindAll}
 use Rattle.pool.proofs.Parts.{startOf, node-count, length-runs}
 use Rattle.pool.proofs.Runs.{Wide, length-joined, runs-joined, take-runs, sets-right, sets-all, sets-joined}
@@ -172,11 +171,11 @@ pub right-same : (v w : List ℤ) → length v ≡ length w → rightLength w �
 unfolding rightLength slotCount
 right-same v w e r = rw e r
 
-pointer-number : (l : ℕ) (z : ℤ) → eqb l 1 ≡ true → pointerOf l z ≡ Number (number z)
+pub pointer-number : (l : ℕ) (z : ℤ) → eqb l 1 ≡ true → pointerOf l z ≡ Number (number z)
 unfolding pointerOf
 pointer-number l z e = rw (pointerOf, e)
 
-pointer-child : (l : ℕ) (z : ℤ) → eqb l 1 ≡ false → pointerOf l z ≡ Child (slot (natural z))
+pub pointer-child : (l : ℕ) (z : ℤ) → eqb l 1 ≡ false → pointerOf l z ≡ Child (slot (natural z))
 unfolding pointerOf
 pointer-child l z e = rw (pointerOf, e)
 
@@ -244,3 +243,65 @@ module _ {w : List ℤ} {s : SlotNumber} (f : Fit w) (i : InPool w s) {n : Node}
     right = right-same (sets w (startOf s) (nodeWords n)) w (length-sets w (startOf s) (nodeWords n)) (f .right);
     same = ap words put-read ∙ sym put-is;
   }
+
+-- ---- a child read
+
+pub child-is : (e : Entry) (n : ℕ) (z : ℤ) → e .pointer ≡ Child (slot (natural z)) → n ≡ natural z → slot n ≡ childOf e
+unfolding childOf
+child-is e n z q h = ap slot h ∙ sym (ap child-of q)
+  where
+    child-of : Pointer → SlotNumber
+    child-of = elim [ Number m ↦ slot 0 | Child s ↦ s ]
+
+pub leaf-not : (n : Node) → isLeaf n ≡ false → eqb (n .level) 1 ≡ false
+unfolding isLeaf
+leaf-not n e = e
+
+-- ---- the head
+
+root-words : (p : Pool) (s : SlotNumber) (h : ℕ) → set (set (words p) 1 (pos (s .0))) 2 (pos h) ≡ words (putRoot p s h)
+unfolding words headWords padded putRoot
+root-words p s h = refl
+
+records-words : (p : Pool) (n : ℕ) → set (words p) 3 (pos n) ≡ words (putRecords p n)
+unfolding words headWords padded putRecords
+records-words p n = refl
+
+root-slots : (p : Pool) (s : SlotNumber) (h : ℕ) → putRoot p s h .slots ≡ p .slots
+unfolding putRoot
+root-slots p s h = refl
+
+records-slots : (p : Pool) (n : ℕ) → putRecords p n .slots ≡ p .slots
+unfolding putRecords
+records-slots p n = refl
+
+-- words that are a pool's, with another head, are a pool's
+module _ {w v : List ℤ} (f : Fit w) (q : Pool) (size : length v ≡ length w) (is : v ≡ words q) (same : q .slots ≡ read w .slots) where
+  head-read : read v ≡ q
+  head-read = ap read is ∙ read-words q (subst (Each Fine) (sym same) (read-fine w))
+
+  head-fit : Fit v
+  head-fit = record { right = right-same v w size (f .right); same = ap words head-read ∙ sym is }
+
+module _ {w : List ℤ} (f : Fit w) (s : SlotNumber) (h : ℕ) where
+  root-is : set (set w 1 (pos (s .0))) 2 (pos h) ≡ words (putRoot (read w) s h)
+  root-is = ap (λ (x : List ℤ). set (set x 1 (pos (s .0))) 2 (pos h)) (sym (f .same)) ∙ root-words (read w) s h
+
+  root-size : length (set (set w 1 (pos (s .0))) 2 (pos h)) ≡ length w
+  root-size = length-set (set w 1 (pos (s .0))) 2 (pos h) ∙ length-set w 1 (pos (s .0))
+
+  pub root-read : read (set (set w 1 (pos (s .0))) 2 (pos h)) ≡ putRoot (read w) s h
+  root-read = head-read f (putRoot (read w) s h) root-size root-is (root-slots (read w) s h)
+
+  pub root-fit : Fit (set (set w 1 (pos (s .0))) 2 (pos h))
+  root-fit = head-fit f (putRoot (read w) s h) root-size root-is (root-slots (read w) s h)
+
+module _ {w : List ℤ} (f : Fit w) (n : ℕ) where
+  records-is : set w 3 (pos n) ≡ words (putRecords (read w) n)
+  records-is = ap (λ (x : List ℤ). set x 3 (pos n)) (sym (f .same)) ∙ records-words (read w) n
+
+  pub records-read : read (set w 3 (pos n)) ≡ putRecords (read w) n
+  records-read = head-read f (putRecords (read w) n) (length-set w 3 (pos n)) records-is (records-slots (read w) n)
+
+  pub records-fit : Fit (set w 3 (pos n))
+  records-fit = head-fit f (putRecords (read w) n) (length-set w 3 (pos n)) records-is (records-slots (read w) n)

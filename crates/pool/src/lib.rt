@@ -1,6 +1,7 @@
 // The pool, word by word: the one place of the code that knows where a word stands. What is read is what the definition `read` reads, of
 // any words of a right length.
 ghost use mathlib.Core.Path.{_≡_};
+ghost use mathlib.Core.Bool.{true, false};
 ghost use Prim.Native.Nat.{_+_, _-_, _*_, _<_, _≤_};
 ghost use lib.ListN.{length, take};
 ghost use lib.Seq.{sets};
@@ -10,6 +11,7 @@ ghost use Rattle.rules.specs.Choose.{rectFrom};
 ghost use Rattle.pool.specs.Slots.{Fit, InPool, KindAll, Small, SmallAll, usedAt};
 use rules::Entry;
 use rules::Pointer;
+use rules::RecordNumber;
 use rules::Rect;
 use rules::SlotNumber;
 
@@ -180,4 +182,102 @@ pub fn put_node(pool: &mut [i32], s: SlotNumber, level: usize, es: [Entry; 9], n
     ensures fit { λ _. ⌜ Fit (now (pool .exit)) ⌝ }
 {
     write_slot(pool, s, level, es, n);
+}
+
+// ---- the head
+
+pub fn root_of(pool: &[i32]) -> SlotNumber
+    requires { ⌜ L.rightLength (now pool) ≡ true ⌝ }
+    ensures { λ r. ⌜ r ≡ L.read (now (pool .entry)) .root ⌝ }
+{
+    SlotNumber(number_at(pool, 1))
+}
+
+pub fn height_of(pool: &[i32]) -> usize
+    requires { ⌜ L.rightLength (now pool) ≡ true ⌝ }
+    ensures { λ r. ⌜ r ≡ L.read (now (pool .entry)) .height ⌝ }
+{
+    number_at(pool, 2)
+}
+
+pub fn records_of(pool: &[i32]) -> usize
+    requires { ⌜ L.rightLength (now pool) ≡ true ⌝ }
+    ensures { λ r. ⌜ r ≡ L.read (now (pool .entry)) .records ⌝ }
+{
+    number_at(pool, 3)
+}
+
+// ---- entries
+
+// A leaf's pointer is a record number, any other a child slot: where a word becomes one of them.
+fn pointer_of(level: usize, z: i32) -> Pointer
+    ensures { λ r. ⌜ r ≡ L.pointerOf level z ⌝ }
+{
+    if level == 1 {
+        return Pointer::Number(RecordNumber(z));
+    }
+    let s = natural(z);
+    Pointer::Child(SlotNumber(s))
+}
+
+// The entry at place i.
+pub fn entry_of(pool: &[i32], s: SlotNumber, i: usize) -> Entry
+    requires { ⌜ InPool (now pool) s ⌝ }
+    requires { ⌜ i < length (P.entriesAt (L.read (now pool)) s) ⌝ }
+    ensures { λ r. ⌜ r ≡ P.entryAt (L.read (now (pool .entry))) s i ⌝ }
+{
+    let rect = rect_of(pool, s, i);
+    let level = level_of(pool, s);
+    let z = word(pool, begin(s) + 6 + 5 * i);
+    let pointer = pointer_of(level, z);
+    Entry { rect, pointer }
+}
+
+// The child that entry i of an inner node leads to.
+pub fn child_of(pool: &[i32], s: SlotNumber, i: usize) -> SlotNumber
+    requires { ⌜ InPool (now pool) s ⌝ }
+    requires { ⌜ i < length (P.entriesAt (L.read (now pool)) s) ⌝ }
+    requires { ⌜ P.isLeaf (P.nodeAt (L.read (now pool)) s) ≡ false ⌝ }
+    ensures { λ r. ⌜ r ≡ P.childOf (P.entryAt (L.read (now (pool .entry))) s i) ⌝ }
+{
+    SlotNumber(number_at(pool, begin(s) + 6 + 5 * i))
+}
+
+// A node's entries, with room for one more.
+pub fn entries_of(pool: &[i32], s: SlotNumber) -> [Entry; 9]
+    requires { ⌜ InPool (now pool) s ⌝ }
+    ensures { λ r. ⌜ take (length (P.entriesAt (L.read (now (pool .entry))) s)) r ≡ P.entriesAt (L.read (now (pool .entry))) s ⌝ }
+{
+    let n = count_of(pool, s);
+    let mut es = [no_entry(); 9];
+    let mut i: usize = 0;
+    while i < n {
+        es[i] = entry_of(pool, s, i);
+        i += 1;
+    }
+    es
+}
+
+// ---- the head, written
+
+// A node is root, and the tree has a height.
+pub fn put_root(pool: &mut [i32], s: SlotNumber, height: usize)
+    requires { ⌜ Fit (now pool) ⌝ }
+    requires { ⌜ (s .0 ≤ 4096) × (height ≤ 4096) ⌝ }
+    ensures is { λ _. ⌜ L.read (now (pool .exit)) ≡ P.putRoot (L.read (now (pool .entry))) s height ⌝ }
+    ensures fit { λ _. ⌜ Fit (now (pool .exit)) ⌝ }
+{
+    let n = s.0;
+    pool[1] = n as i32;
+    pool[2] = height as i32;
+}
+
+// The number of records.
+pub fn put_records(pool: &mut [i32], n: usize)
+    requires { ⌜ Fit (now pool) ⌝ }
+    requires { ⌜ n ≤ 2147483647 ⌝ }
+    ensures is { λ _. ⌜ L.read (now (pool .exit)) ≡ P.putRecords (L.read (now (pool .entry))) n ⌝ }
+    ensures fit { λ _. ⌜ Fit (now (pool .exit)) ⌝ }
+{
+    pool[3] = n as i32;
 }

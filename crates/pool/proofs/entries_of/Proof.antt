@@ -1,0 +1,101 @@
+use borrow.Author.Needs.{needs}
+use mathlib.Core.Path.{_≡_, refl, sym, ap, ap₂, _∙_}
+use mathlib.Core.List.{List, [], _∷_, _++_}
+use Prim.Native.Nat.{ℕ, _+_, _-_, _≤_, _<_}
+use native.Mathlib.Numerals.{add-one}
+use native.Mathlib.Omega.{arith}
+use lib.ListN.{length, getD, set, take, length-set}
+use lib.Seq.{take-suc, take-suc-set, take-length}
+use Rattle.rules.specs.declared.Entry.{Entry}
+use Rattle.rules.specs.Pool.{noEntry, entriesAt, entryAt, entryFrom}
+use Rattle.rules.specs.Layout.{read}
+use Rattle.pool.proofs.entries_of.Statement.{statement}
+use Rattle.pool.proofs.entries_of.Tie as tie
+use Rattle.pool.proofs.entries_of.Reads as reads
+use Rattle.pool.proofs.entries_of.Lts as lts
+use Rattle.pool.proofs.count_of.Reads as count-of-reads
+use Rattle.pool.proofs.entry_of.Reads as entry-of-reads
+use Rattle.pool.proofs.no_entry.Reads as no-entry-reads
+
+-- the first i places hold the first i entries
+record Turn (all : List Entry) (n : ℕ) (es : List Entry) (i : ℕ) : Type 0 where
+  size : n ≡ length all
+  few : n ≤ 8
+  most : i ≤ n
+  nine : length es ≡ 9
+  is : take i es ≡ take i all
+
+turn : {all : List Entry} {n : ℕ} {es : List Entry} {i : ℕ} (e : Entry) → Turn all n es i → i < n → e ≡ getD all i noEntry → Turn all n (set es i e) (i + 1)
+turn {all} {n} {es} {i} e t h q =
+    let l : i < length es = omega (arith, t .nine, t .few) in
+    record {
+      size = t .size;
+      few = t .few;
+      most = omega arith;
+      nine = length-set es i e ∙ t .nine;
+      is = rw (add-one i) (take-suc-set es i e l ∙ ap₂ (λ (xs : List Entry) (x : Entry). xs ++ x ∷ []) (t .is) q ∙ sym (take-suc all i noEntry (omega (arith, t .size))));
+    }
+
+abbrev Inv-loop : tie.InvT-loop
+Inv-loop pool s n es₀ i₀ es i = Turn (entriesAt (read pool) s) n es i
+
+abbrev μ-loop : tie.MeasureT-loop
+μ-loop pool s n es₀ i₀ es i = n - i
+
+-- src/lib.rt:251:9
+count-of-requires : tie.Need-count-of-requires Inv-loop μ-loop
+count-of-requires c κs = c .pre
+
+-- src/lib.rt:252:19
+no-entry-requires : tie.Need-no-entry-requires Inv-loop μ-loop
+no-entry-requires c κs = search needs
+
+-- src/lib.rt:254:5
+loop-holds : tie.Need-loop-holds Inv-loop μ-loop
+loop-holds c = record { size = c .before .count-of .ensures .0; few = c .before .count-of .ensures .1; most = omega arith; nine = search needs; is = refl }
+
+-- src/lib.rt:255:17
+entry-of-requires : tie.Need-entry-of-requires Inv-loop μ-loop
+entry-of-requires c κs = (c .before .before .before .before .pre, omega (arith, c .loop-test .taken, c .before .loop .inv .size))
+
+-- src/lib.rt:255:9
+mul-es : tie.Need-mul-es Inv-loop μ-loop
+mul-es c = omega (arith, c .before .loop-test .taken, c .before .before .loop .inv .few)
+
+-- src/lib.rt:255:9
+array-set-from-es : tie.Need-array-set-from-es Inv-loop μ-loop
+array-set-from-es c = omega (arith, c .before .loop-test .taken, c .before .before .loop .inv .few)
+
+-- src/lib.rt:256:9
+add-i : tie.Need-add-i Inv-loop μ-loop
+add-i c = search needs
+
+-- src/lib.rt:254:5
+loop-less : tie.Need-loop-less Inv-loop μ-loop
+loop-less c = search needs
+
+-- src/lib.rt:254:5
+loop-again : tie.Need-loop-again Inv-loop μ-loop
+unfolding entryAt entryFrom
+loop-again c = turn (c .entry-of .result) (c .before .before .loop .inv) (c .before .loop-test .taken) (c .entry-of .ensures)
+
+-- src/lib.rt:247:1
+returns : tie.Need-returns Inv-loop μ-loop
+returns c = let t = c .before .loop .inv in let e : c .before .loop .i ≡ length (entriesAt (read (c .before .before .before .before .args .pool .now)) (c .before .before .before .before .args .s)) = omega (arith, t .size, t .most, c .loop-test .left) in ap (λ (k : ℕ). take k (c .before .loop .es)) (sym e) ∙ t .is ∙ ap (λ (k : ℕ). take k (entriesAt (read (c .before .before .before .before .args .pool .now)) (c .before .before .before .before .args .s))) e ∙ take-length _
+
+pub entries-of-spec : {M : Type 1} → statement M
+entries-of-spec =
+    tie.close
+    (tie.spec
+    Inv-loop
+    μ-loop
+    count-of-requires
+    no-entry-requires
+    loop-holds
+    entry-of-requires
+    mul-es
+    array-set-from-es
+    add-i
+    loop-less
+    loop-again
+    returns)

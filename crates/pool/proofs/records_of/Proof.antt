@@ -1,0 +1,20 @@
+use native.Mathlib.Omega.{arith}
+use Rattle.pool.proofs.Parts.{right-size}
+use Rattle.rules.specs.Layout.{read}
+use Rattle.pool.proofs.records_of.Statement.{statement}
+use Rattle.pool.proofs.records_of.Tie as tie
+use Rattle.pool.proofs.records_of.Reads as reads
+use Rattle.pool.proofs.records_of.Lts as lts
+use Rattle.pool.proofs.number_at.Reads as number-at-reads
+
+-- src/lib.rt:207:5
+number-at-requires : tie.Need-number-at-requires
+number-at-requires c κs = omega (arith, right-size (c .args .pool .now) (c .pre))
+
+-- src/lib.rt:203:1
+returns : tie.Need-returns
+unfolding read
+returns c = c .number-at .ensures
+
+pub records-of-spec : {M : Type 1} → statement M
+records-of-spec = tie.close (tie.spec number-at-requires returns)

@@ -1,0 +1,20 @@
+use native.Mathlib.Omega.{arith}
+use Rattle.pool.proofs.Parts.{right-size}
+use Rattle.rules.specs.Layout.{read}
+use Rattle.pool.proofs.root_of.Statement.{statement}
+use Rattle.pool.proofs.root_of.Tie as tie
+use Rattle.pool.proofs.root_of.Reads as reads
+use Rattle.pool.proofs.root_of.Lts as lts
+use Rattle.pool.proofs.number_at.Reads as number-at-reads
+
+-- src/lib.rt:193:16
+number-at-requires : tie.Need-number-at-requires
+number-at-requires c κs = omega (arith, right-size (c .args .pool .now) (c .pre))
+
+-- src/lib.rt:189:1
+returns : tie.Need-returns
+unfolding read
+returns c = (λ i. record { 0 = c .number-at .ensures i })
+
+pub root-of-spec : {M : Type 1} → statement M
+root-of-spec = tie.close (tie.spec number-at-requires returns)
