@@ -1,16 +1,20 @@
-//! `second dustmap | script | generate STYLE SEED N COUNT | damage SEED N | selftest`
+//! `second dustmap | script | generate STYLE SEED N COUNT | damage SEED N | selftest | nine |
+//! nine-sets SEED COUNT | nine-site`
 
 use std::io::{Read, Write};
 use std::process::ExitCode;
 
 use second::style::Style;
-use second::{damage, dustmap, generate, script, selftest};
+use second::{damage, dustmap, generate, nine, script, selftest};
 
 const USAGE: &str = "usage: second dustmap
        second script
        second generate STYLE SEED N COUNT
        second damage SEED N
        second selftest
+       second nine
+       second nine-sets SEED COUNT
+       second nine-site
 styles: random clustered grid points lines duplicates limits churn";
 
 fn main() -> ExitCode {
@@ -19,7 +23,7 @@ fn main() -> ExitCode {
     match run(&arguments) {
         Ok((output, code)) => {
             // A reader that closes early is no fault of ours.
-            let _ = std::io::stdout().write_all(output.as_bytes());
+            let _ = std::io::stdout().write_all(&output);
             code
         }
         Err(why) => {
@@ -30,7 +34,7 @@ fn main() -> ExitCode {
 }
 
 /// What is to be printed, and the exit code.
-fn run(arguments: &[&str]) -> Result<(String, ExitCode), String> {
+fn run(arguments: &[&str]) -> Result<(Vec<u8>, ExitCode), String> {
     let output = match arguments {
         ["dustmap"] => dustmap::run(&input()?),
         ["script"] => script::run(&script::parse(&text_input()?)?),
@@ -40,15 +44,20 @@ fn run(arguments: &[&str]) -> Result<(String, ExitCode), String> {
         }
         ["damage", seed, slots] => damage::script(number(seed)?, slot_count(slots)?),
         ["selftest"] => return Ok(tested()),
+        ["nine"] => nine::run(&input()?),
+        ["nine-sets", seed, count] => {
+            return Ok((nine::sets(number(seed)?, number(count)? as usize), ExitCode::SUCCESS))
+        }
+        ["nine-site"] => return Ok((nine::site_sets(), ExitCode::SUCCESS)),
         _ => return Err(USAGE.to_string()),
     };
-    Ok((output, ExitCode::SUCCESS))
+    Ok((output.into_bytes(), ExitCode::SUCCESS))
 }
 
-fn tested() -> (String, ExitCode) {
+fn tested() -> (Vec<u8>, ExitCode) {
     let report = selftest::run();
     let code = if report.failed == 0 { ExitCode::SUCCESS } else { ExitCode::FAILURE };
-    (report.text(), code)
+    (report.text().into_bytes(), code)
 }
 
 fn input() -> Result<Vec<u8>, String> {

@@ -10,13 +10,13 @@ ghost use Rattle.rules.specs.Numbers as N;
 ghost use Rattle.rules.specs.Geometry as G;
 use rules::Rect;
 
-fn and(p: bool, q: bool) -> bool
+pub fn and(p: bool, q: bool) -> bool
     ensures { λ r. ⌜ r ≡ (p && q) ⌝ }
 {
     if p { q } else { false }
 }
 
-fn le(a: i32, b: i32) -> bool
+pub fn le(a: i32, b: i32) -> bool
     ensures { λ r. ⌜ r ≡ leZ a b ⌝ }
 {
     a <= b

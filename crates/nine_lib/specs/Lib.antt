@@ -1,2 +1,3 @@
 -- What the program `nine` prints for a set of nine rectangles.
 pub mod Sets
+pub mod Spaced

@@ -11,11 +11,11 @@ use Rattle.rules.specs.Split.{quadraticGroups}
 use Rattle.rules.specs.Frames.{wordValues, rectIn, natShown, digits, line}
 
 -- 36 words: low x, low y, high x and high y of each
-unfoldable pub rectOf : List ℕ → ℕ → Rect
-rectOf bs i = rectIn (wordValues 36 bs) (4 * i)
+unfoldable pub rectAt : List ℕ → ℕ → Rect
+rectAt bs i = rectIn (wordValues 36 bs) (4 * i)
 
-unfoldable pub nineOf : List ℕ → List Rect
-nineOf bs = map (rectOf bs) (upFrom 0 9)
+unfoldable pub nineIn : List ℕ → List Rect
+nineIn bs = map (rectAt bs) (upFrom 0 9)
 
 -- a place, counted from 1
 unfoldable pub placeShown : ℕ → List ℕ
@@ -28,8 +28,8 @@ groupsLine one two = line (map placeShown one ++ (124 ∷ []) ∷ map placeShown
 -- where a rectangle is not valid there is no split, and the line is the refusal's number, 3
 unfoldable pub setLine : List ℕ → List ℕ
 setLine bs =
-    elim (every valid (nineOf bs)) [
-      | true ↦ groupsLine (quadraticGroups (nineOf bs) .one) (quadraticGroups (nineOf bs) .two)
+    elim (every valid (nineIn bs)) [
+      | true ↦ groupsLine (quadraticGroups (nineIn bs) .one) (quadraticGroups (nineIn bs) .two)
       | false ↦ line ((51 ∷ []) ∷ [])
     ]
 

@@ -1,15 +1,16 @@
-// Nine rectangles in 144 bytes, and the line that says how the quadratic split parts them.
+// A set is nine rectangles in 144 bytes. From it `set_line` makes the line that says how the quadratic split parts them.
 ghost use mathlib.Core.Path.{_≡_};
-ghost use mathlib.Core.Bool.{true, _&&_};
-ghost use mathlib.Core.List.{List, [], _∷_, _++_, map};
+ghost use mathlib.Core.Bool.{true};
+ghost use mathlib.Core.List.{_++_, map};
 ghost use Prim.Native.Nat.{ℕ, _+_, _*_, _≤_, _<_};
-ghost use lib.ListN.{length, take, drop, getD};
+ghost use lib.ListN.{take, drop, getD};
 ghost use Rattle.io.specs.Counts.{Counts};
 ghost use Rattle.rules.specs.Lists.{every};
 ghost use Rattle.rules.specs.Geometry as G;
 ghost use Rattle.rules.specs.Frames as F;
 ghost use Rattle.split.specs.State.{AllValid, Whole};
-ghost use Rattle.nine_lib.specs.Sets.{rectOf, nineOf, groupsLine, setLine};
+ghost use Rattle.nine_lib.specs.Sets.{rectAt, nineIn, groupsLine, setLine};
+ghost use Rattle.nine_lib.specs.Spaced.{digitOf, spaced};
 use rules::Rect;
 use split::Groups;
 
@@ -45,6 +46,7 @@ fn signed(n: u64) -> i32
     }
 }
 
+// A signed word, the lowest byte first.
 pub fn word_at(bytes: &[u8; 144], at: usize) -> i32
     requires { ⌜ at + 4 ≤ 144 ⌝ }
     ensures { λ r. ⌜ r ≡ F.wordValue (take 4 (drop at (now (bytes .entry)))) ⌝ }
@@ -55,7 +57,7 @@ pub fn word_at(bytes: &[u8; 144], at: usize) -> i32
 // The rectangle at place i of the nine.
 pub fn rect_at(bytes: &[u8; 144], i: usize) -> Rect
     requires { ⌜ i < 9 ⌝ }
-    ensures { λ r. ⌜ r ≡ rectOf (now (bytes .entry)) i ⌝ }
+    ensures { λ r. ⌜ r ≡ rectAt (now (bytes .entry)) i ⌝ }
 {
     let at = 16 * i;
     let lowX = word_at(bytes, at);
@@ -70,8 +72,9 @@ pub fn rect_at(bytes: &[u8; 144], i: usize) -> Rect
     }
 }
 
+// The array needs something in it before the loop: the first of the nine will do.
 pub fn nine_rects(bytes: &[u8; 144]) -> [Rect; 9]
-    ensures { λ r. ⌜ r ≡ nineOf (now (bytes .entry)) ⌝ }
+    ensures { λ r. ⌜ r ≡ nineIn (now (bytes .entry)) ⌝ }
 {
     let first = rect_at(bytes, 0);
     let mut nine = [first; 9];
@@ -96,4 +99,64 @@ pub fn all_valid(nine: [Rect; 9]) -> bool
         i += 1;
     }
     true
+}
+
+// ---- the line of a set
+
+// A place as it is printed, counted from 1.
+fn digit(place: usize) -> u8
+    requires { ⌜ place < 9 ⌝ }
+    ensures { λ r. ⌜ r ≡ digitOf place ⌝ }
+{
+    49 + place as u8
+}
+
+// The places of a group from byte `at` on, each with a space behind it.
+fn put_group(line: [u8; 20], at: usize, group: [usize; 9], count: usize) -> [u8; 20]
+    requires { ⌜ (at + 2 * count ≤ 20) × (count ≤ 9) ⌝ }
+    requires { ⌜ ((k : ℕ) → k < count → getD group k 0 < 9) ⌝ }
+    ensures { λ r. ⌜ take (at + 2 * count) r ≡ take at line ++ spaced (map digitOf (take count group)) ⌝ }
+{
+    let mut out = line;
+    let mut k: usize = 0;
+    while k < count {
+        let here = at + 2 * k;
+        out[here] = digit(group[k]);
+        out[here + 1] = b' ';
+        k += 1;
+    }
+    out
+}
+
+// Nine digits and a bar with a byte behind each: twenty bytes, whatever the groups are.
+pub fn groups_line(groups: Groups) -> [u8; 20]
+    requires { ⌜ Whole groups ⌝ }
+    ensures { λ r. ⌜ r ≡ groupsLine (take (groups .ones) (groups .one)) (take (groups .twos) (groups .two)) ⌝ }
+{
+    let one = groups.one;
+    let two = groups.two;
+    let bar = 2 * groups.ones;
+    let mut line = put_group([b' '; 20], 0, one, groups.ones);
+    line[bar] = b'|';
+    line[bar + 1] = b' ';
+    line = put_group(line, bar + 2, two, groups.twos);
+    line[19] = b'\n';
+    line
+}
+
+// The line of a set goes to the start of `out`, which has room for the longest. Gives its length.
+pub fn set_line(set: &[u8; 144], out: &mut [u8; 20]) -> usize
+    ensures counts { λ r. ⌜ Counts r (now (out .exit)) ⌝ }
+    ensures is { λ r. ⌜ take r (now (out .exit)) ≡ setLine (now (set .entry)) ⌝ }
+{
+    let nine = nine_rects(set);
+    if all_valid(nine) {
+        *out = groups_line(split::split_nine(nine));
+        return 20;
+    }
+    let mut refused = [0u8; 20];
+    refused[0] = b'3';
+    refused[1] = b'\n';
+    *out = refused;
+    2
 }

@@ -1,32 +1,33 @@
+-- `signed`: each half of the numbers by its own law of Words. The machine's difference is below zero and fits 32 bits, so the casts keep it.
+use mathlib.Core.Path.{sym, _∙_}
+use native.Mathlib.Omega.{arith}
+use mir.Syntax.{w32}
+use mir.Facts.{toZ-ofZ, toZ-pos}
+use Rattle.nine_lib.proofs.Words.{Upper, signed-low, signed-high, less-whole, fits-wide, fits-word}
 use borrow.Author.Needs.{needs}
 use Rattle.nine_lib.proofs.signed.Statement.{statement}
 use Rattle.nine_lib.proofs.signed.Tie as tie
-use Rattle.nine_lib.proofs.signed.Reads as reads
-use Rattle.nine_lib.proofs.signed.Lts as lts
 
--- src/lib.rt:42:9
 cast-result : tie.Need-cast-result
 cast-result c = search needs
 
--- src/lib.rt:44:10
 cast-result-2 : tie.Need-cast-result-2
 cast-result-2 c = search needs
 
--- src/lib.rt:44:10
+upper : (c : tie.Else1) → Upper (c .before .args .n)
+upper c = record { low = omega arith; high = omega arith }
+
 sub-result : tie.Need-sub-result
-sub-result c = ?
+sub-result c = rw (less-whole (upper c)) (fits-wide (upper c))
 
--- src/lib.rt:44:9
 cast-result-3 : tie.Need-cast-result-3
-cast-result-3 c = ?
+cast-result-3 c = rw (less-whole (upper c), toZ-ofZ (fits-wide (upper c))) (fits-word (upper c))
 
--- src/lib.rt:37:1
 returns : tie.Need-returns
-returns c = ?
+returns c = toZ-pos w32 (omega arith) ∙ sym (signed-low (c .before .args .n) (omega arith))
 
--- src/lib.rt:37:1
 returns-2 : tie.Need-returns-2
-returns-2 c = ?
+returns-2 c = rw (less-whole (upper c), toZ-ofZ (fits-wide (upper c)), toZ-ofZ (fits-word (upper c))) (sym (signed-high (upper c)))
 
 pub signed-spec : {M : Type 1} → statement M
 signed-spec =

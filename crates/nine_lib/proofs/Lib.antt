@@ -1,0 +1,4 @@
+-- Laws of words, sets and lines.
+pub mod Words
+pub mod Nines
+pub mod Lines

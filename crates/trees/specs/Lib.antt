@@ -1,0 +1,2 @@
+-- The tree in a pool.
+pub mod Tree

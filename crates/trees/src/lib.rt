@@ -1,0 +1,1 @@
+// No code: the tree that theorems want, read off a sound pool, for the crates above.
