@@ -1,0 +1,2 @@
+-- A short name for the entry check of a level.
+pub mod State

@@ -1,0 +1,168 @@
+// Soundness of a pool, over any words of a right length. The node check calls the entry check and the entry check calls the node check;
+// the level and the entries left fall.
+ghost use mathlib.Core.Path.{_≡_};
+ghost use mathlib.Core.Bool.{true, false, _&&_};
+ghost use Prim.Native.Nat.{_+_, _-_, _<_, _≤_};
+ghost use lib.Dec.{eqb};
+ghost use lib.ListN.{length, drop};
+ghost use Rattle.rules.specs.Lists.{every};
+ghost use Rattle.rules.specs.Geometry as G;
+ghost use Rattle.rules.specs.Layout as L;
+ghost use Rattle.rules.specs.Pool as P;
+ghost use Rattle.rules.specs.Sound as S;
+ghost use Rattle.pool.specs.Slots.{InPool};
+ghost use Rattle.sound.specs.State.{innerSound};
+
+use rules::Entry;
+use rules::Pointer;
+use rules::Rect;
+use rules::SlotNumber;
+
+// "A leaf entry needs a valid rectangle and number."
+fn leaf_entry_sound(e: Entry) -> bool
+    ensures { λ r. ⌜ r ≡ S.leafEntrySound e ⌝ }
+{
+    let r = e.rect;
+    let p = e.pointer;
+    let Pointer::Number(n) = p else {
+        return false;
+    };
+    let ok = geometry::le(1, n.0);
+    geometry::and(geometry::valid(r), ok)
+}
+
+// The leaf entries of a node, each of them.
+fn leaf_sound(pool: &[i32], s: SlotNumber) -> bool
+    requires { ⌜ InPool (now pool) s ⌝ }
+    ensures { λ r. ⌜ r ≡ every S.leafEntrySound (P.entriesAt (L.read (now (pool .entry))) s) ⌝ }
+{
+    let n = pool::count_of(pool, s);
+    let mut i: usize = 0;
+    while i < n {
+        let e = pool::entry_of(pool, s, i);
+        if !leaf_entry_sound(e) {
+            return false;
+        }
+        i += 1;
+    }
+    true
+}
+
+// "a slot from 1 to N"
+fn is_slot(pool: &[i32], s: SlotNumber) -> bool
+    ensures { λ r. ⌜ r ≡ S.isSlot (L.read (now (pool .entry))) s ⌝ }
+{
+    let n = s.0;
+    if n < 1 {
+        return false;
+    }
+    n <= pool::slot_count(pool)
+}
+
+// The smallest rectangle that holds a node's entries; of none, the point (0, 0).
+fn cover_at(pool: &[i32], s: SlotNumber) -> Rect
+    requires { ⌜ InPool (now pool) s ⌝ }
+    ensures { λ r. ⌜ r ≡ P.coverOf (P.entriesAt (L.read (now (pool .entry))) s) ⌝ }
+{
+    if pool::count_of(pool, s) == 0 {
+        return Rect {
+            lowX: 0,
+            lowY: 0,
+            highX: 0,
+            highY: 0,
+        };
+    }
+    slots::cover_of(pool, s)
+}
+
+// "its pointer is a slot from 1 to N whose node is .. one level lower, and its rectangle is the smallest holding that node's entries"
+fn entry_fits(pool: &[i32], e: Entry, below: usize) -> bool
+    requires { ⌜ L.rightLength (now pool) ≡ true ⌝ }
+    ensures { λ r. ⌜ r ≡ (S.isSlot (L.read (now (pool .entry))) (P.childOf e) && eqb (P.nodeAt (L.read (now (pool .entry))) (P.childOf e) .level) below && G.sameRect (e .rect) (P.coverOf (P.entriesAt (L.read (now (pool .entry))) (P.childOf e)))) ⌝ }
+{
+    let r = e.rect;
+    let c = child(e);
+    if !is_slot(pool, c) {
+        return false;
+    }
+    if pool::level_of(pool, c) != below {
+        return false;
+    }
+    geometry::same_rect(r, cover_at(pool, c))
+}
+
+// The child that an inner entry leads to.
+fn child(e: Entry) -> SlotNumber
+    ensures { λ r. ⌜ r ≡ P.childOf e ⌝ }
+{
+    let p = e.pointer;
+    match p {
+        Pointer::Number(_) => SlotNumber(0),
+        Pointer::Child(s) => s,
+    }
+}
+
+// "A node is sound when its entries are": the node at s, which has the level given.
+pub fn node_sound(pool: &[i32], level: usize, s: SlotNumber) -> bool
+    requires { ⌜ InPool (now pool) s ⌝ }
+    ensures { λ r. ⌜ r ≡ S.nodeSound (L.read (now (pool .entry))) level s ⌝ }
+{
+    if level == 0 {
+        return false;
+    }
+    if level == 1 {
+        return leaf_sound(pool, s);
+    }
+    entries_sound(pool, level, s, 0)
+}
+
+// "an inner entry is sound when its pointer is a slot from 1 to N whose node is sound and one level lower, ..": the entries from place i on
+// of the node at s, which has the level given.
+fn entries_sound(pool: &[i32], level: usize, s: SlotNumber, i: usize) -> bool
+    requires { ⌜ InPool (now pool) s ⌝ }
+    requires { ⌜ 2 ≤ level ⌝ }
+    requires { ⌜ i ≤ 8 ⌝ }
+    ensures { λ r. ⌜ r ≡ every (innerSound (L.read (now (pool .entry))) level) (drop i (P.entriesAt (L.read (now (pool .entry))) s)) ⌝ }
+{
+    if pool::count_of(pool, s) <= i {
+        return true;
+    }
+    let e = pool::entry_of(pool, s, i);
+    if !entry_fits(pool, e, level - 1) {
+        return false;
+    }
+    let c = child(e);
+    if !node_sound(pool, level - 1, c) {
+        return false;
+    }
+    entries_sound(pool, level, s, i + 1)
+}
+
+// The node at s is free, or sound.
+fn used_sound(pool: &[i32], s: SlotNumber) -> bool
+    requires { ⌜ InPool (now pool) s ⌝ }
+    ensures { λ r. ⌜ r ≡ S.usedSound (L.read (now (pool .entry))) s ⌝ }
+{
+    let level = pool::level_of(pool, s);
+    if level == 0 {
+        return true;
+    }
+    node_sound(pool, level, s)
+}
+
+// "every node in use is sound". Each is asked by itself: with one parent each, which is asked before, a node is met once for each node
+// above it, and a sound tree is at most 8 high.
+pub fn all_sound(pool: &[i32]) -> bool
+    requires { ⌜ L.rightLength (now pool) ≡ true ⌝ }
+    ensures { λ r. ⌜ r ≡ every (S.usedSound (L.read (now (pool .entry)))) (P.slotNumbers (L.read (now (pool .entry)))) ⌝ }
+{
+    let n = pool::slot_count(pool);
+    let mut i: usize = 0;
+    while i < n {
+        if !used_sound(pool, SlotNumber(i + 1)) {
+            return false;
+        }
+        i += 1;
+    }
+    true
+}
