@@ -66,6 +66,7 @@ fn pools_of(slots: usize, count: usize, dice: &mut Dice, tally: &mut Tally) {
     }
     tally.ask("shared child", &pools::shared_child(slots));
     tally.ask("cycle", &pools::cycle(slots));
+    tally.ask("chain", &pools::chain(slots));
 }
 
 /// The time of a check, the least of several.
@@ -79,12 +80,25 @@ fn time(pool: &[i32]) -> f64 {
         .fold(f64::INFINITY, f64::min)
 }
 
-fn times(dice: &mut Dice) {
-    let full = second::generate::history(second::style::STYLES[0].1, 7, 4096, 16_000).pool;
-    println!("a sound pool of 4,096 slots: {:.0} us", time(&full));
-    println!("  wrong at its last leaf: {:.0} us", time(&pools::wrong_at_the_end(dice, 4096)));
-    println!("  a child shared by all: {:.0} us", time(&pools::shared_child(4096)));
-    println!("  a cycle: {:.0} us", time(&pools::cycle(4096)));
+/// A hostile pool of 4,096 slots is answered in the time of a sound one, within a factor of two.
+fn times(dice: &mut Dice, tally: &mut Tally) {
+    let full = time(&second::generate::history(second::style::STYLES[0].1, 7, 4096, 16_000).pool);
+    println!("a sound pool of 4,096 slots: {full:.0} us");
+    let hostile = [
+        ("wrong at its last leaf", pools::wrong_at_the_end(dice, 4096)),
+        ("a child shared by all", pools::shared_child(4096)),
+        ("a cycle", pools::cycle(4096)),
+        ("a chain", pools::chain(4096)),
+    ];
+    for (what, pool) in hostile {
+        let took = time(&pool);
+        println!("  {what}: {took:.0} us");
+        if took <= 2.0 * full {
+            tally.passed += 1;
+        } else {
+            tally.failed += 1;
+        }
+    }
 }
 
 fn main() {
@@ -97,7 +111,7 @@ fn main() {
     for (slots, count) in [(1, 150), (2, 150), (3, 150), (12, 150), (128, 40), (4096, 2)] {
         pools_of(slots, count * rounds, &mut dice, &mut tally);
     }
-    times(&mut dice);
+    times(&mut dice, &mut tally);
     println!("{} pools were sound", tally.sound);
     println!("{} passed, {} failed", tally.passed, tally.failed);
     std::process::exit(i32::from(tally.failed > 0));

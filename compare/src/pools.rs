@@ -31,20 +31,24 @@ pub fn garbage(dice: &mut Dice, slots: usize) -> Vec<i32> {
     pool
 }
 
+/// A chain through every slot, each one level lower, whose other entries lead nowhere: a walk that goes where it is led goes deep.
+pub fn chain(slots: usize) -> Vec<i32> {
+    tower(slots, slots, |level, place| if place == 0 { level - 1 } else { 0 })
+}
+
 /// A tower of nodes, each with eight entries that all lead to the next one down: a walk with no memory would take 8^levels steps.
 pub fn shared_child(slots: usize) -> Vec<i32> {
-    tower(slots, |level, _| level - 1)
+    tower(slots, slots.min(12), |level, _| level - 1)
 }
 
 /// Nodes that lead back up to the root.
 pub fn cycle(slots: usize) -> Vec<i32> {
     let top = slots.min(12);
-    tower(slots, move |_, place| if place == 0 { top } else { 1 })
+    tower(slots, top, move |_, place| if place == 0 { top } else { 1 })
 }
 
-/// Slot s has level s, for up to twelve of them; `child` gives the slot that an entry leads to.
-fn tower(slots: usize, child: impl Fn(usize, usize) -> usize) -> Vec<i32> {
-    let top = slots.min(12);
+/// Slot s has level s, up to the top; `child` gives the slot that an entry leads to.
+fn tower(slots: usize, top: usize, child: impl Fn(usize, usize) -> usize) -> Vec<i32> {
     let mut pool = vec![0; HEAD + SLOT * slots];
     pool[..4].copy_from_slice(&[1, top as i32, top as i32, 8]);
     for level in 1..=top {

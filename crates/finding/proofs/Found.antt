@@ -87,6 +87,8 @@ module _ (p : Pool) where
 
     -- of all that is stored, each as often
     pub found-alike : Whole p → Alike (foundIn p window (p .height) (p .root)) (those (recordMeets window) (stored p))
-    found-alike w = record { each = λ q.
-        rw (found-in (p .height) (p .root) (w .tree), ← those-and (recordMeets window) q (treeRecords p), ← those-and (recordMeets window) q (stored p))
-        (sym (stored-in p w (λ r. recordMeets window r && q r))) }
+    found-alike w = record {
+      each = λ q.
+          rw (found-in (p .height) (p .root) (w .tree), ← those-and (recordMeets window) q (treeRecords p), ← those-and (recordMeets window) q (stored p))
+          (sym (stored-in p w (λ r. recordMeets window r && q r)));
+    }

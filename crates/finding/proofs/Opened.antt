@@ -87,7 +87,7 @@ module _ (p : Pool) where
           count-joined below (nodeMeets p window) es,
           total-those opens met es,
           ap total (map-same (λ e. cond (met e) (opens e) 0) (λ e. length (those (nodeMeets p window) (below e))) es
-          (λ e m. let i = inner-of p l s d .each e m in part e (i .child) (i .tight) (opened-in (suc l) (childOf e) (i .child)) (met e) refl)),
+              (λ e m. let i = inner-of p l s d .each e m in part e (i .child) (i .tight) (opened-in (suc l) (childOf e) (i .child)) (met e) refl)),
         ))
       where
         es : List Entry

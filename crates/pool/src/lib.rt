@@ -47,7 +47,7 @@ pub fn slot_count(pool: &[i32]) -> usize
 }
 
 // Where slot s begins.
-fn begin(s: SlotNumber) -> usize
+pub fn begin(s: SlotNumber) -> usize
     requires { ⌜ (1 ≤ s .0) × (s .0 ≤ 4096) ⌝ }
     ensures { λ r. ⌜ r ≡ 8 + 42 * (s .0 - 1) ⌝ }
 {

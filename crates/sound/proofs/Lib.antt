@@ -2,3 +2,4 @@
 pub mod Everies
 pub mod Entries
 pub mod Walks
+pub mod Tops

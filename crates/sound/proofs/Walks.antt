@@ -5,7 +5,7 @@ use mathlib.Core.List.{List, [], _∷_}
 use Prim.Native.Nat.{ℕ, zero, suc, _+_, _-_, _≤_, _<_}
 use native.Mathlib.Numerals.{sub-one}
 use native.Mathlib.Omega.{arith}
-use lib.Dec.{leb, eqb}
+use lib.Dec.{eqb}
 use lib.ListN.{length, drop, getD, length-map, List·getD-map}
 use lib.IntN.{ℤ}
 use borrow.Author.Tests.{leb-true, ne-eqb}
@@ -21,7 +21,7 @@ use Rattle.laws.proofs.Places.{length-upFrom, getD-upFrom}
 use Rattle.pool.specs.Slots.{InPool}
 use Rattle.pool.proofs.Written.{read-slots}
 use Rattle.sound.specs.State.{innerSound}
-use Rattle.sound.proofs.Everies.{every-more, every-fails, every-goes}
+use Rattle.sound.proofs.Everies.{every-fails, every-goes}
 
 -- a slot of the pool that is read is a slot of the words
 pub slot-in : (w : List ℤ) (s : SlotNumber) → rightLength w ≡ true → isSlot (read w) s ≡ true → InPool w s

@@ -4,7 +4,7 @@ ghost use mathlib.Core.Path.{_≡_};
 ghost use mathlib.Core.Bool.{true, false, _&&_};
 ghost use Prim.Native.Nat.{_+_, _-_, _<_, _≤_};
 ghost use lib.Dec.{eqb};
-ghost use lib.ListN.{length, drop};
+ghost use lib.ListN.{drop};
 ghost use Rattle.rules.specs.Lists.{every};
 ghost use Rattle.rules.specs.Geometry as G;
 ghost use Rattle.rules.specs.Layout as L;
@@ -12,7 +12,6 @@ ghost use Rattle.rules.specs.Pool as P;
 ghost use Rattle.rules.specs.Sound as S;
 ghost use Rattle.pool.specs.Slots.{InPool};
 ghost use Rattle.sound.specs.State.{innerSound};
-
 use rules::Entry;
 use rules::Pointer;
 use rules::Rect;
@@ -165,4 +164,22 @@ pub fn all_sound(pool: &[i32]) -> bool
         i += 1;
     }
     true
+}
+
+// "A pool is sound when ..": each part of the sentence. A sound tree is at most 8 high, so a higher one is refused before the walk, which
+// then goes no deeper than that, whatever the words are.
+pub fn sound(pool: &[i32]) -> bool
+    requires { ⌜ L.rightLength (now pool) ≡ true ⌝ }
+    ensures { λ r. ⌜ r ≡ S.sound (now (pool .entry)) ⌝ }
+{
+    if !tidy::tidy(pool) {
+        return false;
+    }
+    if !shape::shaped(pool) {
+        return false;
+    }
+    if 8 < pool::height_of(pool) {
+        return false;
+    }
+    all_sound(pool)
 }

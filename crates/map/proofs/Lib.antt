@@ -1,0 +1,2 @@
+-- Laws that the proofs of `map` cite.
+pub mod Asked

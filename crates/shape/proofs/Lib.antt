@@ -1,0 +1,3 @@
+-- Laws that the proofs of `shape` and of the crates above it cite.
+pub mod Counts
+pub mod Asked

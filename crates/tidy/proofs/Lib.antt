@@ -1,0 +1,3 @@
+-- Laws that the proofs of `tidy` cite.
+pub mod Stand
+pub mod Whole
