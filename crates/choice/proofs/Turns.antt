@@ -4,19 +4,13 @@ use mathlib.Core.Bool.{Bool, true, false, cond}
 use mathlib.Core.List.{List, _∷_}
 use Prim.Native.Nat.{ℕ, _+_, _-_, _≤_, _<_}
 use native.Mathlib.Omega.{arith}
-use lib.ListN.{length, length-map}
+use lib.ListN.{length}
 use Rattle.rules.specs.declared.Rect.{Rect}
-use Rattle.rules.specs.declared.Entry.{Entry}
 use Rattle.rules.specs.Lists.{earliestBest, upFrom}
-use Rattle.rules.specs.Pool.{rects}
 use Rattle.rules.specs.Choose.{takesBetter, earliest, chooseChild}
 use Rattle.laws.proofs.Turns.{best-nil, best-cons, up-more, up-none}
 use Rattle.choice.specs.declared.Best.{Best}
 use Rattle.choice.specs.State.{Measured, beats}
-
-pub length-rects : (es : List Entry) → length (rects es) ≡ length es
-unfolding rects
-length-rects es = length-map es _
 
 module _ (rs : List Rect) (new : Rect) where
   -- the best of place k and the places from i on

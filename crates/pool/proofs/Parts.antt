@@ -37,6 +37,11 @@ run-at width (suc n) (suc i) ws h =
     more : (k j : ℕ) → k + k * j ≡ k * suc j
     more k j = omega (arith, mul-suc k j)
 
+-- as many rectangles as entries
+pub length-rects : (es : List Entry) → length (rects es) ≡ length es
+unfolding rects
+length-rects es = length-map es _
+
 -- ---- sizes
 
 module _ (w : List ℤ) (r : rightLength w ≡ true) where

@@ -4,17 +4,14 @@ use mathlib.Core.List.{List, [], _∷_, foldl}
 use Prim.Native.Nat.{ℕ, _+_, _≤_, _<_}
 use native.Mathlib.Numerals.{add-one}
 use native.Mathlib.Omega.{arith}
-use lib.ListN.{length, drop, length-map, drop-of-length-le}
+use lib.ListN.{length, drop, drop-of-length-le}
 use lib.Seq.{drop-cons}
 use Rattle.rules.specs.declared.Rect.{Rect}
 use Rattle.rules.specs.declared.Entry.{Entry}
 use Rattle.rules.specs.Geometry.{cover, coverAll, noRect}
 use Rattle.rules.specs.Choose.{rectFrom}
 use Rattle.rules.specs.Pool.{rects, coverOf}
-
-pub length-rects : (es : List Entry) → length (rects es) ≡ length es
-unfolding rects
-length-rects es = length-map es _
+use Rattle.pool.proofs.Parts.{length-rects}
 
 all-first : (rs : List Rect) → 0 < length rs → foldl cover (rectFrom rs 0) (drop 1 rs) ≡ coverAll rs
 unfolding rectFrom coverAll

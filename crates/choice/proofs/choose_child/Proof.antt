@@ -11,9 +11,10 @@ use Rattle.rules.specs.declared.SlotNumber.{SlotNumber}
 use Rattle.rules.specs.Pool.{entriesAt, rects}
 use Rattle.rules.specs.Layout.{read}
 use Rattle.rules.specs.Choose.{chooseChild}
+use Rattle.pool.proofs.Parts.{length-rects}
 use Rattle.choice.specs.declared.Best.{Best}
 use Rattle.choice.specs.State.{Measured, beats}
-use Rattle.choice.proofs.Turns.{length-rects, ahead, kept, step, first, last}
+use Rattle.choice.proofs.Turns.{ahead, kept, step, first, last}
 use Rattle.choice.proofs.choose_child.Statement.{statement}
 use Rattle.choice.proofs.choose_child.Tie as tie
 use Rattle.choice.proofs.choose_child.Reads as reads

@@ -3,8 +3,8 @@ use Prim.Native.Nat.{_<_}
 use lib.ListN.{length}
 use Rattle.rules.specs.Pool.{entriesAt, rects}
 use Rattle.rules.specs.Layout.{read}
-use Rattle.choice.proofs.Turns.{length-rects}
 use borrow.Author.Needs.{needs}
+use Rattle.pool.proofs.Parts.{length-rects}
 use Rattle.choice.proofs.measured.Statement.{statement}
 use Rattle.choice.proofs.measured.Tie as tie
 use Rattle.choice.proofs.measured.Reads as reads
