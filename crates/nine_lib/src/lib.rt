@@ -47,7 +47,7 @@ fn signed(n: u64) -> i32
 }
 
 // A signed word, the lowest byte first.
-pub fn word_at(bytes: &[u8; 144], at: usize) -> i32
+fn word_at(bytes: &[u8; 144], at: usize) -> i32
     requires { ⌜ at + 4 ≤ 144 ⌝ }
     ensures { λ r. ⌜ r ≡ F.wordValue (take 4 (drop at (now (bytes .entry)))) ⌝ }
 {
@@ -55,7 +55,7 @@ pub fn word_at(bytes: &[u8; 144], at: usize) -> i32
 }
 
 // The rectangle at place i of the nine.
-pub fn rect_at(bytes: &[u8; 144], i: usize) -> Rect
+fn rect_at(bytes: &[u8; 144], i: usize) -> Rect
     requires { ⌜ i < 9 ⌝ }
     ensures { λ r. ⌜ r ≡ rectAt (now (bytes .entry)) i ⌝ }
 {
@@ -73,7 +73,7 @@ pub fn rect_at(bytes: &[u8; 144], i: usize) -> Rect
 }
 
 // The array needs something in it before the loop: the first of the nine will do.
-pub fn nine_rects(bytes: &[u8; 144]) -> [Rect; 9]
+fn nine_rects(bytes: &[u8; 144]) -> [Rect; 9]
     ensures { λ r. ⌜ r ≡ nineIn (now (bytes .entry)) ⌝ }
 {
     let first = rect_at(bytes, 0);
@@ -87,7 +87,7 @@ pub fn nine_rects(bytes: &[u8; 144]) -> [Rect; 9]
 }
 
 // The run-time test of what `split_nine` requires.
-pub fn all_valid(nine: [Rect; 9]) -> bool
+fn all_valid(nine: [Rect; 9]) -> bool
     ensures is { λ r. ⌜ r ≡ every G.valid nine ⌝ }
     ensures all { λ r. ⌜ (r ≡ true → AllValid nine) ⌝ }
 {
@@ -129,7 +129,7 @@ fn put_group(line: [u8; 20], at: usize, group: [usize; 9], count: usize) -> [u8;
 }
 
 // Nine digits and a bar with a byte behind each: twenty bytes, whatever the groups are.
-pub fn groups_line(groups: Groups) -> [u8; 20]
+fn groups_line(groups: Groups) -> [u8; 20]
     requires { ⌜ Whole groups ⌝ }
     ensures { λ r. ⌜ r ≡ groupsLine (take (groups .ones) (groups .one)) (take (groups .twos) (groups .two)) ⌝ }
 {

@@ -102,7 +102,7 @@ fn child(e: Entry) -> SlotNumber
 }
 
 // "A node is sound when its entries are": the node at s, which has the level given.
-pub fn node_sound(pool: &[i32], level: usize, s: SlotNumber) -> bool
+fn node_sound(pool: &[i32], level: usize, s: SlotNumber) -> bool
     requires { ⌜ InPool (now pool) s ⌝ }
     ensures { λ r. ⌜ r ≡ S.nodeSound (L.read (now (pool .entry))) level s ⌝ }
 {
@@ -151,7 +151,7 @@ fn used_sound(pool: &[i32], s: SlotNumber) -> bool
 
 // "every node in use is sound". Each is asked by itself: with one parent each, which is asked before, a node is met once for each node
 // above it, and a sound tree is at most 8 high.
-pub fn all_sound(pool: &[i32]) -> bool
+fn all_sound(pool: &[i32]) -> bool
     requires { ⌜ L.rightLength (now pool) ≡ true ⌝ }
     ensures { λ r. ⌜ r ≡ every (S.usedSound (L.read (now (pool .entry)))) (P.slotNumbers (L.read (now (pool .entry)))) ⌝ }
 {

@@ -56,7 +56,7 @@ fn pairs_of(nine: [Rect; 9], i: usize, best: Pair) -> Pair
 }
 
 // Largest d, then earliest first member, then earliest second.
-pub fn pick_seeds(nine: [Rect; 9]) -> Pair
+fn pick_seeds(nine: [Rect; 9]) -> Pair
     requires { ⌜ AllValid nine ⌝ }
     ensures is { λ r. ⌜ placesOf r ≡ S.pickSeeds nine ⌝ }
     ensures keyed { λ r. ⌜ Keyed nine r ⌝ }
