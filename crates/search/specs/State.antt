@@ -1,0 +1,23 @@
+-- What search does below one entry. `openedIn` and `foundIn` of the rules join this over a node's entries.
+use mathlib.Core.Bool.{cond}
+use mathlib.Core.List.{List, [], _∷_}
+use Prim.Native.Nat.{ℕ, zero, suc}
+use Rattle.rules.specs.declared.Rect.{Rect}
+use Rattle.rules.specs.declared.Record.{Record}
+use Rattle.rules.specs.declared.Entry.{Entry}
+use Rattle.rules.specs.Geometry.{meets}
+use Rattle.rules.specs.Pool.{Pool, childOf, recordOf}
+use Rattle.rules.specs.Search.{foundIn, openedIn}
+
+-- "opens every child whose entry rectangle meets the window": the nodes opened below an entry, whose child has the level given
+unfoldable pub openedBelow : Pool → Rect → ℕ → Entry → ℕ
+openedBelow p window level e = cond (meets (e .rect) window) (openedIn p window level (childOf e)) 0
+
+-- what an entry that meets the window leads to: its own record where it stands in a leaf (level 0 is below a leaf), or what its child holds
+unfoldable pub heldBelow : Pool → Rect → ℕ → Entry → List Record
+heldBelow p window zero e = recordOf e ∷ []
+heldBelow p window (suc l) e = foundIn p window (suc l) (childOf e)
+
+-- the records found below an entry
+unfoldable pub foundBelow : Pool → Rect → ℕ → Entry → List Record
+foundBelow p window level e = cond (meets (e .rect) window) (heldBelow p window level e) []
