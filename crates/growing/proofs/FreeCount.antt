@@ -18,19 +18,19 @@ use Rattle.trees.proofs.Joins.{without-set}
 use Rattle.growing.proofs.Free.{free-here, free-later}
 
 -- a member put in another's place
-count-set : {A : Type 0} (q : A → Bool) (xs : List A) (i : ℕ) (y d : A) → i < length xs
+pub count-set : {A : Type 0} (q : A → Bool) (xs : List A) (i : ℕ) (y d : A) → i < length xs
     → length (those q (set xs i y)) + length (those q (getD xs i d ∷ [])) ≡ length (those q xs) + length (those q (y ∷ []))
 count-set q xs i y d h =
     let new = rw (getD-set-same xs i y d, without-set xs i y) at (without-parted (set xs i y) i d (rw length-set h)) in
     omega (arith, new .each q, without-parted xs i d h .each q)
 
-abbrev isFree : Node → Bool
+abbrev pub isFree : Node → Bool
 isFree n = eqb (n .level) 0
 
-free-one : (n : Node) → n .level ≡ 0 → length (those isFree (n ∷ [])) ≡ 1
+pub free-one : (n : Node) → n .level ≡ 0 → length (those isFree (n ∷ [])) ≡ 1
 free-one n h = rw (those-yes isFree n [] (eq-eqb (n .level) 0 h), those-none isFree)
 
-used-none : (n : Node) → 1 ≤ n .level → length (those isFree (n ∷ [])) ≡ 0
+pub used-none : (n : Node) → 1 ≤ n .level → length (those isFree (n ∷ [])) ≡ 0
 used-none n h = rw (those-no isFree n [] (ne-eqb (n .level) 0 (λ e. omega arith)), those-none isFree)
 
 module _ (p : Pool) (s : SlotNumber) (n : Node) (k : Slot p s) (new : 1 ≤ n .level) where

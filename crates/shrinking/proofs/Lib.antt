@@ -1,0 +1,13 @@
+-- Deleting keeps the tree.
+pub mod Finds
+pub mod Held
+pub mod Asides
+pub mod Freed
+pub mod Out
+pub mod Narrow
+pub mod Condense
+pub mod Again
+pub mod Spare
+pub mod Short
+pub mod Delete
+pub mod Update

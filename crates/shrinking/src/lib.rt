@@ -1,0 +1,1 @@
+// No code: deleting keeps the tree, for any lawful choice of child and any lawful split.
