@@ -1,0 +1,11 @@
+-- Laws of the records in force.
+pub mod Pairs
+pub mod Faults
+pub mod Change
+pub mod Whole
+pub mod Search
+pub mod Batch
+pub mod Filled
+pub mod Pointers
+pub mod Written
+pub mod Call
