@@ -40,8 +40,11 @@ module _ (p : Pool) where
   slots-least zero s d h = rw (slots-leaf p s) (omega arith)
   slots-least (suc l) s d h =
       rw (slots-inner p s l)
-      (omega (arith, many-parts (λ (e : Entry). slotsIn p (suc l) (childOf e)) (fewestSlots (suc l)) 3 (entriesAt p s) h
-      (λ e m. let i = inner-of p l s d .each e m in slots-least l (childOf e) (i .child) (i .enough))))
+      (omega (
+        arith,
+        many-parts (λ (e : Entry). slotsIn p (suc l) (childOf e)) (fewestSlots (suc l)) 3 (entriesAt p s) h
+            (λ e m. let i = inner-of p l s d .each e m in slots-least l (childOf e) (i .child) (i .enough)),
+      ))
 
   -- at least 1 + 3 + .. + 3^l slots, which is (3^(l + 1) - 1) / 2
   pub tree-slots : (l : ℕ) (s : SlotNumber) → Tree p (suc l) s → least ≤ length (entriesAt p s) → 3 ^ suc l ≤ 2 * length (slotsIn p (suc l) s) + 1
@@ -62,14 +65,21 @@ module _ (p : Pool) where
     root-slots : (l : ℕ) → Tree p (suc (suc l)) s → 3 ^ suc l ≤ length (slotsIn p (suc (suc l)) s)
     root-slots l d =
         rw (slots-inner p s l)
-        (omega (arith, fewest-is (suc l), many-parts (λ (e : Entry). slotsIn p (suc l) (childOf e)) (fewestSlots (suc l)) 2 (entriesAt p s) two
-        (λ e m. let i = inner-of p l s d .each e m in slots-least l (childOf e) (i .child) (i .enough))))
+        (omega (
+          arith,
+          fewest-is (suc l),
+          many-parts (λ (e : Entry). slotsIn p (suc l) (childOf e)) (fewestSlots (suc l)) 2 (entriesAt p s) two
+              (λ e m. let i = inner-of p l s d .each e m in slots-least l (childOf e) (i .child) (i .enough)),
+        ))
 
     root-records : (l : ℕ) → Tree p (suc (suc l)) s → 2 * 3 ^ suc l ≤ length (recordsIn p (suc (suc l)) s)
     root-records l d =
         rw (records-inner p s l)
-        (omega (arith, many-parts (λ (e : Entry). recordsIn p (suc l) (childOf e)) (3 ^ suc l) 2 (entriesAt p s) two
-        (λ e m. let i = inner-of p l s d .each e m in tree-records l (childOf e) (i .child) (i .enough))))
+        (omega (
+          arith,
+          many-parts (λ (e : Entry). recordsIn p (suc l) (childOf e)) (3 ^ suc l) 2 (entriesAt p s) two
+              (λ e m. let i = inner-of p l s d .each e m in tree-records l (childOf e) (i .child) (i .enough)),
+        ))
 
   top-slots : (h : ℕ) (s : SlotNumber) → Tree p h s → (2 ≤ h → 2 ≤ length (entriesAt p s)) → 3 ^ (h - 1) ≤ length (slotsIn p h s)
   top-slots zero s d two = absurd (no-tree p s d)

@@ -151,8 +151,10 @@ module _ {A B : Type 0} (f : A → List B) where
 
   -- the part of the member at a place, and the others' parts
   pub joined-parted : (xs : List A) (i : ℕ) (d : A) → i < length xs → Parted (joined (map f xs)) (f (getD xs i d)) (joined (map f (without i xs)))
-  joined-parted xs i d h = record { each = λ q.
-      omega (arith, count-joined q xs, count-joined q (without i xs), total-without (λ x. length (those q (f x))) xs i d h) }
+  joined-parted xs i d h = record {
+    each = λ q.
+        omega (arith, count-joined q xs, count-joined q (without i xs), total-without (λ x. length (those q (f x))) xs i d h);
+  }
 
   pub joined-set : (xs : List A) (i : ℕ) (y : A) → i < length xs → Parted (joined (map f (set xs i y))) (f y) (joined (map f (without i xs)))
   joined-set xs i y h =

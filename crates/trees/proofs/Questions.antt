@@ -65,8 +65,8 @@ inner-entry-is p l e = (to, from)
     from h =
         asked-both (slots && levels && tights) (nodeSound p l c) .1 (
           both-and (slots && levels) tights
-          (both-and slots levels (slot-is p c .1 (h .slot)) (eq-eqb (nodeAt p c .level) l (h .level)))
-          (same-rect (e .rect) (coverOf (entriesAt p c)) .1 (h .tight)),
+              (both-and slots levels (slot-is p c .1 (h .slot)) (eq-eqb (nodeAt p c .level) l (h .level)))
+              (same-rect (e .rect) (coverOf (entriesAt p c)) .1 (h .tight)),
           h .node,
         )
 
