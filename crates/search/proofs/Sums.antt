@@ -1,7 +1,6 @@
 -- Sums and joined lists over a list, as a recursion goes through it: from a place on, and over those of which a test holds. All is by
 -- induction on the list, a member at a time.
-use mathlib.Core.Path.{_≡_, refl, sym, ap, _∙_}
-use mathlib.Core.Bool.{Bool, true, false, cond}
+use mathlib.Core.Path.{_≡_, ap, _∙_}
 use mathlib.Core.List.{List, [], _∷_, _++_, map}
 use Prim.Native.Nat.{ℕ, zero, suc, _+_, _*_, _≤_, _<_}
 use native.Mathlib.Nat.{mul-suc, mul-zero}
@@ -9,8 +8,7 @@ use native.Mathlib.Numerals.{add-one}
 use native.Mathlib.Omega.{arith}
 use lib.ListN.{length, getD, drop, drop-of-length-le, length-append}
 use lib.Seq.{drop-cons}
-use Rattle.rules.specs.Lists.{those, joined, total}
-use Rattle.laws.proofs.Parts.{those-yes, those-no, those-none}
+use Rattle.rules.specs.Lists.{joined, total}
 use Rattle.trees.proofs.Joins.{joined-none, joined-more, total-none, total-more}
 
 module _ {A : Type 0} (f : A → ℕ) where
@@ -38,27 +36,6 @@ module _ {A B : Type 0} (f : A → List B) where
 
     pub joined-next : (d : A) → i < length xs → joined (map f (drop i xs)) ≡ f (getD xs i d) ++ joined (map f (drop (i + 1) xs))
     joined-next d h = rw (drop-cons xs i d h, add-one i) (joined-more f (getD xs i d) (drop (suc i) xs))
-
-  pub length-joined : (xs : List A) → length (joined (map f xs)) ≡ total (map (λ x. length (f x)) xs)
-  length-joined [] = ap length (joined-none f) ∙ sym (total-none (λ (x : A). length (f x)))
-  length-joined (x ∷ xs) =
-      omega (arith, ap length (joined-more f x xs), length-append (f x) (joined (map f xs)), length-joined xs, total-more (λ (y : A). length (f y)) x xs)
-
-  -- over those of which a test holds: the others add nothing
-  pub joined-those : (t : A → Bool) (xs : List A) → joined (map f (those t xs)) ≡ joined (map (λ x. cond (t x) (f x) []) xs)
-  joined-those t [] = rw (those-none t) (joined-none f ∙ sym (joined-none (λ (x : A). cond (t x) (f x) [])))
-  joined-those t (x ∷ xs) = go (t x) refl (joined-those t xs)
-    where
-      g : A → List B
-      g y = cond (t y) (f y) []
-
-      go : (b : Bool) → t x ≡ b → joined (map f (those t xs)) ≡ joined (map g xs) → joined (map f (those t (x ∷ xs))) ≡ joined (map g (x ∷ xs))
-      go true p e =
-          let n : g x ≡ f x = rw p in
-          rw (those-yes t x xs p, joined-more f x (those t xs), e, joined-more g x xs, n)
-      go false p e =
-          let n : g x ≡ [] = rw p in
-          rw (those-no t x xs p, e, joined-more g x xs, n)
 
 pub joined-ones : {A B : Type 0} (f : A → B) (xs : List A) → joined (map (λ x. f x ∷ []) xs) ≡ map f xs
 joined-ones f [] = joined-none (λ x. f x ∷ [])

@@ -18,8 +18,9 @@ use Rattle.rules.specs.Pool.{Pool, entriesAt, childOf, recordOf}
 use Rattle.rules.specs.Layout.{rightLength, read}
 use Rattle.rules.specs.Search.{meeting, foundIn, openedIn, opened}
 use Rattle.finding.proofs.Lists.{total-those}
+use Rattle.trees.proofs.Joins.{length-joined, joined-those}
 use Rattle.search.specs.State.{openedBelow, heldBelow, foundBelow}
-use Rattle.search.proofs.Sums.{total-most, total-drop, joined-ones, length-joined, joined-those}
+use Rattle.search.proofs.Sums.{total-most, total-drop, joined-ones}
 use Rattle.search.proofs.Nodes.{most-entries}
 
 module _ (p : Pool) (window : Rect) where
