@@ -88,12 +88,12 @@ module _ (c : Choice) where
   kept i [] b j h = refl
   kept i (q ∷ qs) b j h = kept (suc i) qs (doRequest c i b (asked q)) j (omega arith) ∙ step-kept i b (asked q) j h
 
-  long : (i : ℕ) (qs : List Request) (b : Batch) → length (doRequests c i qs b .answers) ≡ length (b .answers)
+  pub long : (i : ℕ) (qs : List Request) (b : Batch) → length (doRequests c i qs b .answers) ≡ length (b .answers)
   unfolding doRequests
   long i [] b = refl
   long i (q ∷ qs) b = long (suc i) qs (doRequest c i b (asked q)) ∙ step-long i b (asked q)
 
-  places : (i : ℕ) (qs : List Request) (b : Batch) → length (doRequests c i qs b .found) ≡ length (b .found)
+  pub places : (i : ℕ) (qs : List Request) (b : Batch) → length (doRequests c i qs b .found) ≡ length (b .found)
   unfolding doRequests
   places i [] b = refl
   places i (q ∷ qs) b = places (suc i) qs (doRequest c i b (asked q)) ∙ step-places i b (asked q)

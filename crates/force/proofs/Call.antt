@@ -64,40 +64,40 @@ module _ (c : Choice) (l : Lent) where
   abbrev whole-batch : Batch
   whole-batch = doRequests c 0 (l .requests) (starting l)
 
-  left-refused : (v : Verdict) → callFault l ≡ some v → callBy c l ≡ refused l v
+  pub left-refused : (v : Verdict) → callFault l ≡ some v → callBy c l ≡ refused l v
   unfolding callBy
   left-refused v h = rw (h, callBy)
 
-  left-served : callFault l ≡ none → callBy c l ≡ served whole-batch
+  pub left-served : callFault l ≡ none → callBy c l ≡ served whole-batch
   unfolding callBy
   left-served h = rw (h, callBy)
 
-  refused-number : (v : Verdict) → refused l v .number ≡ verdictNumber v
+  pub refused-number : (v : Verdict) → refused l v .number ≡ verdictNumber v
   unfolding refused
   refused-number v = refl
 
-  no-fault : callBy c l .number ≡ pos 0 → callFault l ≡ none
+  pub no-fault : callBy c l .number ≡ pos 0 → callFault l ≡ none
   no-fault z = go (callFault l) refl (all-off l)
     where
       go : (o : Option Verdict) → callFault l ≡ o → EachGiven Told-off o → callFault l ≡ none
       go none h g = h
       go (some v) h g = absurd (g (sym (refused-number v) ∙ ap (λ (x : Left). x .number) (sym (left-refused v h)) ∙ z))
 
-  answers-long : callFault l ≡ none → length (l .answers) ≡ length (l .requests)
+  pub answers-long : callFault l ≡ none → length (l .answers) ≡ length (l .requests)
   unfolding callFault
   answers-long h =
       let a = no-row (ltb mostRequests (length (l .requests)) || not (eqb (length (l .answers)) (length (l .requests)))) BadLists _ h in
       eqb-true _ _ (not-false _ (or-later (ltb mostRequests (length (l .requests))) _ (a .0)))
 
-  left-pool : callFault l ≡ none → callBy c l .pool ≡ words (whole-batch .pool)
+  pub left-pool : callFault l ≡ none → callBy c l .pool ≡ words (whole-batch .pool)
   unfolding served
   left-pool h = ap (λ (x : Left). x .pool) (left-served h)
 
-  left-answers : callFault l ≡ none → callBy c l .answers ≡ whole-batch .answers
+  pub left-answers : callFault l ≡ none → callBy c l .answers ≡ whole-batch .answers
   unfolding served
   left-answers h = ap (λ (x : Left). x .answers) (left-served h)
 
-  left-found : callFault l ≡ none → callBy c l .found ≡ whole-batch .found
+  pub left-found : callFault l ≡ none → callBy c l .found ≡ whole-batch .found
   unfolding served
   left-found h = ap (λ (x : Left). x .found) (left-served h)
 
@@ -168,7 +168,7 @@ module _ (c : Choice) (l : Lent) where
 
 -- ---- a history
 
-blank-holds : (n : ℕ) → Holds (blankPool n) []
+pub blank-holds : (n : ℕ) → Holds (blankPool n) []
 blank-holds n = record {
   whole = blank-whole n;
   alike = record { each = λ f. rw (nothing (stored (blankPool n)) (sym (blank-whole n .counted) ∙ none-yet)) };

@@ -1,6 +1,6 @@
 -- A request, accepted or refused, leaves a whole pool that holds the records in force: for every lawful choice.
 use mathlib.Core.Path.{_≡_, refl, sym, subst}
-use mathlib.Core.Bool.{Bool, true, false, not, _&&_, _||_}
+use mathlib.Core.Bool.{Bool, true, false, cond, not, _&&_, _||_}
 use mathlib.Core.List.{List, []}
 use mathlib.Core.Option.{Option, none, some}
 use Prim.Native.Nat.{ℕ}
@@ -40,7 +40,7 @@ Refused reply = eqb (answerOf reply .number) 0 ≡ false
 
 pub force-refused : (rs : List Record) (a : Asked) (reply : Reply) → Refused reply → inForce rs a (answerOf reply) ≡ rs
 unfolding inForce
-force-refused rs a reply h = rw h
+force-refused rs a reply h = subst (λ (b : Bool). cond b (change rs a) rs ≡ rs) (sym h) refl
 
 pub force-changed : (rs : List Record) (a : Asked) → inForce rs a (answerOf Changed) ≡ change rs a
 unfolding inForce answerOf

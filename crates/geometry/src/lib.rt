@@ -22,7 +22,7 @@ pub fn le(a: i32, b: i32) -> bool
     a <= b
 }
 
-fn same(a: i32, b: i32) -> bool
+pub fn same(a: i32, b: i32) -> bool
     ensures { λ r. ⌜ r ≡ L.same a b ⌝ }
 {
     and(le(a, b), le(b, a))

@@ -23,7 +23,7 @@ pub front : List Entry → ℕ → ℕ → List ℤ
 front es n zero = []
 front es n (suc i) = front es n i ++ entryWords (usedAt es n i)
 
-entry-size : (e : Entry) → length (entryWords e) ≡ 5
+pub entry-size : (e : Entry) → length (entryWords e) ≡ 5
 unfolding entryWords
 entry-size e = refl
 
@@ -50,12 +50,12 @@ module _ (es : List Entry) (n : ℕ) where
 
 -- ---- all eight
 
-joined-snoc : (ls : List (List ℤ)) (l : List ℤ) → joined (ls ++ l ∷ []) ≡ joined ls ++ l
+pub joined-snoc : (ls : List (List ℤ)) (l : List ℤ) → joined (ls ++ l ∷ []) ≡ joined ls ++ l
 unfolding joined
 joined-snoc [] l = append-nil l
 joined-snoc (x ∷ ls) l = ap (λ (r : List ℤ). x ++ r) (joined-snoc ls l) ∙ sym (append-assoc x (joined ls) l)
 
-take-zeros : (m n : ℕ) → m ≤ n → take m (replicate n (pos 0)) ≡ replicate m (pos 0)
+pub take-zeros : (m n : ℕ) → m ≤ n → take m (replicate n (pos 0)) ≡ replicate m (pos 0)
 take-zeros zero n h = refl
 take-zeros (suc m) zero h = absurd (omega arith)
 take-zeros (suc m) (suc n) h = ap (λ (r : List ℤ). pos 0 ∷ r) (take-zeros m n (omega arith))

@@ -4,3 +4,4 @@ pub mod Naturals
 pub mod Runs
 pub mod Written
 pub mod Fronts
+pub mod Stores

@@ -204,9 +204,10 @@ slot-pointer {w} {s} p i h =
     ap (λ (x : Node). getD (x .entries) i noEntry .pointer) e ∙ node-pointer (slotWords w s) i n
     ∙ ap₂ pointerOf (ap (λ (x : Node). x .level) (sym e)) (entry-word p i 4 m (omega arith) ∙ ap (wordAt w) same)
 
+-- an entry from its two parts
+pub entry-parts : (p : Pool) (s : SlotNumber) (i : ℕ) → entry (rectFrom (rects (entriesAt p s)) i) (entryAt p s i .pointer) ≡ entryAt p s i
+entry-parts p s i = λ j. record { rect = (rect-entry (entriesAt p s) i ∙ entry-at p s i) j; pointer = entryAt p s i .pointer }
+
 pub slot-entry : {w : List ℤ} {s : SlotNumber} → InPool w s → (i : ℕ) → i < length (entriesAt (read w) s)
     → entry (rectFrom (rects (entriesAt (read w) s)) i) (pointerOf (nodeAt (read w) s .level) (wordAt w (startOf s + 6 + 5 * i))) ≡ entryAt (read w) s i
-slot-entry {w} {s} p i h = λ j. record { rect = same-rect j; pointer = sym (slot-pointer p i h) j }
-  where
-    same-rect : rectFrom (rects (entriesAt (read w) s)) i ≡ entryAt (read w) s i .rect
-    same-rect = rect-entry (entriesAt (read w) s) i ∙ entry-at (read w) s i
+slot-entry {w} {s} p i h = ap (λ q. entry (rectFrom (rects (entriesAt (read w) s)) i) q) (sym (slot-pointer p i h)) ∙ entry-parts (read w) s i

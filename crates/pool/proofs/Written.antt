@@ -40,13 +40,13 @@ entries-back : (l : ℕ) (es : List Entry) → Each (Kind l) es → map (entryOf
 entries-back l [] k = refl
 entries-back l (e ∷ es) k = ap₂ (λ (a : Entry) (b : List Entry). a ∷ b) (entry-back l e (k .0)) (entries-back l es (k .1))
 
-entry-wide : (es : List Entry) → Wide 5 (map entryWords es)
+pub entry-wide : (es : List Entry) → Wide 5 (map entryWords es)
 unfolding entryWords
 entry-wide [] = tt
 entry-wide (e ∷ es) = (refl, entry-wide es)
 
 module _ (es : List Entry) where
-  size : length (joined (map entryWords es)) ≡ 5 * length es
+  pub size : length (joined (map entryWords es)) ≡ 5 * length es
   size = length-joined 5 (map entryWords es) (entry-wide es) ∙ ap (λ (n : ℕ). 5 * n) (length-map es entryWords)
 
   -- the words of the entries, and zeros behind them
@@ -83,7 +83,7 @@ node-back {n} f = λ i. record { level = n .level; entries = same i }
 abbrev pub AllFine : Pool → Type 0
 AllFine p = Each Fine (p .slots)
 
-node-wide : (ns : List Node) → Wide 42 (map nodeWords ns)
+pub node-wide : (ns : List Node) → Wide 42 (map nodeWords ns)
 node-wide [] = tt
 node-wide (n ∷ ns) = (node-size n, node-wide ns)
 
@@ -91,7 +91,7 @@ nodes-back : (ns : List Node) → Each Fine ns → map nodeOf (map nodeWords ns)
 nodes-back [] f = refl
 nodes-back (n ∷ ns) f = ap₂ (λ (a : Node) (b : List Node). a ∷ b) (node-back (f .0)) (nodes-back ns (f .1))
 
-head-size : (p : Pool) → length (headWords p) ≡ 8
+pub head-size : (p : Pool) → length (headWords p) ≡ 8
 unfolding headWords padded
 head-size p = refl
 
@@ -125,18 +125,18 @@ module _ (p : Pool) where
 
 -- ---- a node written into its slot
 
-map-set : (ns : List Node) (i : ℕ) (n : Node) → set (map nodeWords ns) i (nodeWords n) ≡ map nodeWords (set ns i n)
-map-set [] i n = refl
-map-set (m ∷ ns) zero n = refl
-map-set (m ∷ ns) (suc i) n = ap (λ (l : List (List ℤ)). nodeWords m ∷ l) (map-set ns i n)
+pub map-set : {A B : Type 0} (f : A → B) (xs : List A) (i : ℕ) (y : A) → set (map f xs) i (f y) ≡ map f (set xs i y)
+map-set f [] i y = refl
+map-set f (x ∷ xs) zero y = refl
+map-set {B = B} f (x ∷ xs) (suc i) y = ap (λ (l : List B). f x ∷ l) (map-set f xs i y)
 
 -- the widths of a list's members
-wide-at : (ls : List (List ℤ)) (m : ℕ) → Wide 42 ls → m < length ls → length (getD ls m []) ≡ 42
-wide-at [] m w h = absurd (omega arith)
-wide-at (l ∷ ls) zero w h = w .0
-wide-at (l ∷ ls) (suc m) w h = wide-at ls m (w .1) (omega arith)
+pub wide-at : (k : ℕ) (ls : List (List ℤ)) (m : ℕ) → Wide k ls → m < length ls → length (getD ls m []) ≡ k
+wide-at k [] m w h = absurd (omega arith)
+wide-at k (l ∷ ls) zero w h = w .0
+wide-at k (l ∷ ls) (suc m) w h = wide-at k ls m (w .1) (omega arith)
 
-same-head : (p : Pool) (s : SlotNumber) (n : Node) → headWords p ≡ headWords (putNode p s n)
+pub same-head : (p : Pool) (s : SlotNumber) (n : Node) → headWords p ≡ headWords (putNode p s n)
 unfolding putNode headWords
 same-head p s n = refl
 
@@ -148,12 +148,12 @@ words-put p s n low high =
     let inside : m < length ls = omega (arith, length-map (p .slots) nodeWords) in
     let here : 8 + 42 * (s .0 - 1) ≡ length (headWords p) + (42 * m + 0) = omega (arith, head-size p) in
     let fits : 0 + length (nodeWords n) ≤ 42 = omega (arith, node-size n) in
-    let whole : length (nodeWords n) ≡ length (getD ls m []) = node-size n ∙ sym (wide-at ls m (node-wide (p .slots)) inside) in
+    let whole : length (nodeWords n) ≡ length (getD ls m []) = node-size n ∙ sym (wide-at 42 ls m (node-wide (p .slots)) inside) in
     ap (λ (k : ℕ). sets (headWords p ++ joined ls) k (nodeWords n)) here
     ∙ sets-right (nodeWords n) (headWords p) (joined ls) (42 * m + 0)
     ∙ ap (λ (l : List ℤ). headWords p ++ l)
     (sets-joined 42 ls (node-wide (p .slots)) m 0 (nodeWords n) inside fits
-    ∙ ap joined (ap (set ls m) (sets-all (getD ls m []) (nodeWords n) whole) ∙ map-set (p .slots) m n))
+    ∙ ap joined (ap (set ls m) (sets-all (getD ls m []) (nodeWords n) whole) ∙ map-set nodeWords (p .slots) m n))
     ∙ ap (λ (h : List ℤ). h ++ joined (map nodeWords (set (p .slots) m n))) (same-head p s n)
 
 -- ---- what is read
@@ -211,10 +211,10 @@ pub read-slots : (w : List ℤ) → length (read w .slots) ≡ slotCount w
 unfolding read
 read-slots w = length-map (runs 42 (slotCount w) (drop 8 w)) nodeOf ∙ length-runs 42 (slotCount w) (drop 8 w)
 
-each-set : (ns : List Node) (i : ℕ) (n : Node) → Each Fine ns → Fine n → Each Fine (set ns i n)
-each-set [] i n a f = tt
-each-set (m ∷ ns) zero n a f = (f, a .1)
-each-set (m ∷ ns) (suc i) n a f = (a .0, each-set ns i n (a .1) f)
+pub each-set : {A : Type 0} (P : A → Type 0) (xs : List A) (i : ℕ) (y : A) → Each P xs → P y → Each P (set xs i y)
+each-set P [] i y a f = tt
+each-set P (x ∷ xs) zero y a f = (f, a .1)
+each-set P (x ∷ xs) (suc i) y a f = (a .0, each-set P xs i y (a .1) f)
 
 -- the first n entries of an array make a fine node
 kinds-taken : (l : ℕ) (es : List Entry) (n : ℕ) → ((i : ℕ) → i < n → Kind l (getD es i noEntry)) → Each (Kind l) (take n es)
@@ -233,7 +233,7 @@ module _ {w : List ℤ} {s : SlotNumber} (f : Fit w) (i : InPool w s) {n : Node}
 
   put-fine : AllFine (putNode (read w) s n)
   unfolding putNode
-  put-fine = each-set (read w .slots) (s .0 - 1) n (read-fine w) g
+  put-fine = each-set Fine (read w .slots) (s .0 - 1) n (read-fine w) g
 
   pub put-read : read (sets w (startOf s) (nodeWords n)) ≡ putNode (read w) s n
   put-read = ap read put-is ∙ read-words (putNode (read w) s n) put-fine

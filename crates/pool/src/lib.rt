@@ -2,13 +2,14 @@
 // any words of a right length.
 ghost use mathlib.Core.Path.{_≡_};
 ghost use mathlib.Core.Bool.{true, false};
+ghost use mathlib.Core.List.{[], _∷_, _++_};
 ghost use Prim.Native.Nat.{_+_, _-_, _*_, _<_, _≤_};
-ghost use lib.ListN.{length, take};
+ghost use lib.ListN.{length, set, take, drop};
 ghost use lib.Seq.{sets};
 ghost use Rattle.rules.specs.Layout as L;
 ghost use Rattle.rules.specs.Pool as P;
 ghost use Rattle.rules.specs.Choose.{rectFrom};
-ghost use Rattle.pool.specs.Slots.{Fit, InPool, KindAll, Small, SmallAll, usedAt};
+ghost use Rattle.pool.specs.Slots.{Fit, InPool, KindAll, Small, SmallAll, spotOf, usedAt};
 use rules::Entry;
 use rules::Pointer;
 use rules::RecordNumber;
@@ -23,7 +24,7 @@ fn natural(x: i32) -> usize
 }
 
 // The word at a place.
-fn word(pool: &[i32], at: usize) -> i32
+pub fn word(pool: &[i32], at: usize) -> i32
     requires { ⌜ at < length (now pool) ⌝ }
     ensures { λ r. ⌜ r ≡ L.wordAt (now (pool .entry)) at ⌝ }
 {
@@ -31,7 +32,7 @@ fn word(pool: &[i32], at: usize) -> i32
 }
 
 // .. as a natural number.
-fn number_at(pool: &[i32], at: usize) -> usize
+pub fn number_at(pool: &[i32], at: usize) -> usize
     requires { ⌜ at < length (now pool) ⌝ }
     ensures { λ r. ⌜ r ≡ L.natural (L.wordAt (now (pool .entry)) at) ⌝ }
 {
@@ -73,13 +74,20 @@ pub fn count_of(pool: &[i32], s: SlotNumber) -> usize
     if n < 8 { n } else { 8 }
 }
 
-// The rectangle of the entry at place i.
-pub fn rect_of(pool: &[i32], s: SlotNumber, i: usize) -> Rect
-    requires { ⌜ InPool (now pool) s ⌝ }
-    requires { ⌜ i < length (P.entriesAt (L.read (now pool)) s) ⌝ }
-    ensures { λ r. ⌜ r ≡ rectFrom (P.rects (P.entriesAt (L.read (now (pool .entry))) s)) i ⌝ }
+// Where the words of the entry at place i of slot s begin.
+pub fn spot(s: SlotNumber, i: usize) -> usize
+    requires { ⌜ (1 ≤ s .0) × (s .0 ≤ 4096) ⌝ }
+    requires { ⌜ i < 8 ⌝ }
+    ensures { λ r. ⌜ r ≡ spotOf s i ⌝ }
 {
-    let at = begin(s) + 2 + 5 * i;
+    begin(s) + 2 + 5 * i
+}
+
+// The rectangle whose words begin at a place.
+pub fn rect_at(pool: &[i32], at: usize) -> Rect
+    requires { ⌜ at + 4 ≤ length (now pool) ⌝ }
+    ensures { λ r. ⌜ r ≡ L.rectOf (drop at (now (pool .entry))) ⌝ }
+{
     let lowX = word(pool, at);
     let lowY = word(pool, at + 1);
     let highX = word(pool, at + 2);
@@ -90,6 +98,15 @@ pub fn rect_of(pool: &[i32], s: SlotNumber, i: usize) -> Rect
         highX,
         highY,
     }
+}
+
+// The rectangle of the entry at place i.
+pub fn rect_of(pool: &[i32], s: SlotNumber, i: usize) -> Rect
+    requires { ⌜ InPool (now pool) s ⌝ }
+    requires { ⌜ i < length (P.entriesAt (L.read (now pool)) s) ⌝ }
+    ensures { λ r. ⌜ r ≡ rectFrom (P.rects (P.entriesAt (L.read (now (pool .entry))) s)) i ⌝ }
+{
+    rect_at(pool, spot(s, i))
 }
 
 // ---- written
@@ -184,6 +201,35 @@ pub fn put_node(pool: &mut [i32], s: SlotNumber, level: usize, es: [Entry; 9], n
     write_slot(pool, s, level, es, n);
 }
 
+// "A new entry goes last": its five words, and the count. No other word changes.
+pub fn add_entry(pool: &mut [i32], s: SlotNumber, e: Entry)
+    requires { ⌜ Fit (now pool) ⌝ }
+    requires { ⌜ InPool (now pool) s ⌝ }
+    requires { ⌜ length (P.entriesAt (L.read (now pool)) s) < 8 ⌝ }
+    requires { ⌜ Small (e .pointer) ⌝ }
+    requires { ⌜ L.pointerOf (P.nodeAt (L.read (now pool)) s .level) (L.pointerWord (e .pointer)) ≡ e .pointer ⌝ }
+    ensures is { λ _. ⌜ L.read (now (pool .exit)) ≡ P.putEntries (L.read (now (pool .entry))) s (P.entriesAt (L.read (now (pool .entry))) s ++ e ∷ []) ⌝ }
+    ensures fit { λ _. ⌜ Fit (now (pool .exit)) ⌝ }
+{
+    let n = count_of(pool, s);
+    put_entry(pool, spot(s, n), e);
+    let at = begin(s) + 1;
+    pool[at] = (n + 1) as i32;
+}
+
+// The entry at place i anew. No word but its five changes.
+pub fn put_entry_of(pool: &mut [i32], s: SlotNumber, i: usize, e: Entry)
+    requires { ⌜ Fit (now pool) ⌝ }
+    requires { ⌜ InPool (now pool) s ⌝ }
+    requires { ⌜ i < length (P.entriesAt (L.read (now pool)) s) ⌝ }
+    requires { ⌜ Small (e .pointer) ⌝ }
+    requires { ⌜ L.pointerOf (P.nodeAt (L.read (now pool)) s .level) (L.pointerWord (e .pointer)) ≡ e .pointer ⌝ }
+    ensures is { λ _. ⌜ L.read (now (pool .exit)) ≡ P.putEntries (L.read (now (pool .entry))) s (set (P.entriesAt (L.read (now (pool .entry))) s) i e) ⌝ }
+    ensures fit { λ _. ⌜ Fit (now (pool .exit)) ⌝ }
+{
+    put_entry(pool, spot(s, i), e);
+}
+
 // ---- the head
 
 pub fn root_of(pool: &[i32]) -> SlotNumber
@@ -220,6 +266,17 @@ fn pointer_of(level: usize, z: i32) -> Pointer
     Pointer::Child(SlotNumber(s))
 }
 
+// The pointer of the entry at place i.
+pub fn entry_pointer(pool: &[i32], s: SlotNumber, i: usize) -> Pointer
+    requires { ⌜ InPool (now pool) s ⌝ }
+    requires { ⌜ i < length (P.entriesAt (L.read (now pool)) s) ⌝ }
+    ensures { λ r. ⌜ r ≡ P.entryAt (L.read (now (pool .entry))) s i .pointer ⌝ }
+{
+    let level = level_of(pool, s);
+    let z = word(pool, begin(s) + 6 + 5 * i);
+    pointer_of(level, z)
+}
+
 // The entry at place i.
 pub fn entry_of(pool: &[i32], s: SlotNumber, i: usize) -> Entry
     requires { ⌜ InPool (now pool) s ⌝ }
@@ -227,9 +284,7 @@ pub fn entry_of(pool: &[i32], s: SlotNumber, i: usize) -> Entry
     ensures { λ r. ⌜ r ≡ P.entryAt (L.read (now (pool .entry))) s i ⌝ }
 {
     let rect = rect_of(pool, s, i);
-    let level = level_of(pool, s);
-    let z = word(pool, begin(s) + 6 + 5 * i);
-    let pointer = pointer_of(level, z);
+    let pointer = entry_pointer(pool, s, i);
     Entry { rect, pointer }
 }
 

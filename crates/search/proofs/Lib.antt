@@ -1,5 +1,5 @@
--- Laws that the proofs of `search` cite.
-pub mod Sums
+-- Laws of a walk over the nodes.
 pub mod Nodes
+pub mod Sums
 pub mod Walks
-pub mod Rows
+pub mod Steps

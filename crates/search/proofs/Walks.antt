@@ -1,27 +1,30 @@
--- Nodes opened and records found, a step at a time, as the code has them; and how many there can be: a node has at most 8 entries, so each
--- level takes at most 8 times as many.
-use mathlib.Core.Path.{_≡_, refl, sym, ap, ap₂, _∙_}
+-- Nodes opened and records found, a step at a time, as the code has them; and how many nodes can be opened: a node has at most 8 entries, so
+-- each level opens at most 9 times as many.
+use mathlib.Core.Path.{_≡_, refl, sym, ap, _∙_}
+use mathlib.Core.Logic.{_≢_}
 use mathlib.Core.Bool.{Bool, true, false, cond}
-use mathlib.Core.List.{List, [], _∷_, map}
-use Prim.Native.Nat.{ℕ, zero, suc, _+_, _-_, _^_, _≤_}
+use mathlib.Core.List.{List, [], _∷_, _++_, map}
+use Prim.Native.Nat.{ℕ, zero, suc, _+_, _-_, _^_, _≤_, _<_}
 use native.Mathlib.Nat.{pow-suc, pow-le-pow-right, mul-le-mul-left}
 use native.Mathlib.Numerals.{sub-one}
 use native.Mathlib.Omega.{arith}
-use lib.ListN.{length, drop}
+use lib.ListN.{length}
 use lib.IntN.{ℤ}
 use Rattle.rules.specs.declared.Rect.{Rect}
 use Rattle.rules.specs.declared.SlotNumber.{SlotNumber}
 use Rattle.rules.specs.declared.Entry.{Entry}
 use Rattle.rules.specs.Lists.{those, joined, total}
 use Rattle.rules.specs.Geometry.{meets}
-use Rattle.rules.specs.Pool.{Pool, entriesAt, childOf, recordOf}
+use Rattle.rules.specs.Choose.{rectFrom}
+use Rattle.rules.specs.Pool.{Pool, rects, noEntry, entriesAt, entryFrom, entryAt, childOf, recordOf}
 use Rattle.rules.specs.Layout.{rightLength, read}
-use Rattle.rules.specs.Search.{meeting, foundIn, openedIn, opened}
+use Rattle.rules.specs.Search.{meeting, foundIn, openedIn}
+use Rattle.pool.proofs.Parts.{rect-entry}
 use Rattle.finding.proofs.Lists.{total-those}
-use Rattle.trees.proofs.Joins.{length-joined, joined-those}
-use Rattle.search.specs.State.{openedBelow, heldBelow, foundBelow}
-use Rattle.search.proofs.Sums.{total-most, total-drop, joined-ones}
-use Rattle.search.proofs.Nodes.{most-entries}
+use Rattle.trees.proofs.Joins.{joined-those, total-zero}
+use Rattle.search.specs.State.{openedBelow, heldBelow, foundBelow, openedFrom, foundFrom}
+use Rattle.search.proofs.Sums.{total-end, total-next, total-most, joined-end, joined-next, joined-ones}
+use Rattle.search.proofs.Nodes.{same-entries, most-entries}
 
 module _ (p : Pool) (window : Rect) where
   -- ---- nodes opened
@@ -30,7 +33,7 @@ module _ (p : Pool) (window : Rect) where
   unfolding openedIn
   opened-none s = refl
 
-  pub opened-leaf : (s : SlotNumber) → openedIn p window 1 s ≡ 1
+  opened-leaf : (s : SlotNumber) → openedIn p window 1 s ≡ 1
   unfolding openedIn
   opened-leaf s = refl
 
@@ -48,18 +51,29 @@ module _ (p : Pool) (window : Rect) where
       opened-clause l s
       ∙ ap suc (total-those (λ (e : Entry). openedIn p window (suc l) (childOf e)) (λ e. meets (e .rect) window) (entriesAt p s) ∙ ap total (below-is (suc l) (entriesAt p s)))
 
-  pub opened-inner : (s : SlotNumber) (level : ℕ) → 2 ≤ level → openedIn p window level s ≡ 1 + total (map (openedBelow p window (level - 1)) (drop 0 (entriesAt p s)))
-  opened-inner s zero h = absurd (omega arith)
-  opened-inner s (suc zero) h = absurd (omega arith)
-  opened-inner s (suc (suc l)) h = rw (sub-one (suc (suc l))) (opened-step l s ∙ omega arith)
-
-  pub opened-met : (l : ℕ) (e : Entry) → meets (e .rect) window ≡ true → openedBelow p window l e ≡ openedIn p window l (childOf e)
+  opened-met : (l : ℕ) (e : Entry) → meets (e .rect) window ≡ true → openedBelow p window l e ≡ openedIn p window l (childOf e)
   unfolding openedBelow
   opened-met l e q = rw q
 
   pub opened-missed : (l : ℕ) (e : Entry) → meets (e .rect) window ≡ false → openedBelow p window l e ≡ 0
   unfolding openedBelow
   opened-missed l e q = rw q
+
+  -- below a leaf nothing is opened
+  below-leaf : (e : Entry) → openedBelow p window 0 e ≡ 0
+  below-leaf e = go (meets (e .rect) window) refl
+    where
+      go : (t : Bool) → meets (e .rect) window ≡ t → openedBelow p window 0 e ≡ 0
+      go true q = opened-met 0 e q ∙ opened-none (childOf e)
+      go false q = opened-missed 0 e q
+
+  from-start : (l : ℕ) (s : SlotNumber) → total (map (openedBelow p window l) (entriesAt p s)) ≡ openedFrom p window l s 0
+  unfolding openedFrom
+  from-start l s = refl
+
+  opened-all : (l : ℕ) (s : SlotNumber) → openedIn p window (suc l) s ≡ 1 + openedFrom p window l s 0
+  opened-all zero s = omega (arith, opened-leaf s, from-start 0 s, total-zero (openedBelow p window 0) (entriesAt p s) (λ e among. below-leaf e))
+  opened-all (suc l) s = omega (arith, opened-step l s, from-start (suc l) s)
 
   opened-fewer : (l : ℕ) (e : Entry) → openedBelow p window l e ≤ openedIn p window l (childOf e)
   opened-fewer l e = go (meets (e .rect) window) refl
@@ -106,9 +120,9 @@ module _ (p : Pool) (window : Rect) where
   found-step l s =
       found-each l s ∙ joined-those (heldBelow p window l) (λ e. meets (e .rect) window) (entriesAt p s) ∙ ap joined (found-are l (entriesAt p s))
 
-  pub found-inner : (s : SlotNumber) (level : ℕ) → 1 ≤ level → foundIn p window level s ≡ joined (map (foundBelow p window (level - 1)) (drop 0 (entriesAt p s)))
-  found-inner s zero h = absurd (omega arith)
-  found-inner s (suc l) h = rw (sub-one (suc l)) (found-step l s)
+  found-all : (l : ℕ) (s : SlotNumber) → foundIn p window (suc l) s ≡ foundFrom p window l s 0
+  unfolding foundFrom
+  found-all l s = found-step l s
 
   pub found-missed : (l : ℕ) (e : Entry) → meets (e .rect) window ≡ false → foundBelow p window l e ≡ []
   unfolding foundBelow
@@ -118,14 +132,66 @@ module _ (p : Pool) (window : Rect) where
   unfolding foundBelow
   found-met l e q = rw q
 
-  pub found-record : (e : Entry) → meets (e .rect) window ≡ true → foundBelow p window 0 e ≡ recordOf e ∷ []
+  found-record : (e : Entry) → meets (e .rect) window ≡ true → foundBelow p window 0 e ≡ recordOf e ∷ []
   unfolding heldBelow
   found-record e q = found-met 0 e q
 
-  pub found-child : (l : ℕ) (e : Entry) → 1 ≤ l → meets (e .rect) window ≡ true → foundBelow p window l e ≡ foundIn p window l (childOf e)
+  found-child : (l : ℕ) (e : Entry) → 1 ≤ l → meets (e .rect) window ≡ true → foundBelow p window l e ≡ foundIn p window l (childOf e)
   unfolding heldBelow
   found-child zero e h q = absurd (omega arith)
   found-child (suc l) e h q = found-met (suc l) e q
+
+  -- ---- one entry, as the code tests it
+
+  pub met-is : (s : SlotNumber) (i : ℕ) (r : Rect) (b : Bool) → r ≡ rectFrom (rects (entriesAt p s)) i → b ≡ meets r window → meets (entryAt p s i .rect) window ≡ b
+  unfolding entryAt entryFrom
+  met-is s i r b d e = sym (e ∙ ap (λ (q : Rect). meets q window) (d ∙ rect-entry (entriesAt p s) i))
+
+  pub leaf-found : (l : ℕ) (e : Entry) → l ≡ 0 → meets (e .rect) window ≡ true → foundBelow p window l e ≡ recordOf e ∷ []
+  leaf-found l e d q = ap (λ (k : ℕ). foundBelow p window k e) d ∙ found-record e q
+
+  pub leaf-opened : (l : ℕ) (e : Entry) → l ≡ 0 → openedBelow p window l e ≡ 0
+  leaf-opened l e d = ap (λ (k : ℕ). openedBelow p window k e) d ∙ below-leaf e
+
+  pub child-found : (l : ℕ) (e : Entry) (c : SlotNumber) → l ≢ 0 → meets (e .rect) window ≡ true → c ≡ childOf e → foundBelow p window l e ≡ foundIn p window l c
+  child-found zero e c h q d = absurd (h refl)
+  child-found (suc l) e c h q d = found-child (suc l) e (omega arith) q ∙ ap (foundIn p window (suc l)) (sym d)
+
+  pub child-opened : (l : ℕ) (e : Entry) (c : SlotNumber) → meets (e .rect) window ≡ true → c ≡ childOf e → openedBelow p window l e ≡ openedIn p window l c
+  child-opened l e c q d = opened-met l e q ∙ ap (openedIn p window l) (sym d)
+
+  -- ---- a node, by any slot number of its place
+
+  pub node-opened : (level : ℕ) (s t : SlotNumber) → level ≢ 0 → t .0 - 1 ≡ s .0 - 1 → openedIn p window level s ≡ 1 + openedFrom p window (level - 1) t 0
+  unfolding openedFrom
+  node-opened zero s t h e = absurd (h refl)
+  node-opened (suc l) s t h e =
+      rw (sub-one (suc l)) (opened-all l s ∙ ap (λ (es : List Entry). 1 + total (map (openedBelow p window l) es)) (sym (same-entries p t s e)))
+
+  pub node-found : (level : ℕ) (s t : SlotNumber) → level ≢ 0 → t .0 - 1 ≡ s .0 - 1 → foundIn p window level s ≡ foundFrom p window (level - 1) t 0
+  unfolding foundFrom
+  node-found zero s t h e = absurd (h refl)
+  node-found (suc l) s t h e =
+      rw (sub-one (suc l)) (found-all l s ∙ ap (λ (es : List Entry). joined (map (foundBelow p window l) es)) (sym (same-entries p t s e)))
+
+  -- ---- its entries from a place on
+
+  module _ (l : ℕ) (s : SlotNumber) (i : ℕ) where
+    pub opened-end : length (entriesAt p s) ≤ i → openedFrom p window l s i ≡ 0
+    unfolding openedFrom
+    opened-end h = total-end (openedBelow p window l) (entriesAt p s) i h
+
+    pub found-end : length (entriesAt p s) ≤ i → foundFrom p window l s i ≡ []
+    unfolding foundFrom
+    found-end h = joined-end (foundBelow p window l) (entriesAt p s) i h
+
+    pub opened-next : i < length (entriesAt p s) → openedFrom p window l s i ≡ openedBelow p window l (entryAt p s i) + openedFrom p window l s (i + 1)
+    unfolding openedFrom entryAt entryFrom
+    opened-next h = total-next (openedBelow p window l) (entriesAt p s) i noEntry h
+
+    pub found-next : i < length (entriesAt p s) → foundFrom p window l s i ≡ foundBelow p window l (entryAt p s i) ++ foundFrom p window l s (i + 1)
+    unfolding foundFrom entryAt entryFrom
+    found-next h = joined-next (foundBelow p window l) (entriesAt p s) i noEntry h
 
 -- ---- at most so many
 
@@ -135,9 +201,6 @@ nine-some (suc l) = omega (arith, pow-suc 9 l, nine-some l)
 
 nine-most : (l : ℕ) → l ≤ 8 → 9 ^ l ≤ 43046721
 nine-most l h = pow-le-pow-right {n = 9} (omega arith) h
-
-eight-most : (l : ℕ) → l ≤ 8 → 8 ^ l ≤ 16777216
-eight-most l h = pow-le-pow-right {n = 8} (omega arith) h
 
 module _ (w : List ℤ) (r : rightLength w ≡ true) (window : Rect) where
   opened-power : (l : ℕ) (s : SlotNumber) → openedIn (read w) window l s ≤ 9 ^ l
@@ -157,64 +220,3 @@ module _ (w : List ℤ) (r : rightLength w ≡ true) (window : Rect) where
 
   pub opened-most : (l : ℕ) (s : SlotNumber) → l ≤ 8 → openedIn (read w) window l s ≤ 43046721
   opened-most l s h = omega (arith, opened-power l s, nine-most l h)
-
-  pub below-most : (l : ℕ) (e : Entry) → l ≤ 8 → openedBelow (read w) window l e ≤ 43046721
-  below-most l e h = omega (arith, opened-fewer (read w) window l e, opened-most l (childOf e) h)
-
-  -- the entries from a place on
-  pub from-most : (l i : ℕ) (s : SlotNumber) → l ≤ 8 → total (map (openedBelow (read w) window l) (drop i (entriesAt (read w) s))) ≤ 344373768
-  from-most l i s h =
-      let es = entriesAt (read w) s in
-      let f = openedBelow (read w) window l in
-      omega (arith, total-drop f es i, total-most f 43046721 es (λ e. below-most l e h), most-entries w r s)
-
-  -- ---- records
-
-  held-power : (l : ℕ) → ((s : SlotNumber) → length (foundIn (read w) window l s) ≤ 8 ^ l) → (e : Entry) → length (foundBelow (read w) window l e) ≤ 8 ^ l
-  held-power l h e = go l h (meets (e .rect) window) refl
-    where
-      go : (k : ℕ) → ((s : SlotNumber) → length (foundIn (read w) window k s) ≤ 8 ^ k) → (t : Bool) → meets (e .rect) window ≡ t
-          → length (foundBelow (read w) window k e) ≤ 8 ^ k
-      go k g false q = omega (arith, ap length (found-missed (read w) window k e q))
-      go zero g true q = omega (arith, ap length (found-record (read w) window e q))
-      go (suc k) g true q = omega (arith, ap length (found-child (read w) window (suc k) e (omega arith) q), g (childOf e))
-
-  found-power : (l : ℕ) (s : SlotNumber) → length (foundIn (read w) window l s) ≤ 8 ^ l
-  found-power zero s = omega (arith, ap length (found-none (read w) window s))
-  found-power (suc l) s =
-      let es = entriesAt (read w) s in
-      let f = foundBelow (read w) window l in
-      omega (
-        arith,
-        ap length (found-step (read w) window l s),
-        length-joined f es,
-        total-most (λ (e : Entry). length (f e)) (8 ^ l) es (held-power l (found-power l)),
-        mul-le-mul-left (8 ^ l) (most-entries w r s),
-        pow-suc 8 l,
-      )
-
-  pub found-most : (l : ℕ) (s : SlotNumber) → l ≤ 8 → length (foundIn (read w) window l s) ≤ 16777216
-  found-most l s h = omega (arith, found-power l s, eight-most l h)
-
-  pub held-most : (l : ℕ) (e : Entry) → l ≤ 8 → length (foundBelow (read w) window l e) ≤ 16777216
-  held-most l e h = omega (arith, held-power l (found-power l) e, eight-most l h)
-
-  -- the entries from a place on
-  pub rest-most : (l i : ℕ) (s : SlotNumber) → l ≤ 8
-      → length (joined (map (foundBelow (read w) window l) (drop i (entriesAt (read w) s)))) ≤ 134217728
-  rest-most l i s h =
-      let es = entriesAt (read w) s in
-      let f = foundBelow (read w) window l in
-      let size : Entry → ℕ = λ e. length (f e) in
-      omega (arith, length-joined f (drop i es), total-drop size es i, total-most size 16777216 es (λ e. held-most l e h), most-entries w r s)
-
-  -- ---- from the root on
-
-  pub opened-top : (h : ℕ) (s : SlotNumber) (n : ℕ) → h ≡ read w .height → s ≡ read w .root → h ≤ 8 → n ≡ openedIn (read w) window h s
-      → (n ≡ opened (read w) window) × (n ≤ 43046721)
-  unfolding opened
-  opened-top h s n a b m q = (q ∙ ap₂ (openedIn (read w) window) a b, omega (arith, q, opened-most h s m))
-
-  pub found-top : (h : ℕ) (s : SlotNumber) (n : ℕ) → h ≡ read w .height → s ≡ read w .root → h ≤ 8 → n ≡ length (foundIn (read w) window h s)
-      → (n ≡ length (foundIn (read w) window (read w .height) (read w .root))) × (n ≤ 16777216)
-  found-top h s n a b m q = (q ∙ ap₂ (λ k t. length (foundIn (read w) window k t)) a b, omega (arith, q, found-most h s m))

@@ -1,3 +1,3 @@
--- What search does below one entry, and records as rows of words.
+-- What search does below one entry and below the entries of a node, and what a walk does to the items.
 pub mod State
-pub mod Rows
+pub mod Walk

@@ -1,12 +1,16 @@
--- What search does below one entry. `openedIn` and `foundIn` of the rules join this over a node's entries.
+-- What search does below one entry, and below the entries of a node from a place on. `openedIn` and `foundIn` of the rules join this over
+-- all entries of a node.
 use mathlib.Core.Bool.{cond}
-use mathlib.Core.List.{List, [], _∷_}
+use mathlib.Core.List.{List, [], _∷_, map}
 use Prim.Native.Nat.{ℕ, zero, suc}
+use lib.ListN.{drop}
 use Rattle.rules.specs.declared.Rect.{Rect}
+use Rattle.rules.specs.declared.SlotNumber.{SlotNumber}
 use Rattle.rules.specs.declared.Record.{Record}
 use Rattle.rules.specs.declared.Entry.{Entry}
+use Rattle.rules.specs.Lists.{joined, total}
 use Rattle.rules.specs.Geometry.{meets}
-use Rattle.rules.specs.Pool.{Pool, childOf, recordOf}
+use Rattle.rules.specs.Pool.{Pool, entriesAt, childOf, recordOf}
 use Rattle.rules.specs.Search.{foundIn, openedIn}
 
 -- "opens every child whose entry rectangle meets the window": the nodes opened below an entry, whose child has the level given
@@ -21,3 +25,10 @@ heldBelow p window (suc l) e = foundIn p window (suc l) (childOf e)
 -- the records found below an entry
 unfoldable pub foundBelow : Pool → Rect → ℕ → Entry → List Record
 foundBelow p window level e = cond (meets (e .rect) window) (heldBelow p window level e) []
+
+-- .. and below the entries from place i on of the node at s, whose children have the level given
+unfoldable pub openedFrom : Pool → Rect → ℕ → SlotNumber → ℕ → ℕ
+openedFrom p window level s i = total (map (openedBelow p window level) (drop i (entriesAt p s)))
+
+unfoldable pub foundFrom : Pool → Rect → ℕ → SlotNumber → ℕ → List Record
+foundFrom p window level s i = joined (map (foundBelow p window level) (drop i (entriesAt p s)))

@@ -1,23 +1,27 @@
-// Search, over any words of a right length: what it finds and how many nodes it opens. The node function calls the entries function, that
-// calls the function of one entry, and that calls the node function; the level and the entries left fall.
+// Search, over any words of a right length: what it finds and how many nodes it opens, in one pass. The node function calls the entries
+// function, that calls the function of one entry, and that calls the node function; the level and the entries left fall.
 ghost use mathlib.Core.Path.{_≡_};
 ghost use mathlib.Core.Bool.{true};
-ghost use mathlib.Core.List.{map};
+ghost use mathlib.Core.List.{[], _∷_};
 ghost use Prim.Native.Nat.{_+_, _-_, _*_, _<_, _≤_};
-ghost use lib.ListN.{length, drop};
-ghost use lib.Seq.{sets};
-ghost use Rattle.rules.specs.Lists.{total, joined};
+ghost use lib.ListN.{length};
 ghost use Rattle.rules.specs.Layout as L;
 ghost use Rattle.rules.specs.Pool as P;
 ghost use Rattle.rules.specs.Search as F;
-ghost use Rattle.search.specs.State.{openedBelow, foundBelow};
-ghost use Rattle.search.specs.Rows.{rowWords, rowsOf};
-use rules::Entry;
+ghost use Rattle.pool.specs.Slots.{InPool};
+ghost use Rattle.items.specs.Items.{itemsFrom, Pointing};
+ghost use Rattle.search.specs.State.{openedBelow, foundBelow, openedFrom, foundFrom};
+ghost use Rattle.search.specs.Walk.{Room, Went};
 use rules::Pointer;
-use rules::Record;
 use rules::RecordNumber;
 use rules::Rect;
 use rules::SlotNumber;
+
+// How far a walk has come: the next item's place, and the nodes opened.
+pub struct Walked {
+    pub next: usize,
+    pub opened: usize,
+}
 
 // ---- nodes read, whatever the slot number
 
@@ -36,277 +40,158 @@ fn slot_read(s: SlotNumber) -> SlotNumber
 // How many entries are in use; beyond the last slot there are none.
 fn count_at(pool: &[i32], s: SlotNumber) -> usize
     requires { ⌜ L.rightLength (now pool) ≡ true ⌝ }
-    ensures is { λ r. ⌜ r ≡ length (P.entriesAt (L.read (now (pool .entry))) s) ⌝ }
-    ensures most { λ r. ⌜ r ≤ 8 ⌝ }
+    requires { ⌜ 1 ≤ s .0 ⌝ }
+    ensures { λ r. ⌜ r ≡ length (P.entriesAt (L.read (now (pool .entry))) s) ⌝ }
 {
-    let t = slot_read(s);
-    let n = t.0;
+    let n = s.0;
     if pool::slot_count(pool) < n {
         return 0;
     }
-    pool::count_of(pool, t)
+    pool::count_of(pool, s)
 }
 
-// The entry at place i.
-fn entry_at(pool: &[i32], s: SlotNumber, i: usize) -> Entry
-    requires { ⌜ L.rightLength (now pool) ≡ true ⌝ }
+// The child that the entry at place i leads to; a leaf's entry has none.
+fn child_at(pool: &[i32], s: SlotNumber, i: usize) -> SlotNumber
+    requires { ⌜ InPool (now pool) s ⌝ }
     requires { ⌜ i < length (P.entriesAt (L.read (now pool)) s) ⌝ }
-    ensures { λ r. ⌜ r ≡ P.entryAt (L.read (now (pool .entry))) s i ⌝ }
+    ensures { λ r. ⌜ r ≡ P.childOf (P.entryAt (L.read (now (pool .entry))) s i) ⌝ }
 {
-    pool::entry_of(pool, slot_read(s), i)
-}
-
-// The child that an inner entry leads to.
-fn child(e: Entry) -> SlotNumber
-    ensures { λ r. ⌜ r ≡ P.childOf e ⌝ }
-{
-    let p = e.pointer;
+    let p = pool::entry_pointer(pool, s, i);
     match p {
         Pointer::Number(_) => SlotNumber(0),
-        Pointer::Child(s) => s,
+        Pointer::Child(c) => c,
     }
 }
 
-// ---- nodes opened
-
-// How many nodes search opens from the node at s on, which has the level given: itself, and what it opens below. A leaf has nothing below.
-fn opened_in(pool: &[i32], window: Rect, level: usize, s: SlotNumber) -> usize
-    requires { ⌜ L.rightLength (now pool) ≡ true ⌝ }
-    requires { ⌜ level ≤ 8 ⌝ }
-    ensures { λ r. ⌜ r ≡ F.openedIn (L.read (now (pool .entry))) window level s ⌝ }
+// The record number of the entry at place i; an inner node's entry has none.
+fn number_at(pool: &[i32], s: SlotNumber, i: usize) -> RecordNumber
+    requires { ⌜ InPool (now pool) s ⌝ }
+    requires { ⌜ i < length (P.entriesAt (L.read (now pool)) s) ⌝ }
+    ensures { λ r. ⌜ r ≡ P.numberOf (P.entryAt (L.read (now (pool .entry))) s i) ⌝ }
 {
-    if level == 0 {
-        return 0;
-    }
-    if level == 1 {
-        return 1;
-    }
-    1 + opened_from(pool, window, level, s, 0)
-}
-
-// .. below the entries from place i on of the node at s, which has the level given.
-fn opened_from(pool: &[i32], window: Rect, level: usize, s: SlotNumber, i: usize) -> usize
-    requires { ⌜ L.rightLength (now pool) ≡ true ⌝ }
-    requires { ⌜ 1 ≤ level ⌝ }
-    requires { ⌜ level ≤ 8 ⌝ }
-    requires { ⌜ i ≤ 8 ⌝ }
-    ensures { λ r. ⌜ r ≡ total (map (openedBelow (L.read (now (pool .entry))) window (level - 1)) (drop i (P.entriesAt (L.read (now (pool .entry))) s))) ⌝ }
-{
-    if count_at(pool, s) <= i {
-        return 0;
-    }
-    let e = entry_at(pool, s, i);
-    let here = opened_below(pool, window, level - 1, e);
-    here + opened_from(pool, window, level, s, i + 1)
-}
-
-// "opens every child whose entry rectangle meets the window": .. below one entry, whose child has the level given.
-fn opened_below(pool: &[i32], window: Rect, level: usize, e: Entry) -> usize
-    requires { ⌜ L.rightLength (now pool) ≡ true ⌝ }
-    requires { ⌜ level ≤ 8 ⌝ }
-    ensures { λ r. ⌜ r ≡ openedBelow (L.read (now (pool .entry))) window level e ⌝ }
-{
-    if !geometry::meets(e.rect, window) {
-        return 0;
-    }
-    let c = child(e);
-    opened_in(pool, window, level, c)
-}
-
-// ---- records found
-
-// How many records search finds from the node at s on, which has the level given.
-fn found_in(pool: &[i32], window: Rect, level: usize, s: SlotNumber) -> usize
-    requires { ⌜ L.rightLength (now pool) ≡ true ⌝ }
-    requires { ⌜ level ≤ 8 ⌝ }
-    ensures { λ r. ⌜ r ≡ length (F.foundIn (L.read (now (pool .entry))) window level s) ⌝ }
-{
-    if level == 0 {
-        return 0;
-    }
-    found_from(pool, window, level, s, 0)
-}
-
-// .. below the entries from place i on of the node at s, which has the level given.
-fn found_from(pool: &[i32], window: Rect, level: usize, s: SlotNumber, i: usize) -> usize
-    requires { ⌜ L.rightLength (now pool) ≡ true ⌝ }
-    requires { ⌜ 1 ≤ level ⌝ }
-    requires { ⌜ level ≤ 8 ⌝ }
-    requires { ⌜ i ≤ 8 ⌝ }
-    ensures { λ r. ⌜ r ≡ length (joined (map (foundBelow (L.read (now (pool .entry))) window (level - 1)) (drop i (P.entriesAt (L.read (now (pool .entry))) s)))) ⌝ }
-{
-    if count_at(pool, s) <= i {
-        return 0;
-    }
-    let e = entry_at(pool, s, i);
-    let here = found_below(pool, window, level - 1, e);
-    here + found_from(pool, window, level, s, i + 1)
-}
-
-// .. below one entry, whose child has the level given: a leaf's entry is a record (level 0 is below a leaf), another leads to its child.
-fn found_below(pool: &[i32], window: Rect, level: usize, e: Entry) -> usize
-    requires { ⌜ L.rightLength (now pool) ≡ true ⌝ }
-    requires { ⌜ level ≤ 8 ⌝ }
-    ensures { λ r. ⌜ r ≡ length (foundBelow (L.read (now (pool .entry))) window level e) ⌝ }
-{
-    if !geometry::meets(e.rect, window) {
-        return 0;
-    }
-    if level == 0 {
-        return 1;
-    }
-    let c = child(e);
-    found_in(pool, window, level, c)
-}
-
-// ---- records listed, five words each
-
-// A leaf entry's record number; an inner entry has none.
-fn number_of(e: Entry) -> RecordNumber
-    ensures { λ r. ⌜ r ≡ P.numberOf e ⌝ }
-{
-    let p = e.pointer;
+    let p = pool::entry_pointer(pool, s, i);
     match p {
         Pointer::Number(n) => n,
         Pointer::Child(_) => RecordNumber(0),
     }
 }
 
-// A leaf entry as the record that it holds.
-fn record_of(e: Entry) -> Record
-    ensures { λ r. ⌜ r ≡ P.recordOf e ⌝ }
+// ---- the walk
+
+// The record of the entry at place i becomes the next item.
+fn list_record(pool: &[i32], s: SlotNumber, i: usize, items: &mut [i32], done: Walked) -> Walked
+    requires { ⌜ InPool (now pool) s ⌝ }
+    requires { ⌜ i < length (P.entriesAt (L.read (now pool)) s) ⌝ }
+    requires { ⌜ Room (now items) done (P.recordOf (P.entryAt (L.read (now pool)) s i) ∷ []) 0 ⌝ }
+    ensures { λ r. ⌜ Went (now (pool .entry)) (now (items .entry)) (now (items .exit)) done r (P.recordOf (P.entryAt (L.read (now (pool .entry))) s i) ∷ []) 0 ⌝ }
 {
-    let number = number_of(e);
-    let rect = e.rect;
-    Record { number, rect }
+    let at = done.next;
+    let opened = done.opened;
+    let n = number_at(pool, s, i);
+    let spot = pool::spot(s, i);
+    items::put_item(items, at, n, spot);
+    let next = at + 1;
+    Walked { next, opened }
 }
 
-// A record is written as row `at`, rows counted from 0.
-fn put_row(rows: &mut [i32], at: usize, r: Record)
-    requires { ⌜ 5 * (at + 1) ≤ length (now rows) ⌝ }
-    ensures { λ _. ⌜ now (rows .exit) ≡ sets (now (rows .entry)) (5 * at) (rowWords r) ⌝ }
-{
-    let n = r.number;
-    let q = r.rect;
-    let k = n.0;
-    let a = q.lowX;
-    let b = q.lowY;
-    let c = q.highX;
-    let d = q.highY;
-    let from = 5 * at;
-    rows[from] = k;
-    rows[from + 1] = a;
-    rows[from + 2] = b;
-    rows[from + 3] = c;
-    rows[from + 4] = d;
-}
-
-// The records that search finds from the node at s on, which has the level given, as rows from `at` on. The next row's place comes back.
-fn list_in(
+// The records that search finds from the node at s on, which has the level given, become items, and each node that it opens is counted.
+fn list_node(
     pool: &[i32],
     window: Rect,
     level: usize,
     s: SlotNumber,
-    rows: &mut [i32],
-    at: usize,
-) -> usize
+    items: &mut [i32],
+    done: Walked,
+) -> Walked
     requires { ⌜ L.rightLength (now pool) ≡ true ⌝ }
-    requires { ⌜ level ≤ 8 ⌝ }
-    requires { ⌜ 5 * (at + length (F.foundIn (L.read (now pool)) window level s)) ≤ length (now rows) ⌝ }
-    ensures is { λ r. ⌜ r ≡ at + length (F.foundIn (L.read (now (pool .entry))) window level s) ⌝ }
-    ensures listed { λ _. ⌜ now (rows .exit) ≡ sets (now (rows .entry)) (5 * at) (rowsOf (F.foundIn (L.read (now (pool .entry))) window level s)) ⌝ }
+    requires { ⌜ Room (now items) done (F.foundIn (L.read (now pool)) window level s) (F.openedIn (L.read (now pool)) window level s) ⌝ }
+    ensures { λ r. ⌜ Went (now (pool .entry)) (now (items .entry)) (now (items .exit)) done r (F.foundIn (L.read (now (pool .entry))) window level s) (F.openedIn (L.read (now (pool .entry))) window level s) ⌝ }
 {
     if level == 0 {
-        return at;
+        return done;
     }
-    list_from(pool, window, level, s, 0, rows, at)
+    let t = slot_read(s);
+    let n = count_at(pool, t);
+    let next = done.next;
+    let before = done.opened;
+    let opened = before + 1;
+    list_entries(
+        pool,
+        window,
+        level - 1,
+        t,
+        0,
+        n,
+        items,
+        Walked { next, opened },
+    )
 }
 
-// .. below the entries from place i on of the node at s, which has the level given.
-fn list_from(
+// .. below the entries from place i on of the node at s, which has n: what they lead to has the level below.
+fn list_entries(
     pool: &[i32],
     window: Rect,
-    level: usize,
+    below: usize,
     s: SlotNumber,
     i: usize,
-    rows: &mut [i32],
-    at: usize,
-) -> usize
+    n: usize,
+    items: &mut [i32],
+    done: Walked,
+) -> Walked
     requires { ⌜ L.rightLength (now pool) ≡ true ⌝ }
-    requires { ⌜ 1 ≤ level ⌝ }
-    requires { ⌜ level ≤ 8 ⌝ }
-    requires { ⌜ i ≤ 8 ⌝ }
-    requires { ⌜ 5 * (at + length (joined (map (foundBelow (L.read (now pool)) window (level - 1)) (drop i (P.entriesAt (L.read (now pool)) s))))) ≤ length (now rows) ⌝ }
-    ensures is { λ r. ⌜ r ≡ at + length (joined (map (foundBelow (L.read (now (pool .entry))) window (level - 1)) (drop i (P.entriesAt (L.read (now (pool .entry))) s)))) ⌝ }
-    ensures listed { λ _. ⌜ now (rows .exit) ≡ sets (now (rows .entry)) (5 * at) (rowsOf (joined (map (foundBelow (L.read (now (pool .entry))) window (level - 1)) (drop i (P.entriesAt (L.read (now (pool .entry))) s))))) ⌝ }
+    requires { ⌜ 1 ≤ s .0 ⌝ }
+    requires { ⌜ n ≡ length (P.entriesAt (L.read (now pool)) s) ⌝ }
+    requires { ⌜ Room (now items) done (foundFrom (L.read (now pool)) window below s i) (openedFrom (L.read (now pool)) window below s i) ⌝ }
+    ensures { λ r. ⌜ Went (now (pool .entry)) (now (items .entry)) (now (items .exit)) done r (foundFrom (L.read (now (pool .entry))) window below s i) (openedFrom (L.read (now (pool .entry))) window below s i) ⌝ }
 {
-    if count_at(pool, s) <= i {
-        return at;
+    if n <= i {
+        return done;
     }
-    let e = entry_at(pool, s, i);
-    let next = list_below(pool, window, level - 1, e, rows, at);
-    list_from(pool, window, level, s, i + 1, rows, next)
+    let w = list_entry(pool, window, below, s, i, items, done);
+    list_entries(pool, window, below, s, i + 1, n, items, w)
 }
 
-// .. below one entry, whose child has the level given: a leaf's entry is a record (level 0 is below a leaf), another leads to its child.
-fn list_below(
+// "opens every child whose entry rectangle meets the window": .. below the entry at place i alone. A leaf's entry is a record (level 0 is
+// below a leaf), another leads to its child. An entry that does not meet the window has no more read of it than its rectangle.
+fn list_entry(
     pool: &[i32],
     window: Rect,
-    level: usize,
-    e: Entry,
-    rows: &mut [i32],
-    at: usize,
-) -> usize
-    requires { ⌜ L.rightLength (now pool) ≡ true ⌝ }
-    requires { ⌜ level ≤ 8 ⌝ }
-    requires { ⌜ 5 * (at + length (foundBelow (L.read (now pool)) window level e)) ≤ length (now rows) ⌝ }
-    ensures is { λ r. ⌜ r ≡ at + length (foundBelow (L.read (now (pool .entry))) window level e) ⌝ }
-    ensures listed { λ _. ⌜ now (rows .exit) ≡ sets (now (rows .entry)) (5 * at) (rowsOf (foundBelow (L.read (now (pool .entry))) window level e)) ⌝ }
+    below: usize,
+    s: SlotNumber,
+    i: usize,
+    items: &mut [i32],
+    done: Walked,
+) -> Walked
+    requires { ⌜ InPool (now pool) s ⌝ }
+    requires { ⌜ i < length (P.entriesAt (L.read (now pool)) s) ⌝ }
+    requires { ⌜ Room (now items) done (foundBelow (L.read (now pool)) window below (P.entryAt (L.read (now pool)) s i)) (openedBelow (L.read (now pool)) window below (P.entryAt (L.read (now pool)) s i)) ⌝ }
+    ensures { λ r. ⌜ Went (now (pool .entry)) (now (items .entry)) (now (items .exit)) done r (foundBelow (L.read (now (pool .entry))) window below (P.entryAt (L.read (now (pool .entry))) s i)) (openedBelow (L.read (now (pool .entry))) window below (P.entryAt (L.read (now (pool .entry))) s i)) ⌝ }
 {
-    if !geometry::meets(e.rect, window) {
-        return at;
+    let r = pool::rect_of(pool, s, i);
+    if !geometry::meets(r, window) {
+        return done;
     }
-    if level == 0 {
-        put_row(rows, at, record_of(e));
-        return at + 1;
+    if below == 0 {
+        return list_record(pool, s, i, items, done);
     }
-    let c = child(e);
-    list_in(pool, window, level, c, rows, at)
+    let c = child_at(pool, s, i);
+    list_node(pool, window, below, c, items, done)
 }
 
-// ---- from the root on
-
-// "The root is always opened."
-pub fn opened(pool: &[i32], window: Rect) -> usize
+// "Search descends from the root and opens every child whose entry rectangle meets the window." "The root is always opened." The records
+// found become items, in the order in which search comes to them.
+pub fn list(pool: &[i32], window: Rect, items: &mut [i32]) -> Walked
     requires { ⌜ L.rightLength (now pool) ≡ true ⌝ }
     requires { ⌜ L.read (now pool) .height ≤ 8 ⌝ }
-    ensures is { λ r. ⌜ r ≡ F.opened (L.read (now (pool .entry))) window ⌝ }
-    ensures most { λ r. ⌜ r ≤ 43046721 ⌝ }
-{
-    let h = pool::height_of(pool);
-    opened_in(pool, window, h, pool::root_of(pool))
-}
-
-// "Search descends from the root and opens every child whose entry rectangle meets the window": how many records it finds.
-pub fn found_count(pool: &[i32], window: Rect) -> usize
-    requires { ⌜ L.rightLength (now pool) ≡ true ⌝ }
-    requires { ⌜ L.read (now pool) .height ≤ 8 ⌝ }
-    ensures is { λ r. ⌜ r ≡ length (F.foundIn (L.read (now (pool .entry))) window (L.read (now (pool .entry)) .height) (L.read (now (pool .entry)) .root)) ⌝ }
-    ensures most { λ r. ⌜ r ≤ 16777216 ⌝ }
-{
-    let h = pool::height_of(pool);
-    found_in(pool, window, h, pool::root_of(pool))
-}
-
-// The records found, in the order in which search comes to them, as rows from `at` on. The next row's place comes back.
-pub fn list(pool: &[i32], window: Rect, rows: &mut [i32], at: usize) -> usize
-    requires { ⌜ L.rightLength (now pool) ≡ true ⌝ }
-    requires { ⌜ L.read (now pool) .height ≤ 8 ⌝ }
-    requires { ⌜ 5 * (at + length (F.foundIn (L.read (now pool)) window (L.read (now pool) .height) (L.read (now pool) .root))) ≤ length (now rows) ⌝ }
-    ensures is { λ r. ⌜ r ≡ at + length (F.foundIn (L.read (now (pool .entry))) window (L.read (now (pool .entry)) .height) (L.read (now (pool .entry)) .root)) ⌝ }
-    ensures listed { λ _. ⌜ now (rows .exit) ≡ sets (now (rows .entry)) (5 * at) (rowsOf (F.foundIn (L.read (now (pool .entry))) window (L.read (now (pool .entry)) .height) (L.read (now (pool .entry)) .root))) ⌝ }
+    requires { ⌜ 2 * length (F.foundIn (L.read (now pool)) window (L.read (now pool) .height) (L.read (now pool) .root)) ≤ length (now items) ⌝ }
+    ensures found { λ r. ⌜ r .next ≡ length (F.foundIn (L.read (now (pool .entry))) window (L.read (now (pool .entry)) .height) (L.read (now (pool .entry)) .root)) ⌝ }
+    ensures opened { λ r. ⌜ r .opened ≡ F.opened (L.read (now (pool .entry))) window ⌝ }
+    ensures most { λ r. ⌜ r .opened ≤ 43046721 ⌝ }
+    ensures listed { λ _. ⌜ itemsFrom (now (pool .entry)) (now (items .exit)) 0 (length (F.foundIn (L.read (now (pool .entry))) window (L.read (now (pool .entry)) .height) (L.read (now (pool .entry)) .root))) ≡ F.foundIn (L.read (now (pool .entry))) window (L.read (now (pool .entry)) .height) (L.read (now (pool .entry)) .root) ⌝ }
+    ensures pointing { λ _. ⌜ Pointing (now (pool .entry)) (now (items .exit)) 0 (length (F.foundIn (L.read (now (pool .entry))) window (L.read (now (pool .entry)) .height) (L.read (now (pool .entry)) .root))) ⌝ }
+    ensures long { λ _. ⌜ length (now (items .exit)) ≡ length (now (items .entry)) ⌝ }
 {
     let h = pool::height_of(pool);
     let s = pool::root_of(pool);
-    list_in(pool, window, h, s, rows, at)
+    list_node(pool, window, h, s, items, Walked { next: 0, opened: 0 })
 }

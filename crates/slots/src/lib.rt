@@ -8,9 +8,16 @@ ghost use lib.IntN.{pos};
 ghost use Rattle.rules.specs.Layout as L;
 ghost use Rattle.rules.specs.Pool as P;
 ghost use Rattle.pool.specs.Slots.{InPool};
+ghost use Rattle.slots.specs.Known.{Known, lessSlot, moreSlot};
 use rules::FreeSlot;
 use rules::Rect;
 use rules::SlotNumber;
+
+// What is known of the free slots: how many there are, and a slot below which there is none.
+pub struct FreeSlots {
+    pub count: usize,
+    pub low: SlotNumber,
+}
 
 // A cover: "its rectangle is the smallest holding that node's entries".
 pub fn cover_of(pool: &[i32], s: SlotNumber) -> Rect
@@ -74,6 +81,58 @@ pub fn free_count(pool: &[i32]) -> usize
         at += 1;
     }
     free
+}
+
+// What is known of the free slots before a batch's first request: all are counted, and no slot is below slot 1.
+pub fn free_slots(pool: &[i32]) -> FreeSlots
+    requires { ⌜ L.rightLength (now pool) ≡ true ⌝ }
+    ensures { λ r. ⌜ Known (L.read (now (pool .entry))) r ⌝ }
+{
+    let n = free_count(pool);
+    FreeSlots {
+        count: n,
+        low: SlotNumber(1),
+    }
+}
+
+// "the lowest free slot", looked for from the slot on below which none is known to be free.
+pub fn lowest(pool: &[i32], free: FreeSlots) -> FreeSlot
+    requires { ⌜ L.rightLength (now pool) ≡ true ⌝ }
+    requires { ⌜ Known (L.read (now pool)) free ⌝ }
+    ensures { λ r. ⌜ r ≡ P.lowestFree (L.read (now (pool .entry))) ⌝ }
+{
+    let low = free.low;
+    lowest_free_from(pool, low)
+}
+
+// What is known once the lowest free slot, t, is taken: the next search starts behind it.
+pub fn less_slot(free: FreeSlots, t: SlotNumber) -> FreeSlots
+    requires { ⌜ 0 < free .count ⌝ }
+    requires { ⌜ t .0 ≤ 4096 ⌝ }
+    ensures { λ r. ⌜ r ≡ lessSlot free t ⌝ }
+{
+    FreeSlots {
+        count: free.count - 1,
+        low: SlotNumber(t.0 + 1),
+    }
+}
+
+// What is known once slot s has become free: "its slot is zeroed and free at once".
+pub fn more_slot(free: FreeSlots, s: SlotNumber) -> FreeSlots
+    requires { ⌜ free .count ≤ 4096 ⌝ }
+    ensures { λ r. ⌜ r ≡ moreSlot free s ⌝ }
+{
+    if s.0 < free.low.0 {
+        return FreeSlots {
+            count: free.count + 1,
+            low: s,
+        };
+    }
+    let low = free.low;
+    FreeSlots {
+        count: free.count + 1,
+        low: low,
+    }
 }
 
 // "A pool is 8 + 42N signed 32-bit words", N from 1 to 4,096.

@@ -1,65 +1,24 @@
-use native.Mathlib.Omega.{arith}
-use Rattle.pool.proofs.Parts.{few, room, slot-few, slot-entry}
-use mir.Syntax.{w32}
-use mir.Facts.{toZ-ofZ}
-use borrow.Author.Needs.{sfits-of}
+use Rattle.rules.specs.Layout.{read}
+use Rattle.pool.proofs.Parts.{entry-parts}
 use borrow.Author.Needs.{needs}
 use Rattle.pool.proofs.entry_of.Statement.{statement}
 use Rattle.pool.proofs.entry_of.Tie as tie
 use Rattle.pool.proofs.entry_of.Reads as reads
 use Rattle.pool.proofs.entry_of.Lts as lts
-use Rattle.pool.proofs.begin.Reads as begin-reads
-use Rattle.pool.proofs.level_of.Reads as level-of-reads
-use Rattle.pool.proofs.pointer_of.Reads as pointer-of-reads
+use Rattle.pool.proofs.entry_pointer.Reads as entry-pointer-reads
 use Rattle.pool.proofs.rect_of.Reads as rect-of-reads
-use Rattle.pool.proofs.word.Reads as word-reads
 
--- src/lib.rt:229:9
+-- src/lib.rt:286:9
 rect-of-requires : tie.Need-rect-of-requires
 rect-of-requires c κs = search needs
 
--- src/lib.rt:230:9
-level-of-requires : tie.Need-level-of-requires
-level-of-requires c κs = search needs
+-- src/lib.rt:287:9
+entry-pointer-requires : tie.Need-entry-pointer-requires
+entry-pointer-requires c κs = search needs
 
--- src/lib.rt:231:24
-begin-requires : tie.Need-begin-requires
-begin-requires c κs = let i = c .before .before .pre .0 in (i .low, few i)
-
--- src/lib.rt:231:24
-add-word : tie.Need-add-word
-add-word c = search needs
-
--- src/lib.rt:231:39
-mul-word : tie.Need-mul-word
-mul-word c = omega (arith, room (c .before .before .before .pre .0), c .begin .ensures, slot-few (c .before .before .before .pre .0), c .before .before .before .pre .1)
-
--- src/lib.rt:231:24
-add-word-2 : tie.Need-add-word-2
-add-word-2 c = omega (arith, room (c .before .before .before .pre .0), c .begin .ensures, slot-few (c .before .before .before .pre .0), c .before .before .before .pre .1)
-
--- src/lib.rt:231:9
-word-requires : tie.Need-word-requires
-word-requires c κs = omega (arith, room (c .before .before .before .pre .0), c .begin .ensures, slot-few (c .before .before .before .pre .0), c .before .before .before .pre .1)
-
--- src/lib.rt:232:9
-pointer-of-requires : tie.Need-pointer-of-requires
-pointer-of-requires c κs = search needs
-
--- src/lib.rt:224:1
+-- src/lib.rt:281:1
 returns : tie.Need-returns
-returns c = let s = c .before .before .before .before .before in let z = toZ-ofZ {w = w32} {z = c .before .word .result} (sfits-of (c .before .word .ok)) in rw (c .before .before .before .before .rect-of .ensures, c .pointer-of .ensures, z, c .before .word .ensures, c .before .before .before .level-of .ensures, c .before .before .begin .ensures) (slot-entry (s .pre .0) (s .args .i) (s .pre .1))
+returns c = let s = c .before .before in rw (c .before .rect-of .ensures, c .entry-pointer .ensures) (entry-parts (read (s .args .pool .now)) (s .args .s) (s .args .i))
 
 pub entry-of-spec : {M : Type 1} → statement M
-entry-of-spec =
-    tie.close
-    (tie.spec
-    rect-of-requires
-    level-of-requires
-    begin-requires
-    add-word
-    mul-word
-    add-word-2
-    word-requires
-    pointer-of-requires
-    returns)
+entry-of-spec = tie.close (tie.spec rect-of-requires entry-pointer-requires returns)

@@ -1,0 +1,90 @@
+-- A closed history that meets each hypothesis of the third demand: a pool of one slot is blanked; pairs go in, and requests are refused; a
+-- call is refused; then a pair is replaced, and a search shows what is in force.
+use mathlib.Core.Path.{_≡_, refl}
+use mathlib.Core.List.{List, [], _∷_}
+use Prim.Native.Nat.{ℕ, _-_, _≤_}
+use native.Mathlib.Omega.{arith}
+use lib.ListN.{length, replicate}
+use lib.IntN.{ℤ, pos}
+use Rattle.rules.specs.declared.Request.{Request}
+use Rattle.rules.specs.Pool.{blankPool}
+use Rattle.rules.specs.Layout.{Blanked, words, blank}
+use Rattle.rules.specs.Insert.{ours}
+use Rattle.rules.specs.Answers.{answer}
+use Rattle.rules.specs.Call.{Lent, call, starting, doRequests}
+use Rattle.rules.specs.Computed.{document01}
+use Rattle.rules.specs.Histories.{box, insert, delete, update, search, noRecord, shown}
+use Rattle.force.specs.Force.{lessPair, change, inForce, forceBy, forceAfter, placesOf, filledBy, filledAfter}
+use Rattle.force.specs.Batch.{meeting, Told}
+use Rattle.demands.specs.Steps.{Step, Blank, Call, poolAfter, History, inForceAfter}
+use Rattle.demands.proofs.Demands.{demand-3}
+
+abbrev lends : List ℤ → List Request → ℕ → Lent
+lends w qs n = record { pool = w; workspace = w; requests = qs; answers = replicate n (answer 1 2 3 4); found = noRecord ∷ noRecord ∷ [] }
+
+-- ---- the steps
+
+start : Blanked
+start = blank (words (blankPool 0))
+
+first : Lent
+first = lends (start .pool) (insert 7 (box 0 0 10 10) ∷ insert 7 (box 0 0 10 10) ∷ delete 9 (box 0 0 10 10) ∷ insert 8 (box 40 0 50 9) ∷ []) 4
+
+-- an answer list of another length
+second : Lent
+second = lends (call first .pool) (delete 7 (box 0 0 10 10) ∷ []) 2
+
+pub last : Lent
+last = lends (call second .pool) (update 7 (box 0 0 10 10) (box 5 5 20 20) ∷ search (box 20 20 30 30) ∷ []) 2
+
+before-last : List Step
+before-last = Call second (call second) ∷ Call first (call first) ∷ Blank start ∷ []
+
+-- ---- they are a history, and the last call is served
+
+closed-history : History 0 (Call last (call last) ∷ before-last)
+unfolding poolAfter before-last first second last start
+closed-history = (
+  refl,
+  record { number = refl; pool = refl; workspace = refl; answers = refl; found = refl },
+  (
+    refl,
+    record { number = refl; pool = refl; workspace = refl; answers = refl; found = refl },
+    (
+      refl,
+      record { number = refl; pool = refl; workspace = refl; answers = refl; found = refl },
+      (record { number = refl; pool = refl }, tt),
+    ),
+  ),
+)
+
+closed-served : call last .number ≡ pos 0
+unfolding document01 last second first start
+closed-served = refl
+
+closed-refused : call second .number ≡ pos 9
+unfolding document01 second first start
+closed-refused = refl
+
+-- the pairs in force before the last call, and when its search is done
+closed-force : inForceAfter before-last ≡ shown 8 (box 40 0 50 9) ∷ shown 7 (box 0 0 10 10) ∷ []
+unfolding document01 inForceAfter forceAfter forceBy inForce change before-last second first start
+closed-force = refl
+
+closed-then : forceAfter (inForceAfter before-last) 0 (update 7 (box 0 0 10 10) (box 5 5 20 20) ∷ []) (call last .answers)
+    ≡ shown 7 (box 5 5 20 20) ∷ shown 8 (box 40 0 50 9) ∷ []
+unfolding document01 inForceAfter forceAfter forceBy inForce change lessPair before-last last second first start
+closed-then = refl
+
+closed-room : meeting (box 20 20 30 30) (forceAfter (inForceAfter before-last) 0 (update 7 (box 0 0 10 10) (box 5 5 20 20) ∷ []) (call last .answers))
+    ≤ length (last .found) - filledAfter 0 0 (update 7 (box 0 0 10 10) (box 5 5 20 20) ∷ []) (call last .answers)
+unfolding document01 inForceAfter forceAfter forceBy inForce change lessPair filledAfter filledBy placesOf before-last last second first start
+closed-room = omega arith
+
+-- every hypothesis of the third demand is met, and this is what it says: record 7, which only touches the window, where it is now
+pub closed-shows : Told (doRequests ours 0 (update 7 (box 0 0 10 10) (box 5 5 20 20) ∷ []) (starting last) .pool)
+    (shown 7 (box 5 5 20 20) ∷ shown 8 (box 40 0 50 9) ∷ []) 0 (box 20 20 30 30) 1 (call last .answers) (shown 7 (box 5 5 20 20) ∷ noRecord ∷ [])
+unfolding document01 inForceAfter forceAfter forceBy inForce change lessPair filledAfter filledBy placesOf before-last last second first start
+closed-shows =
+    demand-3 0 before-last last (call last) closed-history closed-served .each (update 7 (box 0 0 10 10) (box 5 5 20 20) ∷ [])
+    (search (box 20 20 30 30)) [] refl (box 20 20 30 30) refl refl closed-room

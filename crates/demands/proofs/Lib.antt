@@ -1,0 +1,5 @@
+-- The three demands, proved.
+pub mod Holds
+pub mod Turns
+pub mod Demands
+pub mod Closed

@@ -1,0 +1,52 @@
+-- A history of one pool: from a blank pool on it is lent to calls, and blanked again, with requests accepted and refused, and with
+-- workspaces and lists of any content; and the pairs in force after it. There is no tree here.
+use mathlib.Core.Path.{_≡_}
+use mathlib.Core.Bool.{true, false}
+use mathlib.Core.List.{List, [], _∷_}
+use Prim.Native.Nat.{ℕ}
+use lib.Dec.{eqb}
+use lib.IntN.{ℤ, pos}
+use Rattle.rules.specs.declared.Record.{Record}
+use Rattle.rules.specs.Lists.{same}
+use Rattle.rules.specs.Pool.{blankPool}
+use Rattle.rules.specs.Layout.{Blanked, words, blank}
+use Rattle.rules.specs.Call.{Lent, Left, call}
+use Rattle.force.specs.Force.{forceAfter}
+
+-- what `dustmap_blank` promises, of the words lent and of what it returns and leaves
+pub record Blanks (w : List ℤ) (b : Blanked) : Type 0 where
+  pub number : b .number ≡ blank w .number
+  pub pool : b .pool ≡ blank w .pool
+
+-- what `dustmap_call` promises, of all that is lent and of all that it returns and leaves
+pub record Calls (l : Lent) (o : Left) : Type 0 where
+  pub number : o .number ≡ call l .number
+  pub pool : o .pool ≡ call l .pool
+  pub workspace : o .workspace ≡ call l .workspace
+  pub answers : o .answers ≡ call l .answers
+  pub found : o .found ≡ call l .found
+
+-- a step: the pool is blanked, or lent to a call with a workspace and lists; with what came back
+pub data Step : Type 0 where
+  Blank : Blanked → Step
+  Call : Lent → Left → Step
+
+-- the pool's words after the steps, the latest first in the list: at the start a blank pool of n slots and one more
+unfoldable pub poolAfter : ℕ → List Step → List ℤ
+poolAfter n [] = words (blankPool n)
+poolAfter n (Blank b ∷ steps) = b .pool
+poolAfter n (Call l o ∷ steps) = o .pool
+
+-- each step kept its promise, and was lent the pool that the steps before it left
+abbrev pub History : ℕ → List Step → Type 0
+History n [] = Unit {0}
+History n (Blank b ∷ steps) = Blanks (poolAfter n steps) b × History n steps
+History n (Call l o ∷ steps) = (l .pool ≡ poolAfter n steps) × Calls l o × History n steps
+
+-- "A pair is in force from an accepted insert of it, or update to it, until an accepted delete of it, or update to another.": the pairs in
+-- force after the steps, by requests and answers. A pool that is blanked holds none; a call that is refused does no request
+unfoldable pub inForceAfter : List Step → List Record
+inForceAfter [] = []
+inForceAfter (Blank b ∷ steps) = elim (eqb (b .number) 0) [ true ↦ [] | false ↦ inForceAfter steps ]
+inForceAfter (Call l o ∷ steps) =
+    elim (same (o .number) (pos 0)) [ true ↦ forceAfter (inForceAfter steps) 0 (l .requests) (o .answers) | false ↦ inForceAfter steps ]

@@ -1,0 +1,2 @@
+-- Laws of items that the crates above cite.
+pub mod Words

@@ -1,0 +1,2 @@
+-- What is found, before it is in order.
+pub mod Items

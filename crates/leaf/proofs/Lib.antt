@@ -1,0 +1,5 @@
+-- Laws that the proofs of `leaf` cite.
+pub mod Places
+pub mod Steps
+pub mod Turns
+pub mod Held

@@ -1,0 +1,2 @@
+-- What a batch knows of the free slots.
+pub mod Known
