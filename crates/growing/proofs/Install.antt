@@ -80,7 +80,7 @@ module _ (p : Pool) (l : ℕ) (s : SlotNumber) (d : Tree p (suc l) s) (e : Entry
   abbrev all : List Entry
   all = entriesAt p s ++ e ∷ []
 
-  all-fit : (x : Entry) → Among x all → Fits p (suc l) x
+  pub all-fit : (x : Entry) → Among x all → Fits p (suc l) x
   all-fit x m =
       ⊎-elim (tree-fits p (suc l) s d x) (λ n. subst (Fits p (suc l)) (sym (List·Memᴰ·eq-of-singleton n)) f)
       (List·Memᴰ·append-cases (entriesAt p s) m)

@@ -35,11 +35,11 @@ use Rattle.growing.proofs.Whole.{counted, counted-stands, counted-high,
 -- ---- the run and the root
 
 module _ (p : Pool) (way : List SlotNumber) where
-  needed-all : leading (isFull p) way ≡ length way → neededOn p way ≡ suc (leading (isFull p) way)
+  pub needed-all : leading (isFull p) way ≡ length way → neededOn p way ≡ suc (leading (isFull p) way)
   unfolding neededOn
   needed-all h = rw (eq-eqb (leading (isFull p) way) (length way) h)
 
-  needed-less : leading (isFull p) way < length way → neededOn p way ≡ leading (isFull p) way
+  pub needed-less : leading (isFull p) way < length way → neededOn p way ≡ leading (isFull p) way
   unfolding neededOn
   needed-less h = rw (ne-eqb (leading (isFull p) way) (length way) (λ e. omega arith))
 

@@ -72,11 +72,11 @@ module _ {A : Type 0} (q : A → Bool) where
       go true k f = omega (arith, leading-yes x (xs ++ ys) k, f (omega (arith, leading-yes x xs k)))
       go false k f = absurd (omega (arith, leading-no x xs k))
 
-full-one : (p : Pool) (s : SlotNumber) → most ≤ length (entriesAt p s) → leading (isFull p) (s ∷ []) ≡ 1
+pub full-one : (p : Pool) (s : SlotNumber) → most ≤ length (entriesAt p s) → leading (isFull p) (s ∷ []) ≡ 1
 unfolding isFull
 full-one p s h = omega (arith, leading-yes (isFull p) s [] (le-leb most (length (entriesAt p s)) h), leading-none (isFull p))
 
-room-none : (p : Pool) (s : SlotNumber) → length (entriesAt p s) < most → leading (isFull p) (s ∷ []) ≡ 0
+pub room-none : (p : Pool) (s : SlotNumber) → length (entriesAt p s) < most → leading (isFull p) (s ∷ []) ≡ 0
 unfolding isFull
 room-none p s h = leading-no (isFull p) s [] (lt-leb most (length (entriesAt p s)) h)
 
@@ -139,7 +139,7 @@ module _ (c : Choice) where
       let t = childOf (entryAt p s (way c p s e)) in
       omega (arith, length-append (wayUp c n p t e) (s ∷ []), way-length n p t e)
 
-  way-here : (p : Pool) (s : SlotNumber) (e : Entry) → wayUp c 0 p s e ≡ s ∷ []
+  pub way-here : (p : Pool) (s : SlotNumber) (e : Entry) → wayUp c 0 p s e ≡ s ∷ []
   unfolding wayUp
   way-here p s e = refl
 
@@ -155,13 +155,13 @@ module _ (c : Choice) where
     abbrev below : List SlotNumber
     below = wayUp c n p (childOf (entryAt p s (way c p s e))) e
 
-    run-ends : leading (isFull p) below ≤ n → run (suc n) p s e ≡ leading (isFull p) below
+    pub run-ends : leading (isFull p) below ≤ n → run (suc n) p s e ≡ leading (isFull p) below
     unfolding run
     run-ends h =
         ap (leading (isFull p)) (way-up n p s e)
         ∙ leading-before (isFull p) below (s ∷ []) (omega (arith, way-length n p (childOf (entryAt p s (way c p s e))) e))
 
-    run-goes-on : leading (isFull p) below ≡ suc n → run (suc n) p s e ≡ suc n + leading (isFull p) (s ∷ [])
+    pub run-goes-on : leading (isFull p) below ≡ suc n → run (suc n) p s e ≡ suc n + leading (isFull p) (s ∷ [])
     unfolding run
     run-goes-on h =
         let m = way-length n p (childOf (entryAt p s (way c p s e))) e in

@@ -64,7 +64,7 @@ module _ (p : Pool) (l : ℕ) (s : SlotNumber) (d : Tree p (suc (suc l)) s) (i :
   module _ (once : Once (slotsIn p (suc (suc l)) s)) (q : Pool) {come left : Node} {taken : List SlotNumber}
       (g : Grew (spot p (suc l) child) (spot q (suc l) child) come left taken (slotsIn p (suc l) child))
       (low : left .level ≤ suc (suc l)) (enough : least ≤ length (entriesAt q child)) where
-    top-same : nodeAt p s ≡ nodeAt q s
+    pub top-same : nodeAt p s ≡ nodeAt q s
     top-same = g .other s (here .slot .low) child-above (λ m. omega (arith, here .level, g .free s m))
 
     abbrev anew : Entry

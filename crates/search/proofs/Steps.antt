@@ -86,10 +86,10 @@ went-both {pool} {u} {v} {x} {a} {b} {c} {rs} {ts} {all} {m} {n} {both} d e h k 
 
 -- ---- a node opened
 
-pub room-opens : {items : List ℤ} {a : Walked} {rs : List Record} {n : ℕ} → Room items a rs (1 + n) → Room items (walked (a .next) (a .opened + 1)) rs n
+pub room-opens : {items : List ℤ} {a : Walked} {rs : List Record} {n : ℕ} → Room items a rs (1 + n) → Room items a rs n
 room-opens r = record { room = r .room; opened = omega (arith, r .opened) }
 
-pub went-opens : {pool u v : List ℤ} {a b : Walked} {rs : List Record} {n : ℕ} → Went pool u v (walked (a .next) (a .opened + 1)) b rs n → Went pool u v a b rs (1 + n)
+pub went-opens : {pool u v : List ℤ} {a b : Walked} {rs : List Record} {n : ℕ} → Went pool u v a b rs n → Went pool u v a (walked (b .next) (b .opened + 1)) rs (1 + n)
 went-opens w = record {
   next = w .next;
   opened = omega (arith, w .opened);

@@ -5,6 +5,7 @@ ghost use mathlib.Core.Bool.{true};
 ghost use mathlib.Core.List.{[], _∷_};
 ghost use Prim.Native.Nat.{_+_, _-_, _*_, _<_, _≤_};
 ghost use lib.ListN.{length};
+ghost use Rattle.rules.specs.Geometry.{meets};
 ghost use Rattle.rules.specs.Layout as L;
 ghost use Rattle.rules.specs.Pool as P;
 ghost use Rattle.rules.specs.Search as F;
@@ -41,7 +42,8 @@ fn slot_read(s: SlotNumber) -> SlotNumber
 fn count_at(pool: &[i32], s: SlotNumber) -> usize
     requires { ⌜ L.rightLength (now pool) ≡ true ⌝ }
     requires { ⌜ 1 ≤ s .0 ⌝ }
-    ensures { λ r. ⌜ r ≡ length (P.entriesAt (L.read (now (pool .entry))) s) ⌝ }
+    ensures is { λ r. ⌜ r ≡ length (P.entriesAt (L.read (now (pool .entry))) s) ⌝ }
+    ensures most { λ r. ⌜ r ≤ 8 ⌝ }
 {
     let n = s.0;
     if pool::slot_count(pool) < n {
@@ -74,6 +76,13 @@ fn number_at(pool: &[i32], s: SlotNumber, i: usize) -> RecordNumber
         Pointer::Number(n) => n,
         Pointer::Child(_) => RecordNumber(0),
     }
+}
+
+// Whether an entry's rectangle meets the window: "touching counts".
+fn meets_window(r: Rect, window: Rect) -> bool
+    ensures { λ t. ⌜ t ≡ meets r window ⌝ }
+{
+    geometry::meets(r, window)
 }
 
 // ---- the walk
@@ -112,19 +121,11 @@ fn list_node(
     }
     let t = slot_read(s);
     let n = count_at(pool, t);
-    let next = done.next;
-    let before = done.opened;
-    let opened = before + 1;
-    list_entries(
-        pool,
-        window,
-        level - 1,
-        t,
-        0,
-        n,
-        items,
-        Walked { next, opened },
-    )
+    let w = list_entries(pool, window, level - 1, t, 0, n, items, done);
+    let next = w.next;
+    let below = w.opened;
+    let opened = below + 1;
+    Walked { next, opened }
 }
 
 // .. below the entries from place i on of the node at s, which has n: what they lead to has the level below.
@@ -168,7 +169,7 @@ fn list_entry(
     ensures { λ r. ⌜ Went (now (pool .entry)) (now (items .entry)) (now (items .exit)) done r (foundBelow (L.read (now (pool .entry))) window below (P.entryAt (L.read (now (pool .entry))) s i)) (openedBelow (L.read (now (pool .entry))) window below (P.entryAt (L.read (now (pool .entry))) s i)) ⌝ }
 {
     let r = pool::rect_of(pool, s, i);
-    if !geometry::meets(r, window) {
+    if !meets_window(r, window) {
         return done;
     }
     if below == 0 {

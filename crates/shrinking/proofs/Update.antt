@@ -29,11 +29,11 @@ abbrev pub moved : Record → Rect → Record
 moved old new = record { number = old .number; rect = new }
 
 module _ (c : Choice) (p : Pool) (old : Record) (new : Rect) where
-  update-done : (q : Pool) → deleteRecord c p old ≡ Done q → updateRecord c p old new ≡ insertRecord c q (moved old new)
+  pub update-done : (q : Pool) → deleteRecord c p old ≡ Done q → updateRecord c p old new ≡ insertRecord c q (moved old new)
   unfolding updateRecord
   update-done q h = rw (h, updateRecord)
 
-  update-none : deleteRecord c p old ≡ NoneFree → updateRecord c p old new ≡ NoneFree
+  pub update-none : deleteRecord c p old ≡ NoneFree → updateRecord c p old new ≡ NoneFree
   unfolding updateRecord
   update-none h = rw (h, updateRecord)
 

@@ -1,3 +1,11 @@
+use mathlib.Core.Path.{ap, _∙_}
+use Prim.Native.Nat.{ℕ}
+use lib.ListN.{set}
+use lib.Seq.{sets}
+use lib.IntN.{pos}
+use Rattle.rules.specs.Layout.{entryWords}
+use Rattle.pool.specs.Slots.{spotOf}
+use Rattle.pool.proofs.Parts.{startOf}
 use native.Mathlib.Omega.{arith}
 use Prim.Native.Nat.{_+_}
 use mir.Syntax.{w32}
@@ -56,7 +64,7 @@ same-length c = search needs
 
 -- src/lib.rt:205:1
 returns : tie.Need-returns
-returns c = let s = c .before .before .before .before .before .before .before in let n = c .before .before .before .before .before .count-of .ensures .0 in let z = toZ-pos w32 (c .before .before .before .before .before .count-of .result + 1) (omega (arith, c .before .before .before .before .before .count-of .ensures .1)) in more-stored (s .pre .0) (s .pre .1 .0) (s .args .e) (s .pre .1 .1 .0) (s .pre .1 .1 .1 .1) _ (rw (z, c .before .before .put-entry .ensures, c .before .before .before .spot .ensures, c .begin .ensures, n))
+returns c = let s = c .before .before .before .before .before .before .before in let n = c .before .before .before .before .before .count-of .ensures .0 in let z = toZ-pos w32 (c .before .before .before .before .before .count-of .result + 1) (omega (arith, c .before .before .before .before .before .count-of .ensures .1)) in more-stored (s .pre .0) (s .pre .1 .0) (s .args .e) (s .pre .1 .1 .0) (s .pre .1 .1 .1 .1) _ ((λ j. set (c .before .before .put-entry .ensures j) (c .begin .ensures j + 1) (z j)) ∙ (λ j. set (sets (s .args .pool .now) (c .before .before .before .spot .ensures j) (entryWords (s .args .e))) (startOf (s .args .s) + 1) (pos (c .before .before .before .before .before .count-of .result + 1))) ∙ ap (λ (k : ℕ). set (sets (s .args .pool .now) (spotOf (s .args .s) k) (entryWords (s .args .e))) (startOf (s .args .s) + 1) (pos (k + 1))) n)
 
 pub add-entry-spec : {M : Type 1} → statement M
 add-entry-spec =

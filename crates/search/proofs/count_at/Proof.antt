@@ -10,15 +10,15 @@ use Rattle.search.proofs.count_at.Lts as lts
 use Rattle.pool.proofs.count_of.Reads as count-of-reads
 use Rattle.pool.proofs.slot_count.Reads as slot-count-reads
 
--- src/lib.rt:47:8
+-- src/lib.rt:48:8
 slot-count-requires : tie.Need-slot-count-requires
 slot-count-requires c κs = search needs
 
--- src/lib.rt:48:9
+-- src/lib.rt:49:9
 returns : tie.Need-returns
-returns c = sym (ap length (none-beyond (c .before .before .args .pool .now) (c .before .before .args .s) (omega (arith, c .before .slot-count .ensures, c .if1 .taken))))
+returns c = (sym (ap length (none-beyond (c .before .before .args .pool .now) (c .before .before .args .s) (omega (arith, c .before .slot-count .ensures, c .if1 .taken)))), omega arith)
 
--- src/lib.rt:50:5
+-- src/lib.rt:51:5
 count-of-requires : tie.Need-count-of-requires
 count-of-requires c κs = search needs
 
