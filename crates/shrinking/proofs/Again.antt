@@ -32,7 +32,7 @@ module _ (c : Choice) where
     unfolding reinsert
     reinsert-done q h = rw (h, reinsert)
 
-    reinsert-full : insertAt c (a .level) p (a .entry) ≡ NoneFree → reinsert c p (a ∷ rest) ≡ NoneFree
+    pub reinsert-full : insertAt c (a .level) p (a .entry) ≡ NoneFree → reinsert c p (a ∷ rest) ≡ NoneFree
     unfolding reinsert
     reinsert-full h = rw (h, reinsert)
 

@@ -38,7 +38,7 @@ module _ (p : Pool) where
   condense-more a b way = refl
 
   -- a way begins at its node
-  leads-from : (r : Record) (l : ℕ) (s : SlotNumber) (way : Path) → Leads p r l s way → (k : ℕ) × (more : Path) × (way ≡ place s k ∷ more)
+  pub leads-from : (r : Record) (l : ℕ) (s : SlotNumber) (way : Path) → Leads p r l s way → (k : ℕ) × (more : Path) × (way ≡ place s k ∷ more)
   unfolding Leads
   leads-from r zero s way h = absurd h
   leads-from r (suc zero) s way h = (h .0, [], h .1)

@@ -61,15 +61,15 @@ head-tree p n = records-frame p (putRecords p n) (p .height) (p .root) (λ t m. 
 -- ---- what was set aside is back, and the root is short
 
 module _ (c : Choice) where
-  short-done : (q : Pool) → shortened (Done q) ≡ Done (shorten q)
+  pub short-done : (q : Pool) → shortened (Done q) ≡ Done (shorten q)
   unfolding shortened
   short-done q = refl
 
-  short-none : shortened NoneFree ≡ NoneFree
+  pub short-none : shortened NoneFree ≡ NoneFree
   unfolding shortened
   short-none = refl
 
-  back-is : (x : Condensed) → putBack c x ≡ shortened (reinsert c (x .pool) (x .setAside))
+  pub back-is : (x : Condensed) → putBack c x ≡ shortened (reinsert c (x .pool) (x .setAside))
   unfolding putBack
   back-is x = refl
 
@@ -86,25 +86,25 @@ module _ (c : Choice) where
     abbrev less : Pool
     less = putRecords p (p .records - 1)
 
-    stands : Standing less []
+    pub stands : Standing less []
     stands = head-standing p (p .records - 1) [] (whole-standing p w)
 
-    way-there : Leads less r (less .height) (less .root) way
+    pub way-there : Leads less r (less .height) (less .root) way
     unfolding putRecords
     way-there = leads-head p (p .records - 1) r (p .height) (p .root) way h
 
-    out : Condensed
+    pub out : Condensed
     out = condense less way
 
-    out-is : out ≡ condense less way
+    pub out-is : out ≡ condense less way
     unfolding out
     out-is = refl
 
-    shrunk : Shrunk less (less .height) (less .root) r out
+    pub shrunk : Shrunk less (less .height) (less .root) r out
     unfolding out
     shrunk = condense-shrunk less r (less .height) (less .root) way (stands .tree) (standing-once less [] stands) way-there
 
-    waiting : Waiting (out .pool) (out .setAside)
+    pub waiting : Waiting (out .pool) (out .setAside)
     waiting = shrunk-waiting less stands (head-two p (p .records - 1) w) r out shrunk
 
     module _ (q : Pool) (g : PutBack (out .pool) (out .setAside) q) where
@@ -188,7 +188,7 @@ module _ (c : Choice) where
     unfolding deleteRecord
     delete-none h = rw (h, deleteRecord)
 
-    delete-some : (way : Path) → findLeaf p r (p .height) (p .root) ≡ some way
+    pub delete-some : (way : Path) → findLeaf p r (p .height) (p .root) ≡ some way
         → deleteRecord c p r ≡ putBack c (condense (putRecords p (p .records - 1)) way)
     unfolding deleteRecord
     delete-some way h = rw (h, deleteRecord)

@@ -33,16 +33,16 @@ use Rattle.shrinking.proofs.Freed.{zero-freed}
 use Rattle.shrinking.proofs.Narrow.{weight-child}
 
 module _ (p : Pool) where
-  shorten-leaf : isLeaf (nodeAt p (p .root)) ≡ true → shorten p ≡ p
+  pub shorten-leaf : isLeaf (nodeAt p (p .root)) ≡ true → shorten p ≡ p
   unfolding shorten
   shorten-leaf h = rw (h, shorten)
 
-  shorten-one : isLeaf (nodeAt p (p .root)) ≡ false → eqb (length (entriesAt p (p .root))) 1 ≡ true
+  pub shorten-one : isLeaf (nodeAt p (p .root)) ≡ false → eqb (length (entriesAt p (p .root))) 1 ≡ true
       → shorten p ≡ putRoot (zeroSlot p (p .root)) (childOf (entryAt p (p .root) 0)) (p .height - 1)
   unfolding shorten
   shorten-one h k = rw (h, k, shorten)
 
-  shorten-more : isLeaf (nodeAt p (p .root)) ≡ false → eqb (length (entriesAt p (p .root))) 1 ≡ false → shorten p ≡ p
+  pub shorten-more : isLeaf (nodeAt p (p .root)) ≡ false → eqb (length (entriesAt p (p .root))) 1 ≡ false → shorten p ≡ p
   unfolding shorten
   shorten-more h k = rw (h, k, shorten)
 

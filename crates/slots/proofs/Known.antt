@@ -14,10 +14,6 @@ use Rattle.slots.specs.declared.FreeSlots.{FreeSlots}
 use Rattle.slots.specs.Known.{UsedBelow, Known, lessSlot, moreSlot}
 use Rattle.slots.proofs.LowestSlot.{LowestAt, lowest-at, free-put, put-same, put-other, used-next, used-put}
 
--- before a slot is looked at, nothing is below slot 1
-pub known-all : (p : Pool) (f : FreeSlots) → f .count ≡ freeCount p → f .low .0 ≡ 1 → Known p f
-known-all p f m l = record { many = m; first = omega arith; below = record { used = λ t a b. absurd (omega arith) } }
-
 put-long : (p : Pool) (s : SlotNumber) (n : Node) → length (putNode p s n .slots) ≡ length (p .slots)
 unfolding putNode
 put-long p s n = length-set (p .slots) (s .0 - 1) n

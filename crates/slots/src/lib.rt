@@ -101,8 +101,8 @@ pub fn lowest(pool: &[i32], free: FreeSlots) -> FreeSlot
     requires { ⌜ Known (L.read (now pool)) free ⌝ }
     ensures { λ r. ⌜ r ≡ P.lowestFree (L.read (now (pool .entry))) ⌝ }
 {
-    let low = free.low;
-    lowest_free_from(pool, low)
+    let first = free.low;
+    lowest_free_from(pool, first)
 }
 
 // What is known once the lowest free slot, t, is taken: the next search starts behind it.
@@ -122,17 +122,12 @@ pub fn more_slot(free: FreeSlots, s: SlotNumber) -> FreeSlots
     requires { ⌜ free .count ≤ 4096 ⌝ }
     ensures { λ r. ⌜ r ≡ moreSlot free s ⌝ }
 {
+    let count = free.count + 1;
     if s.0 < free.low.0 {
-        return FreeSlots {
-            count: free.count + 1,
-            low: s,
-        };
+        return FreeSlots { count, low: s };
     }
     let low = free.low;
-    FreeSlots {
-        count: free.count + 1,
-        low: low,
-    }
+    FreeSlots { count, low }
 }
 
 // "A pool is 8 + 42N signed 32-bit words", N from 1 to 4,096.

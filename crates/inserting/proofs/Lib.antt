@@ -1,0 +1,7 @@
+-- Laws that the proofs of `inserting` and of the crates above it cite.
+pub mod Fitted
+pub mod Nines
+pub mod Divided
+pub mod Steps
+pub mod Roots
+pub mod Records

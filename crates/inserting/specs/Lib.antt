@@ -1,0 +1,3 @@
+-- How what the code leaves stands for what the definitions give.
+pub mod Left
+pub mod State

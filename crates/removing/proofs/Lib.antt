@@ -1,0 +1,9 @@
+-- Laws that the proofs of `removing` cite.
+pub mod Closed
+pub mod Nodes
+pub mod Listed
+pub mod Relieved
+pub mod Climb
+pub mod Backs
+pub mod Shorts
+pub mod Deleted

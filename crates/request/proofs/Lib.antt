@@ -1,0 +1,7 @@
+-- Laws about one request.
+pub mod Rows
+pub mod Sounds
+pub mod Cases
+pub mod Turns
+pub mod Listing
+pub mod Replaced

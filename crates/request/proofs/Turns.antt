@@ -1,0 +1,181 @@
+-- A turn in words: what is refused leaves the words; what a change leaves is sound again.
+use mathlib.Core.Path.{_≡_, refl, sym, subst, _∙_}
+use mathlib.Core.Logic.{_≢_}
+use mathlib.Core.Bool.{Bool, true, false}
+use mathlib.Core.List.{List, []}
+use Prim.Native.Nat.{ℕ, suc, _+_, _-_, _*_, _≤_}
+use native.Mathlib.Omega.{arith}
+use lib.Dec.{ltb}
+use lib.ListN.{length}
+use lib.IntN.{ℤ}
+use borrow.Author.Tests.{ltb-false}
+use Rattle.rules.specs.declared.Rect.{Rect}
+use Rattle.rules.specs.declared.Record.{Record}
+use Rattle.rules.specs.declared.Asked.{Asked}
+use Rattle.rules.specs.declared.Asked.the-variants.{Insert, Delete, Update}
+use Rattle.rules.specs.declared.Reply.{Reply}
+use Rattle.rules.specs.declared.Reply.the-variants.{Changed, NoSlot}
+use Rattle.rules.specs.Pool.{Pool, held, freeCount}
+use Rattle.rules.specs.Layout.{read}
+use Rattle.rules.specs.Numbers.{goodNumber}
+use Rattle.rules.specs.Geometry.{valid}
+use Rattle.rules.specs.Insert.{ours, Change, Done, NoneFree, insertRecord}
+use Rattle.rules.specs.Delete.{deleteRecord, updateRecord}
+use Rattle.rules.specs.Request.{Turn, turn, afterChange, request}
+use Rattle.pool.specs.Slots.{Fit}
+use Rattle.trees.specs.Tree.{Whole}
+use Rattle.slots.specs.declared.FreeSlots.{FreeSlots}
+use Rattle.slots.specs.Known.{Known}
+use Rattle.shrinking.specs.Shrunk.{EachPool, roomFor, deleteRoom}
+use Rattle.shrinking.proofs.Spare.{room-least}
+use Rattle.inserting.specs.declared.Outcome.{Outcome}
+use Rattle.inserting.specs.declared.Outcome.the-variants.{Made, Refused}
+use Rattle.inserting.specs.Left.{Holds, Leaves}
+use Rattle.removing.specs.Removed.{Removes}
+use Rattle.request.specs.Serving.{Ready, Changes, ChangesTo, replied, came, TakenBack, enoughFor, otherHeld}
+use Rattle.laws.proofs.Splits.{ours-lawful}
+use Rattle.growing.proofs.Whole.{insert-whole}
+use Rattle.shrinking.proofs.Delete.{delete-whole, delete-fits}
+use Rattle.shrinking.proofs.Update.{update-whole, update-fits}
+use Rattle.request.proofs.Rows.{insert-0, delete-0, update-0}
+use Rattle.request.proofs.Sounds.{sound-fit, sound-tree, fit-sound}
+
+-- ---- ready
+
+module _ (w : List ℤ) (f : FreeSlots) (r : Ready w f) where
+  pub ready-fit : Fit w
+  ready-fit = sound-fit w (r .right) (r .sound)
+
+  pub ready-whole : Whole (read w)
+  ready-whole = sound-tree w (r .sound)
+
+held-ready : (q : Pool) (f : FreeSlots) (w : List ℤ) → Whole q → Holds q f w → Ready w f
+held-ready q f w t h = record {
+  right = h .fit .right;
+  sound = fit-sound w (h .fit) (subst Whole (sym (h .is)) t);
+  known = subst (λ (p : Pool). Known p f) (sym (h .is)) (h .known);
+}
+
+-- ---- refused
+
+module _ (w : List ℤ) (f : FreeSlots) (r : Ready w f) where
+  pub stays : (t : Turn) (reply : Reply) → t ≡ turn (read w) reply [] → Changes (length w) t (replied reply f) w
+  unfolding replied
+  stays t reply h = rw h (record { ready = r; pool = refl; answer = refl; none = refl; listed = refl; same = refl })
+
+-- ---- changed
+
+made : (q : Pool) (g : FreeSlots) (v : List ℤ) (n : ℕ) → Whole q → Holds q g v → length v ≡ n
+    → Changes n (turn q Changed []) (replied Changed g) v
+unfolding replied
+made q g v n t h e = record { ready = held-ready q g v t h; pool = h .is; answer = refl; none = refl; listed = refl; same = e }
+
+module _ (w : List ℤ) (f : FreeSlots) (r : Ready w f) where
+  -- an insert: where it is refused nothing was written
+  pub inserted : (change : Change) → EachPool Whole change → (o : Outcome) (v : List ℤ) → length v ≡ length w → Leaves w change o v
+      → Changes (length w) (afterChange (read w) change) (came o f) v
+  unfolding afterChange came
+  inserted (Done q) t (Made g) v e h = made q g v (length w) t h e
+  inserted (Done q) t Refused v e h = absurd h
+  inserted NoneFree t (Made g) v e h = absurd h
+  inserted NoneFree t Refused v e h = subst (Changes (length w) (turn (read w) NoSlot []) (replied NoSlot f)) (sym h) (stays w f r (turn (read w) NoSlot []) NoSlot refl)
+
+  -- a delete or an update: where it is refused it is taken back from the copy, which was made where slots are scarce; where they are not,
+  -- it is not refused
+  module _ (room : ℕ) (kept : List ℤ) (copied : ltb (f .count) room ≡ true → kept ≡ w) where
+    pub removed : (change : Change) → EachPool Whole change → (room ≤ f .count → change ≢ NoneFree) → (o : Outcome) (v : List ℤ)
+        → Removes w change o v → (u : List ℤ) → length u ≡ length w → TakenBack o v kept u
+        → Changes (length w) (afterChange (read w) change) (came o f) u
+    unfolding afterChange came
+    removed (Done q) t enough (Made g) v h u e back = made q g u (length w) t (subst (Holds q g) (sym back) h) e
+    removed (Done q) t enough Refused v h u e back = absurd h
+    removed NoneFree t enough (Made g) v h u e back = absurd h
+    removed NoneFree t enough Refused v h u e back = go (ltb (f .count) room) refl
+      where
+        go : (b : Bool) → ltb (f .count) room ≡ b → Changes (length w) (turn (read w) NoSlot []) (replied NoSlot f) u
+        go true s = subst (Changes (length w) (turn (read w) NoSlot []) (replied NoSlot f)) (sym (back ∙ copied s)) (stays w f r (turn (read w) NoSlot []) NoSlot refl)
+        go false s = absurd (enough (ltb-false (f .count) room s) refl)
+
+-- ---- what is handed back, case by case
+
+module _ (o : Outcome) (f : FreeSlots) where
+  pub came-made : (g : FreeSlots) → o ≡ Made g → replied Changed g ≡ came o f
+  unfolding came
+  came-made g h = rw h
+
+  pub came-refused : o ≡ Refused → replied NoSlot f ≡ came o f
+  unfolding came
+  came-refused h = rw h
+
+module _ (o : Outcome) (changed copy w : List ℤ) where
+  pub back-made : (g : FreeSlots) → o ≡ Made g → w ≡ changed → TakenBack o changed copy w
+  back-made g h e = rw h e
+
+  pub back-refused : o ≡ Refused → w ≡ copy → TakenBack o changed copy w
+  back-refused h e = rw h e
+
+-- ---- how many free slots are enough
+
+pub enough-is : (n h : ℕ) → n ≡ 2 * (h - 1) → n * (h + n) + (h + n + 1) ≡ enoughFor h
+unfolding enoughFor deleteRoom roomFor
+enough-is n h e = rw e (omega arith)
+
+pub back-few : (n h : ℕ) → n ≤ 14 → h ≤ 8 → n * (h + n) ≤ 308
+unfolding roomFor
+back-few n h a b = room-least n 14 8 h a b
+
+-- ---- the three changes
+
+module _ (p : Pool) (f : FreeSlots) (many : f .count ≡ freeCount p) (n : enoughFor (p .height) ≤ f .count) where
+  less-enough : deleteRoom (p .height) ≤ freeCount p
+  unfolding enoughFor
+  less-enough = omega (arith, many, n)
+
+  all-enough : deleteRoom (p .height) + suc (p .height + 2 * (p .height - 1)) ≤ freeCount p
+  unfolding enoughFor
+  all-enough = omega (arith, many, n)
+
+module _ (w : List ℤ) (f : FreeSlots) (r : Ready w f) where
+  -- a row of the table applies
+  pub off : (a : Asked) (reply : Reply) → ((filled room : ℕ) → request ours (read w) filled room a ≡ turn (read w) reply [])
+      → ChangesTo w a (replied reply f) w
+  off a reply h filled room = stays w f r _ reply (h filled room)
+
+  module _ (p : Record) (a : valid (p .rect) ≡ true) (b : goodNumber (p .number) ≡ true) where
+    pub insert-made : held (read w) p ≡ false → (o : Outcome) (v : List ℤ)
+        → length v ≡ length w → Leaves w (insertRecord ours (read w) p) o v → ChangesTo w (Insert p) (came o f) v
+    insert-made d o v e h filled room =
+        subst (λ (t : Turn). Changes (length w) t (came o f) v) (sym (insert-0 (read w) filled room p a b d))
+        (inserted w f r (insertRecord ours (read w) p) (go (insertRecord ours (read w) p) refl) o v e h)
+      where
+        go : (c : Change) → insertRecord ours (read w) p ≡ c → EachPool Whole c
+        go (Done q) e = insert-whole ours ours-lawful (read w) (ready-whole w f r) p a b q e
+        go NoneFree e = tt
+
+    module _ (d : held (read w) p ≡ true) (kept : List ℤ) (copied : ltb (f .count) (enoughFor (read w .height)) ≡ true → kept ≡ w) where
+      pub delete-made : (o : Outcome) (v : List ℤ) → Removes w (deleteRecord ours (read w) p) o v
+          → (u : List ℤ) → length u ≡ length w → TakenBack o v kept u → ChangesTo w (Delete p) (came o f) u
+      delete-made o v h u e back filled room =
+          subst (λ (t : Turn). Changes (length w) t (came o f) u) (sym (delete-0 (read w) filled room p a b d))
+          (removed w f r (enoughFor (read w .height)) kept copied (deleteRecord ours (read w) p) (go (deleteRecord ours (read w) p) refl) enough o v h u e back)
+        where
+          go : (c : Change) → deleteRecord ours (read w) p ≡ c → EachPool Whole c
+          go (Done q) e = delete-whole ours ours-lawful (read w) (ready-whole w f r) p q e
+          go NoneFree e = tt
+
+          enough : enoughFor (read w .height) ≤ f .count → deleteRecord ours (read w) p ≢ NoneFree
+          enough n = delete-fits ours (read w) p (ready-whole w f r) ours-lawful (less-enough (read w) f (r .known .many) n)
+
+      module _ (new : Rect) (c : valid new ≡ true) (other : otherHeld (read w) p new ≡ false) where
+        pub update-made : (o : Outcome) (v : List ℤ) → Removes w (updateRecord ours (read w) p new) o v
+            → (u : List ℤ) → length u ≡ length w → TakenBack o v kept u → ChangesTo w (Update p new) (came o f) u
+        update-made o v h u e back filled room =
+            subst (λ (t : Turn). Changes (length w) t (came o f) u) (sym (update-0 (read w) filled room p new a c b d other))
+            (removed w f r (enoughFor (read w .height)) kept copied (updateRecord ours (read w) p new) (go (updateRecord ours (read w) p new) refl) enough o v h u e back)
+          where
+            go : (c : Change) → updateRecord ours (read w) p new ≡ c → EachPool Whole c
+            go (Done q) e = update-whole ours (read w) p new ours-lawful (ready-whole w f r) d c q e
+            go NoneFree e = tt
+
+            enough : enoughFor (read w .height) ≤ f .count → updateRecord ours (read w) p new ≢ NoneFree
+            enough n = update-fits ours (read w) p new ours-lawful (ready-whole w f r) d c (all-enough (read w) f (r .known .many) n)

@@ -1,0 +1,22 @@
+use mir.Syntax.{w32}
+use mir.Facts.{toZ-ofZ}
+use borrow.Author.Needs.{sfits-of}
+use Rattle.rules.specs.Numbers.{goodNumber}
+use borrow.Author.Needs.{needs}
+use Rattle.request.proofs.good_number.Statement.{statement}
+use Rattle.request.proofs.good_number.Tie as tie
+use Rattle.request.proofs.good_number.Reads as reads
+use Rattle.request.proofs.good_number.Lts as lts
+use Rattle.geometry.proofs.le.Reads as le-reads
+
+-- src/lib.rt:26:5
+le-requires : tie.Need-le-requires
+le-requires c κs = search needs
+
+-- src/lib.rt:22:1
+returns : tie.Need-returns
+unfolding goodNumber
+returns c = rw (toZ-ofZ {w = w32} {z = c .before .before .args .n .0} (sfits-of (c .before .struct-told .given .0 .1))) at (c .le .ensures)
+
+pub good-number-spec : {M : Type 1} → statement M
+good-number-spec = tie.close (tie.spec le-requires returns)

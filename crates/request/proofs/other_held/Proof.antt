@@ -1,0 +1,28 @@
+use mathlib.Core.Path.{sym, _∙_}
+use Rattle.request.proofs.Rows.{other-same, other-new}
+use borrow.Author.Needs.{needs}
+use Rattle.request.proofs.other_held.Statement.{statement}
+use Rattle.request.proofs.other_held.Tie as tie
+use Rattle.request.proofs.other_held.Reads as reads
+use Rattle.request.proofs.other_held.Lts as lts
+use Rattle.geometry.proofs.same_rect.Reads as same-rect-reads
+use Rattle.leaf.proofs.holds.Reads as holds-reads
+
+-- src/lib.rt:172:8
+same-rect-requires : tie.Need-same-rect-requires
+same-rect-requires c κs = search needs
+
+-- src/lib.rt:173:9
+returns : tie.Need-returns
+returns c = other-same _ _ _ (sym (c .before .same-rect .ensures) ∙ c .if1 .taken)
+
+-- src/lib.rt:176:5
+holds-requires : tie.Need-holds-requires
+holds-requires c κs = search needs
+
+-- src/lib.rt:166:1
+returns-2 : tie.Need-returns-2
+returns-2 c = c .holds .ensures ∙ other-new _ _ _ (sym (c .before .before .before .same-rect .ensures) ∙ c .before .before .if1 .left)
+
+pub other-held-spec : {M : Type 1} → statement M
+other-held-spec = tie.close (tie.spec same-rect-requires returns holds-requires returns-2)

@@ -1,0 +1,2 @@
+-- What one request leaves.
+pub mod Serving

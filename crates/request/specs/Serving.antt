@@ -1,0 +1,86 @@
+-- What one request leaves: the pool in the words lent, the answer, and the records that a search lists, as items in the workspace.
+use mathlib.Core.Path.{_≡_}
+use mathlib.Core.Bool.{Bool, true, not, _&&_}
+use mathlib.Core.List.{List, []}
+use mathlib.Core.Option.{some}
+use Prim.Native.Nat.{ℕ, suc, _+_, _-_, _*_, _≤_}
+use lib.ListN.{length}
+use lib.IntN.{ℤ}
+use Rattle.rules.specs.declared.Rect.{Rect}
+use Rattle.rules.specs.declared.Record.{Record}
+use Rattle.rules.specs.declared.Request.{Request}
+use Rattle.rules.specs.declared.Asked.{Asked}
+use Rattle.rules.specs.declared.Reply.{Reply}
+use Rattle.rules.specs.declared.Reply.the-variants.{Changed, NoSlot}
+use Rattle.rules.specs.Geometry.{samePair}
+use Rattle.rules.specs.Pool.{Pool, held}
+use Rattle.rules.specs.Layout.{rightLength, read}
+use Rattle.rules.specs.Sound.{sound}
+use Rattle.rules.specs.Answers.{answerOf}
+use Rattle.rules.specs.Insert.{ours}
+use Rattle.rules.specs.Request.{Turn, asked, request}
+use Rattle.slots.specs.declared.FreeSlots.{FreeSlots}
+use Rattle.slots.specs.Known.{Known}
+use Rattle.items.specs.Items.{itemsFrom, Pointing}
+use Rattle.shrinking.specs.Shrunk.{deleteRoom}
+use Rattle.inserting.specs.declared.Outcome.{Outcome}
+use Rattle.inserting.specs.declared.Outcome.the-variants.{Made, Refused}
+use Rattle.request.specs.declared.Served.{Served}
+
+-- a sound pool, and what is known of its free slots
+pub record Ready (w : List ℤ) (f : FreeSlots) : Type 0 where
+  pub right : rightLength w ≡ true
+  pub sound : sound w ≡ true
+  pub known : Known (read w) f
+
+-- the turn t, done in words of the length given
+pub record Serves (long : ℕ) (t : Turn) (r : Served) (left scratch : List ℤ) : Type 0 where
+  pub ready : Ready left (r .free)
+  pub pool : read left ≡ t .pool
+  pub answer : r .answer ≡ answerOf (t .reply)
+  pub listed : r .listed ≡ length (t .listed)
+  pub few : r .listed ≤ 32768
+  pub items : itemsFrom left scratch 0 (r .listed) ≡ t .listed
+  pub pointing : Pointing left scratch 0 (r .listed)
+  pub same : length left ≡ long
+  pub work : length scratch ≡ long
+
+-- .. a turn that lists nothing: the workspace does not matter
+pub record Changes (long : ℕ) (t : Turn) (r : Served) (left : List ℤ) : Type 0 where
+  pub ready : Ready left (r .free)
+  pub pool : read left ≡ t .pool
+  pub answer : r .answer ≡ answerOf (t .reply)
+  pub none : t .listed ≡ []
+  pub listed : r .listed ≡ 0
+  pub same : length left ≡ long
+
+-- a change asked for in the words w is done there, however many places of the found list are filled and left
+abbrev pub ChangesTo : List ℤ → Asked → Served → List ℤ → Type 0
+ChangesTo w a r left = (filled room : ℕ) → Changes (length w) (request ours (read w) filled room a) r left
+
+-- the request q of a batch is done in the words w
+abbrev pub ServesTo : List ℤ → Request → ℕ → ℕ → Served → List ℤ → List ℤ → Type 0
+ServesTo w q filled room r left scratch =
+    (a : Asked) → asked q ≡ some a → Serves (length w) (request ours (read w) filled room a) r left scratch
+
+-- what is handed back for a reply that lists nothing, and for a change that was made or refused
+unfoldable pub replied : Reply → FreeSlots → Served
+replied reply f = record { answer = answerOf reply; listed = 0; free = f }
+
+unfoldable pub came : Outcome → FreeSlots → Served
+came (Made f) before = replied Changed f
+came Refused before = replied NoSlot before
+
+-- a change that was refused is taken back from the copy; one that was made stays
+abbrev pub TakenBack : Outcome → List ℤ → List ℤ → List ℤ → Type 0
+TakenBack (Made f) changed copy w = w ≡ changed
+TakenBack Refused changed copy w = w ≡ copy
+
+-- so many free slots are enough for an update, and for a delete, in a tree of h levels (`update-fits`, `delete-fits` of crate shrinking)
+unfoldable pub enoughFor : ℕ → ℕ
+enoughFor h = deleteRoom h + suc (h + 2 * (h - 1))
+
+-- 6: "update: new pair held and not the old pair"
+unfoldable pub otherHeld : Pool → Record → Rect → Bool
+otherHeld p old new =
+    held p (record { number = old .number; rect = new }) && not (samePair old (record { number = old .number; rect = new }))

@@ -1,0 +1,382 @@
+// One request: the checks in the table's order, and what an accepted one does.
+ghost use mathlib.Core.Path.{_≡_};
+ghost use mathlib.Core.Bool.{true, false};
+ghost use mathlib.Core.Option.{some};
+ghost use Prim.Native.Nat.{_-_, _*_, _≤_};
+ghost use lib.Dec.{ltb};
+ghost use lib.ListN.{length};
+ghost use Rattle.rules.specs.declared.Asked.the-variants as K;
+ghost use Rattle.rules.specs.Numbers as N;
+ghost use Rattle.rules.specs.Geometry as G;
+ghost use Rattle.rules.specs.Layout as L;
+ghost use Rattle.rules.specs.Insert as I;
+ghost use Rattle.rules.specs.Delete as D;
+ghost use Rattle.rules.specs.Answers as T;
+ghost use Rattle.rules.specs.Request as R;
+ghost use Rattle.rules.specs.Call.{isRequest};
+ghost use Rattle.pool.specs.Slots.{Fit};
+ghost use Rattle.slots.specs.Known.{Known};
+ghost use Rattle.trees.specs.Tree.{Whole};
+ghost use Rattle.leaf.specs.Ways.{Shows};
+ghost use Rattle.removing.specs.Removed.{Removes};
+ghost use Rattle.request.specs.Serving.{Ready, Serves, ChangesTo, ServesTo, replied, came, TakenBack, enoughFor, otherHeld};
+use inserting::Outcome;
+use leaf::Way;
+use rules::Answer;
+use rules::Asked;
+use rules::Record;
+use rules::RecordNumber;
+use rules::Rect;
+use rules::Reply;
+use rules::Request;
+use slots::FreeSlots;
+
+// What a request came to: its answer, how many items wait in the workspace for the found list, and what is known of the free slots now.
+pub struct Served {
+    pub answer: Answer,
+    pub listed: usize,
+    pub free: FreeSlots,
+}
+
+// ---- what is asked, and what is told
+
+// "Record numbers: 1 to 2,147,483,647."
+fn good_number(n: RecordNumber) -> bool
+    ensures { λ r. ⌜ r ≡ N.goodNumber n ⌝ }
+{
+    let k = n.0;
+    geometry::le(1, k)
+}
+
+// "A request is of one of the four kinds; fields that its kind doesn't use are not looked at".
+fn asked(q: Request) -> Asked
+    requires { ⌜ isRequest q ≡ true ⌝ }
+    ensures { λ r. ⌜ R.asked q ≡ some r ⌝ }
+{
+    let kind = q.kind;
+    let number = q.number;
+    let rect = q.first;
+    let second = q.second;
+    if geometry::same(kind, 1) {
+        return Asked::Insert(Record { number, rect });
+    }
+    if geometry::same(kind, 2) {
+        return Asked::Delete(Record { number, rect });
+    }
+    if geometry::same(kind, 3) {
+        return Asked::Update(Record { number, rect }, second);
+    }
+    Asked::Search(rect)
+}
+
+// "Changes and refusals report zeros for the last three; 8 reports found and opened as they would have been, start zero."
+fn answer_of(reply: Reply) -> Answer
+    ensures { λ r. ⌜ r ≡ T.answerOf reply ⌝ }
+{
+    match reply {
+        Reply::Changed => Answer {
+            number: 0,
+            found: 0,
+            start: 0,
+            opened: 0,
+        },
+        Reply::Listed {
+            found,
+            start,
+            opened,
+        } => Answer {
+            number: 0,
+            found,
+            start,
+            opened,
+        },
+        Reply::BadRectangle => Answer {
+            number: 3,
+            found: 0,
+            start: 0,
+            opened: 0,
+        },
+        Reply::BadNumber => Answer {
+            number: 4,
+            found: 0,
+            start: 0,
+            opened: 0,
+        },
+        Reply::NotHeld => Answer {
+            number: 5,
+            found: 0,
+            start: 0,
+            opened: 0,
+        },
+        Reply::Held => Answer {
+            number: 6,
+            found: 0,
+            start: 0,
+            opened: 0,
+        },
+        Reply::NoSlot => Answer {
+            number: 7,
+            found: 0,
+            start: 0,
+            opened: 0,
+        },
+        Reply::NoRoom { found, opened } => Answer {
+            number: 8,
+            found,
+            start: 0,
+            opened,
+        },
+    }
+}
+
+// ---- a copy of the pool
+
+// The words of one list into another of the same length.
+pub fn copy(source: &[i32], target: &mut [i32])
+    requires { ⌜ length (now source) ≡ length (now target) ⌝ }
+    ensures { λ _. ⌜ now (target .exit) ≡ now (source .entry) ⌝ }
+{
+    let mut i: usize = 0;
+    while i < target.len() {
+        target[i] = source[i];
+        i += 1;
+    }
+}
+
+// The pool is kept in the workspace where slots are scarce: a change that is refused halfway is then taken back from there.
+fn keep(pool: &[i32], work: &mut [i32], scarce: bool)
+    requires { ⌜ length (now pool) ≡ length (now work) ⌝ }
+    ensures long { λ _. ⌜ length (now (work .exit)) ≡ length (now (work .entry)) ⌝ }
+    ensures kept { λ _. ⌜ (scarce ≡ true → now (work .exit) ≡ now (pool .entry)) ⌝ }
+{
+    if scarce {
+        copy(pool, work);
+    }
+}
+
+// What was refused halfway is taken back from the copy.
+fn take_back(pool: &mut [i32], kept: &[i32], o: Outcome)
+    requires { ⌜ length (now kept) ≡ length (now pool) ⌝ }
+    ensures { λ _. ⌜ TakenBack o (now (pool .entry)) (now (kept .entry)) (now (pool .exit)) ⌝ }
+{
+    match o {
+        Outcome::Made(_) => {}
+        Outcome::Refused => copy(kept, pool),
+    }
+}
+
+// ---- changes
+
+// A reply that lists nothing.
+fn told(reply: Reply, free: FreeSlots) -> Served
+    ensures { λ r. ⌜ r ≡ replied reply free ⌝ }
+{
+    let answer = answer_of(reply);
+    Served {
+        answer,
+        listed: 0,
+        free,
+    }
+}
+
+// 7: "the rules call for a slot at a moment when none is free".
+fn came_to(o: Outcome, free: FreeSlots) -> Served
+    ensures { λ r. ⌜ r ≡ came o free ⌝ }
+{
+    match o {
+        Outcome::Made(f) => told(Reply::Changed, f),
+        Outcome::Refused => told(Reply::NoSlot, free),
+    }
+}
+
+// 3, 4 and 6, and then the record goes in.
+fn insert(pool: &mut [i32], r: Record, free: FreeSlots) -> Served
+    requires { ⌜ Ready (now pool) free ⌝ }
+    ensures { λ s. ⌜ ChangesTo (now (pool .entry)) (K.Insert r) s (now (pool .exit)) ⌝ }
+{
+    let rect = r.rect;
+    let number = r.number;
+    if !geometry::valid(rect) {
+        return told(Reply::BadRectangle, free);
+    }
+    if !good_number(number) {
+        return told(Reply::BadNumber, free);
+    }
+    if leaf::holds(pool, r) {
+        return told(Reply::Held, free);
+    }
+    let o = inserting::insert_record(pool, r, free);
+    came_to(o, free)
+}
+
+// How many entries a delete may have to put back: two for each level below the root.
+fn most_back(h: usize) -> usize
+    requires { ⌜ h ≤ 8 ⌝ }
+    ensures is { λ r. ⌜ r ≡ 2 * (h - 1) ⌝ }
+    ensures most { λ r. ⌜ r ≤ 14 ⌝ }
+{
+    if h == 0 { 0 } else { 2 * (h - 1) }
+}
+
+// Whether free slots are so few that an update or a delete may be refused halfway: each entry put back takes a slot for each level and one
+// more at most, and the tree grows by a level at most.
+fn scarce(pool: &[i32], free: FreeSlots) -> bool
+    requires { ⌜ L.rightLength (now pool) ≡ true ⌝ }
+    requires { ⌜ L.read (now pool) .height ≤ 8 ⌝ }
+    ensures { λ r. ⌜ r ≡ ltb (free .count) (enoughFor (L.read (now (pool .entry)) .height)) ⌝ }
+{
+    let h = pool::height_of(pool);
+    let n = most_back(h);
+    free.count < n * (h + n) + (h + n + 1)
+}
+
+// 3, 4 and 5, and then the pair goes out.
+fn delete(pool: &mut [i32], work: &mut [i32], r: Record, free: FreeSlots) -> Served
+    requires { ⌜ Ready (now pool) free ⌝ }
+    requires { ⌜ length (now work) ≡ length (now pool) ⌝ }
+    ensures is { λ s. ⌜ ChangesTo (now (pool .entry)) (K.Delete r) s (now (pool .exit)) ⌝ }
+    ensures long { λ _. ⌜ length (now (work .exit)) ≡ length (now (work .entry)) ⌝ }
+{
+    let rect = r.rect;
+    let number = r.number;
+    if !geometry::valid(rect) {
+        return told(Reply::BadRectangle, free);
+    }
+    if !good_number(number) {
+        return told(Reply::BadNumber, free);
+    }
+    let way = leaf::find_leaf(pool, r);
+    if !way.found {
+        return told(Reply::NotHeld, free);
+    }
+    keep(pool, work, scarce(pool, free));
+    let o = removing::delete_record(pool, r, way, free);
+    take_back(pool, work, o);
+    came_to(o, free)
+}
+
+// "Update deletes the old pair, then inserts the new rectangle under the same number; also where old equals new."
+fn replace(pool: &mut [i32], old: Record, new: Rect, way: Way, free: FreeSlots) -> Outcome
+    requires { ⌜ Fit (now pool) ⌝ }
+    requires { ⌜ Whole (L.read (now pool)) ⌝ }
+    requires { ⌜ Known (L.read (now pool)) free ⌝ }
+    requires { ⌜ way .found ≡ true ⌝ }
+    requires { ⌜ Shows (D.findLeaf (L.read (now pool)) old (L.read (now pool) .height) (L.read (now pool) .root)) (L.read (now pool) .height) way ⌝ }
+    requires { ⌜ (G.valid new ≡ true) × (N.goodNumber (old .number) ≡ true) ⌝ }
+    ensures { λ o. ⌜ Removes (now (pool .entry)) (D.updateRecord I.ours (L.read (now (pool .entry))) old new) o (now (pool .exit)) ⌝ }
+{
+    let number = old.number;
+    match removing::delete_record(pool, old, way, free) {
+        Outcome::Made(f) => inserting::insert_record(pool, Record { number, rect: new }, f),
+        Outcome::Refused => Outcome::Refused,
+    }
+}
+
+// 6: "update: new pair held and not the old pair".
+fn other_held(pool: &[i32], old: Record, new: Rect) -> bool
+    requires { ⌜ L.rightLength (now pool) ≡ true ⌝ }
+    requires { ⌜ Whole (L.read (now pool)) ⌝ }
+    ensures { λ r. ⌜ r ≡ otherHeld (L.read (now (pool .entry))) old new ⌝ }
+{
+    let rect = old.rect;
+    if geometry::same_rect(rect, new) {
+        return false;
+    }
+    let number = old.number;
+    leaf::holds(pool, Record { number, rect: new })
+}
+
+// 3, 4, 5 and 6, and then the one pair goes out and the other in.
+fn update(pool: &mut [i32], work: &mut [i32], old: Record, new: Rect, free: FreeSlots) -> Served
+    requires { ⌜ Ready (now pool) free ⌝ }
+    requires { ⌜ length (now work) ≡ length (now pool) ⌝ }
+    ensures is { λ s. ⌜ ChangesTo (now (pool .entry)) (K.Update old new) s (now (pool .exit)) ⌝ }
+    ensures long { λ _. ⌜ length (now (work .exit)) ≡ length (now (work .entry)) ⌝ }
+{
+    let rect = old.rect;
+    let number = old.number;
+    if !geometry::valid(rect) {
+        return told(Reply::BadRectangle, free);
+    }
+    if !geometry::valid(new) {
+        return told(Reply::BadRectangle, free);
+    }
+    if !good_number(number) {
+        return told(Reply::BadNumber, free);
+    }
+    let way = leaf::find_leaf(pool, old);
+    if !way.found {
+        return told(Reply::NotHeld, free);
+    }
+    if other_held(pool, old, new) {
+        return told(Reply::Held, free);
+    }
+    keep(pool, work, scarce(pool, free));
+    let o = replace(pool, old, new, way, free);
+    take_back(pool, work, o);
+    came_to(o, free)
+}
+
+// ---- searches
+
+// 3 and 8, and else the records found are left in the workspace, in order. How many there are is known before any goes to the found list.
+fn search(
+    pool: &[i32],
+    work: &mut [i32],
+    window: Rect,
+    filled: usize,
+    room: usize,
+    free: FreeSlots,
+) -> Served
+    requires { ⌜ Ready (now pool) free ⌝ }
+    requires { ⌜ length (now work) ≡ length (now pool) ⌝ }
+    requires { ⌜ filled ≤ 33554432 ⌝ }
+    ensures { λ s. ⌜ Serves (length (now (pool .entry))) (R.request I.ours (L.read (now (pool .entry))) filled room (K.Search window)) s (now (pool .entry)) (now (work .exit)) ⌝ }
+{
+    if !geometry::valid(window) {
+        return told(Reply::BadRectangle, free);
+    }
+    let w = search::list(pool, window, work);
+    let found = w.next as u32;
+    let opened = w.opened as u32;
+    if room < w.next {
+        return told(Reply::NoRoom { found, opened }, free);
+    }
+    sorting::sort(pool, work, w.next);
+    let answer = answer_of(Reply::Listed {
+        found,
+        start: filled as u32,
+        opened,
+    });
+    Served {
+        answer,
+        listed: w.next,
+        free,
+    }
+}
+
+// ---- any request
+
+// A request is done in a sound pool, with `filled` places of the found list filled and `room` left. The workspace is scratch; what a search
+// lists is left there as items, in found order.
+pub fn one_request(
+    pool: &mut [i32],
+    work: &mut [i32],
+    q: Request,
+    filled: usize,
+    room: usize,
+    free: FreeSlots,
+) -> Served
+    requires { ⌜ Ready (now pool) free ⌝ }
+    requires { ⌜ length (now work) ≡ length (now pool) ⌝ }
+    requires { ⌜ isRequest q ≡ true ⌝ }
+    requires { ⌜ filled ≤ 33554432 ⌝ }
+    ensures { λ r. ⌜ ServesTo (now (pool .entry)) q filled room r (now (pool .exit)) (now (work .exit)) ⌝ }
+{
+    match asked(q) {
+        Asked::Insert(r) => insert(pool, r, free),
+        Asked::Delete(r) => delete(pool, work, r, free),
+        Asked::Update(old, new) => update(pool, work, old, new, free),
+        Asked::Search(window) => search(pool, work, window, filled, room, free),
+    }
+}
