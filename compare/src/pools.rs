@@ -2,7 +2,7 @@
 
 use second::dice::Dice;
 use second::generate::history;
-use second::pool::{slot_start, Slot};
+use second::pool::{slot_start, slots_of, Slot};
 use second::style::STYLES;
 
 const HEAD: usize = 8;
@@ -64,9 +64,9 @@ fn tower(slots: usize, top: usize, child: impl Fn(usize, usize) -> usize) -> Vec
     pool
 }
 
-/// A pool whose deepest cover is wrong, so that the fault is met last.
-pub fn wrong_at_the_end(dice: &mut Dice, slots: usize) -> Vec<i32> {
-    let mut pool = sound_pool(dice, slots, slots as i64 * 6);
+/// The same pool with its last leaf wrong, so that the fault is met late.
+pub fn wrong_at_the_end(mut pool: Vec<i32>) -> Vec<i32> {
+    let slots = slots_of(pool.len()).expect("a pool of right length");
     let leaf = (1..=slots).rev().find(|&s| pool[slot_start(Slot(s))] == 1);
     if let Some(s) = leaf {
         pool[slot_start(Slot(s)) + 2] -= 1;

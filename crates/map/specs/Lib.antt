@@ -1,2 +1,3 @@
 -- What the exported functions stand for.
 pub mod Asking
+pub mod Batching

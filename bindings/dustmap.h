@@ -1,0 +1,92 @@
+/* The map of dust sensors, haul roads and stockpiles, for C and C++: link libmap.a, which `rt staticlib map` writes.
+ *
+ * A pool is 8 + 42N words for N slots, N from 1 to 4,096. The caller lends every list and keeps it: nothing is allocated, and
+ * the pool is all that one call leaves to the next.
+ *
+ * Nothing is asked of the words in the lists: any words have an answer. What C cannot check is asked of the caller: each
+ * pointer is valid for its length, also where that is 0, and no list that is written overlaps another.
+ */
+#ifndef DUSTMAP_H
+#define DUSTMAP_H
+
+#include <stddef.h>
+#include <stdint.h>
+
+#ifdef __cplusplus
+extern "C" {
+#endif
+
+/* A closed rectangle in whole millimetres, each from -1,000,000,000 to 1,000,000,000. Low may equal high. */
+struct dustmap_rect {
+    int32_t low_x, low_y, high_x, high_y;
+};
+
+enum dustmap_kind { DUSTMAP_INSERT = 1, DUSTMAP_DELETE = 2, DUSTMAP_UPDATE = 3, DUSTMAP_SEARCH = 4 };
+
+/* Ten words. Fields that the kind does not use are not looked at. */
+struct dustmap_request {
+    int32_t kind;               /* one of the four above */
+    int32_t number;             /* the record number, 1 or more; a search has none */
+    struct dustmap_rect first;  /* inserted, deleted, to be replaced, or the window */
+    struct dustmap_rect second; /* an update's new rectangle */
+};
+
+/* What comes back, of a call or in an answer. */
+enum dustmap_number {
+    DUSTMAP_ACCEPTED = 0,
+    DUSTMAP_BAD_LISTS = 9,     /* call: more than 1,024 requests, or answer list of another length than the request list */
+    DUSTMAP_BAD_LENGTH = 1,    /* call: pool length wrong, or workspace length differs from the pool's */
+    DUSTMAP_NOT_SOUND = 2,     /* call: pool not sound */
+    DUSTMAP_NO_REQUEST = -1,   /* call: a request is of none of the four kinds */
+    DUSTMAP_BAD_RECTANGLE = 3, /* window, old or new rectangle: a coordinate out of range, or low above high */
+    DUSTMAP_BAD_NUMBER = 4,    /* record number below 1 */
+    DUSTMAP_NOT_HELD = 5,      /* delete or update: old pair not held */
+    DUSTMAP_HELD = 6,          /* insert: pair held; update: new pair held and not the old pair */
+    DUSTMAP_NO_SLOT = 7,       /* the rules call for a slot at a moment when none is free */
+    DUSTMAP_NO_ROOM = 8        /* search: more found than places left in the found list */
+};
+
+/* Four words. The number is 0 or one of 3 to 8, which are checked in that order; a request that is refused changes neither pool
+ * nor found list. The other three are zero for all but a search; 8 reports found and opened as they would have been. */
+struct dustmap_answer {
+    uint32_t number;
+    uint32_t found;  /* records found */
+    uint32_t start;  /* where they start in the found list, counted from 0 */
+    uint32_t opened; /* nodes opened */
+};
+
+/* A record found, five words. */
+struct dustmap_found {
+    int32_t number;
+    struct dustmap_rect rect;
+};
+
+/* The words of a pool of so many slots. */
+#define DUSTMAP_WORDS(slots) ((size_t)8 + (size_t)42 * (size_t)(slots))
+
+/* Makes a pool blank: 0; or 1 for a wrong length, and then nothing is written. */
+int32_t dustmap_blank(int32_t *pool, size_t pool_len);
+
+/* What a call would return that asks nothing: 1 for a wrong length, 2 for a pool that is not sound, else 0. Nothing is written. */
+int32_t dustmap_check(const int32_t *pool, size_t pool_len);
+
+/* Does each request in turn. Its answer goes to the same place in the answer list; accepted searches fill the found list one
+ * after another, in order of record number, low x, low y, high x, high y, and places beyond stay.
+ *
+ * Returns 9, 1, 2 or -1, checked in that order, and then nothing at all is written; else 0, and the workspace equals the pool. */
+int32_t dustmap_call(int32_t *pool, size_t pool_len, int32_t *work, size_t work_len,
+                     const struct dustmap_request *requests, size_t n_requests,
+                     struct dustmap_answer *answers, size_t n_answers,
+                     struct dustmap_found *found, size_t n_found);
+
+#if defined(__STDC_VERSION__) && __STDC_VERSION__ >= 201112L
+_Static_assert(sizeof(struct dustmap_request) == 40, "a request is ten words");
+_Static_assert(sizeof(struct dustmap_answer) == 16, "an answer is four words");
+_Static_assert(sizeof(struct dustmap_found) == 20, "a place of the found list is five words");
+#endif
+
+#ifdef __cplusplus
+}
+#endif
+
+#endif

@@ -1,0 +1,166 @@
+//! The proved map, for Rust: the functions of `bindings/dustmap.h` behind safe ones.
+//!
+//! The numbers that come back are those of the header, which says what each means.
+
+/// The words of a pool before its first slot, and of a slot.
+pub const HEAD_WORDS: usize = 8;
+pub const SLOT_WORDS: usize = 42;
+
+/// "Slots N: 1 to 4,096. A batch has 0 to 1,024 requests."
+pub const MOST_SLOTS: usize = 4_096;
+pub const MOST_REQUESTS: usize = 1_024;
+
+pub const INSERT: i32 = 1;
+pub const DELETE: i32 = 2;
+pub const UPDATE: i32 = 3;
+pub const SEARCH: i32 = 4;
+
+/// A closed rectangle in whole millimetres. The order of the fields is part of found order.
+#[repr(C)]
+#[derive(Clone, Copy, Debug, Default, PartialEq, Eq, PartialOrd, Ord)]
+pub struct Rect {
+    pub low_x: i32,
+    pub low_y: i32,
+    pub high_x: i32,
+    pub high_y: i32,
+}
+
+/// Ten words. Fields that the kind does not use are not looked at.
+#[repr(C)]
+#[derive(Clone, Copy, Debug, Default, PartialEq, Eq)]
+pub struct Request {
+    pub kind: i32,
+    pub number: i32,
+    pub first: Rect,
+    pub second: Rect,
+}
+
+/// Four words.
+#[repr(C)]
+#[derive(Clone, Copy, Debug, Default, PartialEq, Eq)]
+pub struct Answer {
+    pub number: u32,
+    pub found: u32,
+    pub start: u32,
+    pub opened: u32,
+}
+
+/// A record found, five words. The derived order is found order: number, low x, low y, high x, high y.
+#[repr(C)]
+#[derive(Clone, Copy, Debug, Default, PartialEq, Eq, PartialOrd, Ord)]
+pub struct Found {
+    pub number: i32,
+    pub rect: Rect,
+}
+
+impl Rect {
+    pub const fn new(low_x: i32, low_y: i32, high_x: i32, high_y: i32) -> Rect {
+        Rect { low_x, low_y, high_x, high_y }
+    }
+
+    /// The rectangle in four words: low x, low y, high x, high y.
+    pub fn from_words([low_x, low_y, high_x, high_y]: [i32; 4]) -> Rect {
+        Rect { low_x, low_y, high_x, high_y }
+    }
+
+    pub fn to_words(self) -> [i32; 4] {
+        [self.low_x, self.low_y, self.high_x, self.high_y]
+    }
+}
+
+impl Request {
+    pub fn insert(number: i32, rect: Rect) -> Request {
+        Request { kind: INSERT, number, first: rect, second: Rect::default() }
+    }
+
+    pub fn delete(number: i32, rect: Rect) -> Request {
+        Request { kind: DELETE, number, first: rect, second: Rect::default() }
+    }
+
+    pub fn update(number: i32, old: Rect, new: Rect) -> Request {
+        Request { kind: UPDATE, number, first: old, second: new }
+    }
+
+    pub fn search(window: Rect) -> Request {
+        Request { kind: SEARCH, number: 0, first: window, second: Rect::default() }
+    }
+}
+
+/// The words of a pool of so many slots.
+pub const fn words(slots: usize) -> usize {
+    HEAD_WORDS + SLOT_WORDS * slots
+}
+
+/// A blank pool of so many slots, 1 to 4,096; none for any other number.
+pub fn blank_pool(slots: usize) -> Option<Vec<i32>> {
+    if !(1..=MOST_SLOTS).contains(&slots) {
+        return None;
+    }
+    let mut pool = vec![0; words(slots)];
+    (blank(&mut pool) == 0).then_some(pool)
+}
+
+mod exported {
+    use super::{Answer, Found, Request};
+
+    // A slice goes over as two parameters, a pointer and a count.
+    extern "C" {
+        pub fn dustmap_blank(pool: *mut i32, pool_len: usize) -> i32;
+        pub fn dustmap_check(pool: *const i32, pool_len: usize) -> i32;
+        pub fn dustmap_call(
+            pool: *mut i32,
+            pool_len: usize,
+            work: *mut i32,
+            work_len: usize,
+            requests: *const Request,
+            n_requests: usize,
+            answers: *mut Answer,
+            n_answers: usize,
+            found: *mut Found,
+            n_found: usize,
+        ) -> i32;
+    }
+}
+
+/// Blanks a pool: 0, or 1 for a wrong length and nothing written.
+pub fn blank(pool: &mut [i32]) -> i32 {
+    // SAFETY: the pointer and the count are those of one slice, and the function asks nothing of its words: it is proved for
+    // any list of words, and a proved function reads and writes no place outside the lists that it is lent.
+    unsafe { exported::dustmap_blank(pool.as_mut_ptr(), pool.len()) }
+}
+
+/// 1 for a wrong length, 2 for a pool that is not sound, else 0. Nothing is written.
+pub fn check(pool: &[i32]) -> i32 {
+    // SAFETY: as above; a list lent to be read is not written.
+    unsafe { exported::dustmap_check(pool.as_ptr(), pool.len()) }
+}
+
+/// Does each request in turn: 0, or the refusal of the whole call, 9, 1, 2 or -1, and nothing written.
+pub fn call(
+    pool: &mut [i32],
+    work: &mut [i32],
+    requests: &[Request],
+    answers: &mut [Answer],
+    found: &mut [Found],
+) -> i32 {
+    // SAFETY: as above, for five lists. No two overlap where one is written, since they are borrowed at the same time. The
+    // structs are `repr(C)` and made of 32-bit words alone, so they lie as the header says and every word is a valid field.
+    unsafe {
+        exported::dustmap_call(
+            pool.as_mut_ptr(),
+            pool.len(),
+            work.as_mut_ptr(),
+            work.len(),
+            requests.as_ptr(),
+            requests.len(),
+            answers.as_mut_ptr(),
+            answers.len(),
+            found.as_mut_ptr(),
+            found.len(),
+        )
+    }
+}
+
+// The lengths that the header gives: ten, four and five words.
+const _: () =
+    assert!(size_of::<Request>() == 40 && size_of::<Answer>() == 16 && size_of::<Found>() == 20);

@@ -1,0 +1,133 @@
+//! The largest pool, filled as far as it goes: calls over it, and the time of a search that finds everything.
+
+use crate::lent::{lend, Lent};
+use crate::seen::Seen;
+use crate::spoil::{garbage_answers, garbage_found, garbage_words};
+use crate::tally::Tally;
+use dustmap::{Answer, Found, Rect, Request};
+use second::dice::Dice;
+use second::pool::{pairs_in_leaves, slot_start, Slot};
+use second::style::{whole_site, Style};
+use std::time::Instant;
+
+const SLOTS: usize = 4_096;
+const BATCH: usize = 1_024;
+
+/// A search that takes longer than this many sorts has something wrong with it; what is usual is printed.
+const MOST_SORTS: f64 = 10.0;
+
+/// A pool filled by inserts, through the library alone, until one is refused 7.
+pub fn filled(tally: &mut Tally) -> Vec<i32> {
+    let mut dice = Dice::new(20_000);
+    let mut pool = dustmap::blank_pool(SLOTS).expect("a right number of slots");
+    let mut work = pool.clone();
+    let mut answers = vec![Answer::default(); BATCH];
+    // Eight records in every slot, and no inner node, would be more than any tree holds.
+    for _ in 0..8 * SLOTS / BATCH {
+        let requests: Vec<Request> = (0..BATCH).map(|_| insert(&mut dice)).collect();
+        let number = dustmap::call(&mut pool, &mut work, &requests, &mut answers, &mut []);
+        if number != 0 || answers.iter().any(|answer| answer.number == 7) {
+            break;
+        }
+    }
+    tally.hold(answers.iter().any(|answer| answer.number == 7), || {
+        "filling: never refused 7".into()
+    });
+    tally.hold(second::sound(&pool), || "filling: the pool left is not sound".into());
+    pool
+}
+
+fn insert(dice: &mut Dice) -> Request {
+    let number = dice.between(1, i64::from(i32::MAX)) as i32;
+    Request::insert(number, Rect::from_words(Style::Random.rect(dice).to_words()))
+}
+
+/// A batch of every kind over the full pool, of both programs.
+pub fn calls(full: &[i32], dice: &mut Dice, tally: &mut Tally, seen: &mut Seen) {
+    let pairs = pairs_in_leaves(full);
+    let mut requests = vec![second::Request::search(whole_site().to_words())];
+    for _ in 0..12 {
+        let pair = dice.pick(&pairs);
+        let (number, rect) = (pair.number.0 as i32, pair.rect.to_words());
+        let mut fresh = || Style::Random.rect(dice).to_words();
+        requests.extend([
+            second::Request::insert(number, fresh()),
+            second::Request::update(number, rect, fresh()),
+            second::Request::delete(number, rect),
+            second::Request::search(fresh()),
+        ]);
+    }
+    let lent = Lent {
+        pool: full.to_vec(),
+        work: garbage_words(dice, full.len()),
+        answers: garbage_answers(dice, requests.len()),
+        found: garbage_found(dice, pairs.len() + 10),
+        requests,
+    };
+    lend("the largest pool, full", &lent, tally, seen);
+}
+
+/// Prints how a search for everything compares with one sort of what it finds, from the order in which a walk meets it.
+pub fn time(full: &[i32], tally: &mut Tally) {
+    if !second::sound(full) {
+        // Said already, where it was filled; and a walk of it might not end.
+        return;
+    }
+    let mut pool = full.to_vec();
+    let everything = Request::search(Rect::from_words(whole_site().to_words()));
+    let mut unsorted = Vec::new();
+    walk(&pool, pool[1] as usize, &mut unsorted);
+    let (mut found, mut sorted) = (vec![Found::default(); unsorted.len()], Vec::new());
+    let (mut search, mut nothing, mut sort) = (f64::INFINITY, f64::INFINITY, f64::INFINITY);
+    // The least of many: what else runs at the time can only add. In turn, so that it adds to all three alike.
+    for _ in 0..40 {
+        search = search.min(call(&mut pool, &[everything], &mut found));
+        nothing = nothing.min(call(&mut pool, &[], &mut []));
+        sort = sort.min(sorted_copy(&unsorted, &mut sorted));
+    }
+    let ratio = (search - nothing) / sort;
+    println!("a search that finds {} records: {search:.0} us", found.len());
+    println!(
+        "  a call that asks nothing: {nothing:.0} us; the sort of Rust's library: {sort:.0} us"
+    );
+    println!("  the search, less a call that asks nothing, takes {ratio:.1} sorts");
+    tally.hold(found == sorted, || "the search for everything: not what a sort gives".into());
+    tally.hold(ratio <= MOST_SORTS, || {
+        format!("the search for everything: more than {MOST_SORTS} sorts")
+    });
+}
+
+/// One call, timed in microseconds; without end where it is refused, so that the bound fails.
+fn call(pool: &mut [i32], requests: &[Request], found: &mut [Found]) -> f64 {
+    let mut work = vec![0; pool.len()];
+    let mut answers = vec![Answer::default(); requests.len()];
+    let began = Instant::now();
+    let number = dustmap::call(pool, &mut work, requests, &mut answers, found);
+    let took = began.elapsed().as_secs_f64() * 1e6;
+    let accepted = number == 0 && answers.iter().all(|answer| answer.number == 0);
+    if accepted {
+        took
+    } else {
+        f64::INFINITY
+    }
+}
+
+fn sorted_copy(unsorted: &[Found], sorted: &mut Vec<Found>) -> f64 {
+    *sorted = unsorted.to_vec();
+    let began = Instant::now();
+    std::hint::black_box(&mut *sorted).sort();
+    began.elapsed().as_secs_f64() * 1e6
+}
+
+/// The records below a slot, in stored order: the order in which a search meets them.
+fn walk(pool: &[i32], slot: usize, records: &mut Vec<Found>) {
+    let node = &pool[slot_start(Slot(slot))..];
+    for entry in node[2..].chunks_exact(5).take(node[1] as usize) {
+        if node[0] == 1 {
+            let rect = Rect::from_words([entry[0], entry[1], entry[2], entry[3]]);
+            records.push(Found { number: entry[4], rect });
+        } else {
+            walk(pool, entry[4] as usize, records);
+        }
+    }
+}

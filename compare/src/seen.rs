@@ -1,0 +1,193 @@
+//! What the calls met, so that a run can say that it met every case.
+
+use crate::lent::Lent;
+use crate::tally::Tally;
+use second::call::{DELETE, INSERT, MOST_REQUESTS, SEARCH, UPDATE};
+use second::pool::slots_of;
+use second::{sound, Answer, Events, Request};
+use std::collections::BTreeMap;
+
+/// The rows of the table that refuse a call, in the order of checks.
+const CALL_REFUSALS: [i32; 4] = [9, 1, 2, -1];
+
+/// Everything that has to be met, by name.
+const WANTED: [&str; 55] = [
+    "check said 0",
+    "check said 1",
+    "check said 2",
+    "call returned 0",
+    "call returned 9",
+    "call returned 1",
+    "call returned 2",
+    "call returned -1",
+    "9 where 1 was due too",
+    "9 where 2 was due too",
+    "9 where -1 was due too",
+    "1 where 2 was due too",
+    "1 where -1 was due too",
+    "2 where -1 was due too",
+    "batch of 0",
+    "batch of 1",
+    "batch of a few",
+    "batch of 1,024",
+    "batch of 1,025",
+    "batch of 0 refused 2",
+    "found list of no places",
+    "found list filled to its last place",
+    "found list with places beyond",
+    "found list filled by several searches",
+    "search accepted after one refused 8",
+    "workspace unlike the pool",
+    "insert 0",
+    "insert 3",
+    "insert 4",
+    "insert 6",
+    "insert 7",
+    "delete 0",
+    "delete 3",
+    "delete 4",
+    "delete 5",
+    "delete 7",
+    "update 0",
+    "update 3",
+    "update 4",
+    "update 5",
+    "update 6",
+    "update 7",
+    "update of a pair to itself",
+    "search 0",
+    "search 3",
+    "search 8",
+    "pool of 1 slot",
+    "pool of 2 to 12 slots",
+    "pool of 128 slots",
+    "pool of 4,096 slots",
+    "pair held twice: found",
+    "pair held twice: one deleted",
+    "pair held twice: one updated",
+    "pair held twice: insert 6",
+    "pair held twice: update 6",
+];
+
+#[derive(Default)]
+pub struct Seen {
+    counts: BTreeMap<String, u64>,
+    events: Events,
+    requests: u64,
+    tallest: i32,
+}
+
+impl Seen {
+    pub fn note(&mut self, what: impl Into<String>) {
+        *self.counts.entry(what.into()).or_default() += 1;
+    }
+
+    /// Takes in a call: what was lent, what came back, what the second program noted on its way.
+    pub fn call(&mut self, lent: &Lent, number: i32, left: &Lent, events: &Events) {
+        self.events.add(events);
+        self.note(format!("call returned {number}"));
+        self.order_of_checks(lent, number);
+        self.batch(lent.requests.len(), number);
+        if number != 0 {
+            return;
+        }
+        self.lists(lent, left);
+        self.tallest = self.tallest.max(left.pool[2]);
+        self.requests += lent.requests.len() as u64;
+        for (request, answer) in lent.requests.iter().zip(&left.answers) {
+            self.request(request, answer);
+        }
+    }
+
+    /// Which other refusals were due, had the first check not come first.
+    fn order_of_checks(&mut self, lent: &Lent, number: i32) {
+        let Some(place) = CALL_REFUSALS.iter().position(|&n| n == number) else {
+            return;
+        };
+        for &later in CALL_REFUSALS[place + 1..].iter().filter(|&&n| due(n, lent)) {
+            self.note(format!("{number} where {later} was due too"));
+        }
+    }
+
+    fn batch(&mut self, size: usize, number: i32) {
+        self.note(match size {
+            0 => "batch of 0",
+            1 => "batch of 1",
+            MOST_REQUESTS => "batch of 1,024",
+            1_025 => "batch of 1,025",
+            _ => "batch of a few",
+        });
+        if size == 0 && number == 2 {
+            self.note("batch of 0 refused 2");
+        }
+    }
+
+    /// How the lists of an accepted call stood.
+    fn lists(&mut self, lent: &Lent, left: &Lent) {
+        if lent.work != lent.pool {
+            self.note("workspace unlike the pool");
+        }
+        match slots_of(lent.pool.len()) {
+            Some(1) => self.note("pool of 1 slot"),
+            Some(2..=12) => self.note("pool of 2 to 12 slots"),
+            Some(128) => self.note("pool of 128 slots"),
+            Some(4_096) => self.note("pool of 4,096 slots"),
+            _ => (),
+        }
+        let pairs = lent.requests.iter().zip(&left.answers);
+        let searches: Vec<Answer> =
+            pairs.filter(|(r, _)| r.kind == SEARCH).map(|(_, a)| *a).collect();
+        self.found_list(lent.found.len(), &searches);
+    }
+
+    /// How the searches of an accepted call used the found list.
+    fn found_list(&mut self, places: usize, searches: &[Answer]) {
+        let fills = |a: &&Answer| a.number == 0 && a.found > 0;
+        let filling = searches.iter().filter(fills).count();
+        let filled: usize = searches.iter().filter(fills).map(|a| a.found as usize).sum();
+        let mut from_refused = searches.iter().skip_while(|a| a.number != 8);
+        let used = [
+            ("found list of no places", places == 0),
+            ("found list filled to its last place", filled > 0 && filled == places),
+            ("found list with places beyond", filled > 0 && filled < places),
+            ("found list filled by several searches", filling > 1),
+            ("search accepted after one refused 8", from_refused.any(|a| fills(&a))),
+        ];
+        used.iter().filter(|(_, so)| *so).for_each(|(what, _)| self.note(*what));
+    }
+
+    fn request(&mut self, request: &Request, answer: &Answer) {
+        let kind = match request.kind {
+            INSERT => "insert",
+            DELETE => "delete",
+            UPDATE => "update",
+            _ => "search",
+        };
+        self.note(format!("{kind} {}", answer.number));
+        if request.kind == UPDATE && answer.number == 0 && request.first == request.second {
+            self.note("update of a pair to itself");
+        }
+    }
+
+    /// Prints what was met; each thing wanted that was not met is a failure.
+    pub fn report(&self, tally: &mut Tally) {
+        println!("{} requests done, the tallest tree {} levels", self.requests, self.tallest);
+        let met = |name: &str| self.counts.get(name).copied().unwrap_or(0);
+        let all = WANTED.iter().map(|&name| (name, met(name))).chain(self.events.named());
+        for (name, count) in all {
+            println!("  {count:>9}  {}", name.replace('_', " "));
+            tally.hold(count > 0, || format!("{name}: not met"));
+        }
+    }
+}
+
+/// Whether a row of the table that refuses a call is true of what was lent.
+fn due(number: i32, lent: &Lent) -> bool {
+    let right_length = slots_of(lent.pool.len()).is_some();
+    match number {
+        9 => lent.requests.len() > MOST_REQUESTS || lent.answers.len() != lent.requests.len(),
+        1 => !right_length || lent.work.len() != lent.pool.len(),
+        2 => right_length && !sound(&lent.pool),
+        _ => lent.requests.iter().any(|r| !(INSERT..=SEARCH).contains(&r.kind)),
+    }
+}

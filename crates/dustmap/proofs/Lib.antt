@@ -1,0 +1,5 @@
+-- Laws of the program's steps.
+pub mod Calls
+pub mod Steps
+pub mod Rests
+pub mod First

@@ -1,0 +1,2 @@
+-- What holds from step to step of the program.
+pub mod Running

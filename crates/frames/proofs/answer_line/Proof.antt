@@ -1,0 +1,61 @@
+-- `answer_line`: four fields, each written behind the one before.
+use mathlib.Core.Path.{_∙_}
+use native.Mathlib.Omega.{arith}
+use mathlib.Core.List.{[], _∷_}
+use Prim.Native.Nat.{suc}
+use native.Mathlib.Numerals.{add-one}
+use Rattle.rules.specs.Frames.{natShown, line}
+use Rattle.frames.proofs.Lines.{four, answer-is}
+use Rattle.frames.proofs.Texts.{wrote-then, wrote-as}
+use borrow.Author.Needs.{needs}
+use Rattle.frames.proofs.answer_line.Statement.{statement}
+use Rattle.frames.proofs.answer_line.Tie as tie
+
+add-put-field : tie.Need-add-put-field
+add-put-field c = search needs
+
+put-field-requires : tie.Need-put-field-requires
+put-field-requires c κs = search needs
+
+long-requires : tie.Need-long-requires
+long-requires c κs = search needs
+
+put-field-requires-2 : tie.Need-put-field-requires-2
+put-field-requires-2 c κs = search needs
+
+long-requires-2 : tie.Need-long-requires-2
+long-requires-2 c κs = search needs
+
+put-field-requires-3 : tie.Need-put-field-requires-3
+put-field-requires-3 c κs = search needs
+
+long-requires-3 : tie.Need-long-requires-3
+long-requires-3 c κs = search needs
+
+put-field-requires-4 : tie.Need-put-field-requires-4
+put-field-requires-4 c κs = search needs
+
+same-length : tie.Need-same-length
+same-length c = search needs
+
+returns : tie.Need-returns
+returns c = let a = c .before .before .before .before .before .before .before .before .before .before .before .before .before .before .before .before .before .before .before .before .args .answer in (
+  wrote-as (four _ _ _ _ ∙ (λ i. line (natShown (add-one (c .before .before .before .before .before .before .before .before .before .before .before .before .before .before .before .before .before .before .before .before .args .before) i) ∷ natShown (c .before .before .before .before .before .before .before .before .before .before .before .before .before .long .ensures i) ∷ natShown (c .before .before .before .before .before .before .before .before .long2 .ensures i) ∷ natShown (c .before .before .before .long3 .ensures i) ∷ [])) ∙ answer-is (suc (c .before .before .before .before .before .before .before .before .before .before .before .before .before .before .before .before .before .before .before .before .args .before)) a)
+      (wrote-then (wrote-then (wrote-then (c .before .before .before .before .before .before .before .before .before .before .before .before .before .before .before .before .before .put-field .ensures .0) (c .before .before .before .before .before .before .before .before .before .before .before .before .put-field2 .ensures .0)) (c .before .before .before .before .before .before .before .put-field3 .ensures .0)) (c .before .before .put-field4 .ensures .0)),
+  omega (arith, c .before .before .before .before .before .before .before .before .before .before .before .before .before .before .before .before .before .put-field .ensures .1, c .before .before .before .before .before .before .before .before .before .before .before .before .put-field2 .ensures .1, c .before .before .before .before .before .before .before .put-field3 .ensures .1, c .before .before .put-field4 .ensures .1),
+)
+
+pub answer-line-spec : {M : Type 1} → statement M
+answer-line-spec =
+    tie.close
+    (tie.spec
+    add-put-field
+    put-field-requires
+    long-requires
+    put-field-requires-2
+    long-requires-2
+    put-field-requires-3
+    long-requires-3
+    put-field-requires-4
+    same-length
+    returns)

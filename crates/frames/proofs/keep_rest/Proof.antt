@@ -1,0 +1,72 @@
+-- `keep_rest`: a turn moves one byte to the front. The bytes to be moved are as they were, since each is read before it is written.
+use mathlib.Core.Path.{_≡_, refl, _∙_}
+use mathlib.Core.List.{List}
+use Prim.Native.Nat.{ℕ, _+_, _-_, _≤_, _<_}
+use lib.ListN.{length, getD, length-set}
+use lib.Seq.{getD-set-other}
+use native.Mathlib.Omega.{arith}
+use Rattle.frames.proofs.Texts.{moved-more, moved-all}
+use Rattle.frames.proofs.keep_rest.Statement.{statement}
+use Rattle.frames.proofs.keep_rest.Tie as tie
+
+-- the first i bytes are moved, and the others are as they were
+record Turn (at end rest : ℕ) (old new : List ℕ) (i : ℕ) : Type 0 where
+  most : i ≤ rest
+  whole : rest + at ≡ end
+  room : end ≤ length old
+  size : length new ≡ length old
+  moved : (k : ℕ) → k < i → getD new k 0 ≡ getD old (at + k) 0
+  same : (k : ℕ) → i ≤ k → getD new k 0 ≡ getD old k 0
+
+abbrev Inv-loop : tie.InvT-loop
+Inv-loop buffer₀ at end rest i₀ buffer i = Turn at end rest buffer₀ buffer i
+
+abbrev μ-loop : tie.MeasureT-loop
+μ-loop buffer₀ at end rest i₀ buffer i = rest - i
+
+sub-rest : tie.Need-sub-rest Inv-loop μ-loop
+sub-rest c = omega arith
+
+loop-holds : tie.Need-loop-holds Inv-loop μ-loop
+loop-holds c = record { most = omega arith; whole = omega arith; room = c .pre .1; size = refl; moved = λ k h. absurd (omega arith); same = λ k h. refl }
+
+add-buffer : tie.Need-add-buffer Inv-loop μ-loop
+add-buffer c = omega arith
+
+slice-read-buffer : tie.Need-slice-read-buffer Inv-loop μ-loop
+slice-read-buffer c = omega arith
+
+slice-write-buffer : tie.Need-slice-write-buffer Inv-loop μ-loop
+slice-write-buffer c = omega arith
+
+add-i : tie.Need-add-i Inv-loop μ-loop
+add-i c = omega arith
+
+loop-less : tie.Need-loop-less Inv-loop μ-loop
+loop-less c = omega arith
+
+loop-again : tie.Need-loop-again Inv-loop μ-loop
+loop-again c = let t = c .before .before .loop .inv in record { most = omega arith; whole = t .whole; room = t .room; size = length-set (c .before .before .loop .buffer) (c .before .before .loop .i) (getD (c .before .before .loop .buffer) (c .before .before .before .args .at + c .before .before .loop .i) 0) ∙ t .size; moved = moved-more (c .before .before .before .args .at) (c .before .before .loop .i) (c .before .before .before .args .buffer .now) (c .before .before .loop .buffer) (omega arith) (t .moved) (t .same (c .before .before .before .args .at + c .before .before .loop .i) (omega arith)); same = λ k h. getD-set-other (c .before .before .loop .buffer) (c .before .before .loop .i) k (getD (c .before .before .loop .buffer) (c .before .before .before .args .at + c .before .before .loop .i) 0) 0 (λ e. omega arith) ∙ t .same k (omega arith) }
+
+same-length : tie.Need-same-length Inv-loop μ-loop
+same-length c = c .before .loop .inv .size
+
+returns : tie.Need-returns Inv-loop μ-loop
+returns c = let t = c .before .loop .inv in let e : c .before .loop .i ≡ c .before .before .args .end - c .before .before .args .at = omega arith in (omega arith, moved-all (c .before .before .args .at) (c .before .before .args .end - c .before .before .args .at) (c .before .before .args .buffer .now) (c .before .loop .buffer) (omega arith) (t .size) (λ k h. t .moved k (omega arith)))
+
+pub keep-rest-spec : {M : Type 1} → statement M
+keep-rest-spec =
+    tie.close
+    (tie.spec
+    Inv-loop
+    μ-loop
+    sub-rest
+    loop-holds
+    add-buffer
+    slice-read-buffer
+    slice-write-buffer
+    add-i
+    loop-less
+    loop-again
+    same-length
+    returns)

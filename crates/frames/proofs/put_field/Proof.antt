@@ -1,0 +1,26 @@
+-- `put_field`: a number has 20 digits at most, so there is room for the byte behind it.
+use native.Mathlib.Omega.{arith}
+use Rattle.frames.proofs.Digits.{shown-length}
+use Rattle.frames.proofs.Texts.{wrote-byte, wrote-then}
+use borrow.Author.Needs.{needs}
+use Rattle.frames.proofs.put_field.Statement.{statement}
+use Rattle.frames.proofs.put_field.Tie as tie
+
+put-number-requires : tie.Need-put-number-requires
+put-number-requires c κs = omega (arith, shown-length (c .before .before .args .n))
+
+slice-write-out : tie.Need-slice-write-out
+slice-write-out c = omega (arith, shown-length (c .before .before .before .before .before .args .n), c .before .before .put-number .ensures .place, c .before .before .put-number .kept .0)
+
+add-result : tie.Need-add-result
+add-result c = omega (arith, shown-length (c .before .before .before .before .before .args .n), c .before .before .put-number .ensures .place, c .before .before .put-number .kept .0)
+
+same-length : tie.Need-same-length
+same-length c = search needs
+
+returns : tie.Need-returns
+returns c = (wrote-then (c .before .before .put-number .ensures) (wrote-byte (c .before .before .put-number .last .0) (c .before .before .put-number .result) (c .before .before .before .before .before .args .behind)), omega (arith, shown-length (c .before .before .before .before .before .args .n), c .before .before .put-number .ensures .place))
+
+pub put-field-spec : {M : Type 1} → statement M
+put-field-spec =
+    tie.close (tie.spec put-number-requires slice-write-out add-result same-length returns)

@@ -1,0 +1,59 @@
+-- `put_signed`: below zero a sign and the magnitude, else the number.
+use mir.Facts.{toZ-ofZ}
+use Rattle.frames.specs.Places.{lift}
+use mathlib.Core.Path.{_≡_, sym, ap, _∙_}
+use native.Mathlib.Omega.{arith}
+use mathlib.Core.List.{List, [], _∷_, _++_}
+use Prim.Native.Nat.{ℕ, _-_}
+use lib.ListN.{length-set}
+use Rattle.rules.specs.Frames.{natShown}
+use Rattle.frames.proofs.Lines.{shown-below, shown-above}
+use Rattle.frames.proofs.Texts.{wrote-byte, wrote-then, wrote-as}
+use borrow.Author.Needs.{needs}
+use Rattle.frames.proofs.put_signed.Statement.{statement}
+use Rattle.frames.proofs.put_signed.Tie as tie
+
+lifted-requires : tie.Need-lifted-requires
+lifted-requires c κs = search needs
+
+slice-write-out : tie.Need-slice-write-out
+slice-write-out c = search needs
+
+add-put-field : tie.Need-add-put-field
+add-put-field c = search needs
+
+sub-put-field : tie.Need-sub-put-field
+sub-put-field c = search needs
+
+put-field-requires : tie.Need-put-field-requires
+put-field-requires c κs = simp length-set (omega arith)
+
+same-length : tie.Need-same-length
+same-length c = c .before .before .put-field .kept .0 ∙ length-set (c .before .before .before .before .before .before .before .args .out .now) (c .before .before .before .before .before .before .before .args .at) 45
+
+returns : tie.Need-returns
+returns c = let z = c .before .before .before .before .before .before .before .args .z in let m : c .before .before .before .before .before .lifted .result ≡ lift (c .before .before .before .before .before .before .before .args .z) = c .before .before .before .before .before .lifted .ensures .0 ∙ ap lift (toZ-ofZ (c .before .before .before .before .before .before .before .fits .z)) in (wrote-as (ap (λ (t : List ℕ). t ++ c .before .before .before .before .before .before .before .args .behind ∷ []) (ap (λ (n : ℕ). 45 ∷ natShown (2147483648 - n)) m ∙ sym (shown-below z (c .before .before .before .before .before .before .before .fits .z .sfits) (omega arith)))) (wrote-then (wrote-byte (c .before .before .before .before .before .before .before .args .out .now) (c .before .before .before .before .before .before .before .args .at) 45) (c .before .before .put-field .ensures .0)), omega arith)
+
+put-field-requires-2 : tie.Need-put-field-requires-2
+put-field-requires-2 c κs = search needs
+
+same-length-2 : tie.Need-same-length-2
+same-length-2 c = search needs
+
+returns-2 : tie.Need-returns-2
+returns-2 c = let z = c .before .before .before .before .before .before .before .args .z in let m : c .before .before .before .before .before .lifted .result ≡ lift (c .before .before .before .before .before .before .before .args .z) = c .before .before .before .before .before .lifted .ensures .0 ∙ ap lift (toZ-ofZ (c .before .before .before .before .before .before .before .fits .z)) in (wrote-as (ap (λ (t : List ℕ). t ++ c .before .before .before .before .before .before .before .args .behind ∷ []) (ap (λ (n : ℕ). natShown (n - 2147483648)) m ∙ sym (shown-above z (c .before .before .before .before .before .before .before .fits .z .sfits) (omega arith)))) (c .before .before .put-field2 .ensures .0), omega arith)
+
+pub put-signed-spec : {M : Type 1} → statement M
+put-signed-spec =
+    tie.close
+    (tie.spec
+    lifted-requires
+    slice-write-out
+    add-put-field
+    sub-put-field
+    put-field-requires
+    same-length
+    returns
+    put-field-requires-2
+    same-length-2
+    returns-2)

@@ -1,0 +1,67 @@
+-- `read_frame`: each way out is a law of Framing, with the tests that led there.
+use mathlib.Core.Path.{sym, ap, ap₂, _∙_}
+use native.Mathlib.Omega.{arith}
+use Prim.Native.Nat.{ℕ, _+_}
+use borrow.Author.Tests.{not-true, not-false}
+use Rattle.rules.specs.declared.Request.{Request}
+use Rattle.frames.specs.declared.Framed.the-variants.{Asks}
+use Rattle.frames.specs.Reading.{kindLength, someLength}
+use Rattle.frames.specs.Places.{requestFrom}
+use Rattle.frames.proofs.Framing.{waits-few, bad-length, waits-kind, bad-kind, waits-words, asks-all}
+use Rattle.frames.proofs.Requests.{some-least}
+use borrow.Author.Needs.{needs}
+use Rattle.frames.proofs.read_frame.Statement.{statement}
+use Rattle.frames.proofs.read_frame.Tie as tie
+
+returns : tie.Need-returns
+returns c = sym (waits-few (c .before .before .args .bytes .now) (c .if1 .taken))
+
+pair-at-requires : tie.Need-pair-at-requires
+pair-at-requires c κs = search needs
+
+is-length-requires : tie.Need-is-length-requires
+is-length-requires c κs = search needs
+
+returns-2 : tie.Need-returns-2
+returns-2 c = sym (bad-length (c .before .before .before .before .before .args .bytes .now) (c .before .before .before .if1 .left) (ap someLength (sym (c .before .before .pair-at .ensures .0)) ∙ sym (c .before .is-length .ensures) ∙ not-true _ (c .if2 .taken)))
+
+returns-3 : tie.Need-returns-3
+returns-3 c = sym (waits-kind (c .before .before .before .before .before .before .args .bytes .now) (c .before .before .before .before .if1 .left) (c .if3 .taken) (ap someLength (sym (c .before .before .before .pair-at .ensures .0)) ∙ sym (c .before .before .is-length .ensures) ∙ not-false _ (c .before .if2 .left)))
+
+pair-at-requires-2 : tie.Need-pair-at-requires-2
+pair-at-requires-2 c κs = search needs
+
+length-of-requires : tie.Need-length-of-requires
+length-of-requires c κs = search needs
+
+returns-4 : tie.Need-returns-4
+returns-4 c = sym (bad-kind (c .before .before .before .before .before .before .before .before .before .args .bytes .now) (c .before .before .before .if3 .left) (ap someLength (sym (c .before .before .before .before .before .before .pair-at .ensures .0)) ∙ sym (c .before .before .before .before .before .is-length .ensures) ∙ not-false _ (c .before .before .before .before .if2 .left)) (λ e. c .if4 .taken (c .before .length-of .ensures .0 ∙ ap kindLength (c .before .before .pair-at2 .ensures .0) ∙ e ∙ sym (c .before .before .before .before .before .before .pair-at .ensures .0))))
+
+add-size : tie.Need-add-size
+add-size c = search needs
+
+returns-5 : tie.Need-returns-5
+returns-5 c = let e = c .before .before .before .before .before .before .before .pair-at .ensures .0 in let l = c .if5 .taken in sym (waits-words (c .before .before .before .before .before .before .before .before .before .before .args .bytes .now) (c .before .before .before .before .if3 .left) (ap someLength (sym (c .before .before .before .before .before .before .before .pair-at .ensures .0)) ∙ sym (c .before .before .before .before .before .before .is-length .ensures) ∙ not-false _ (c .before .before .before .before .before .if2 .left)) (ap kindLength (sym (c .before .before .before .pair-at2 .ensures .0)) ∙ sym (c .before .before .length-of .ensures .0) ∙ c .before .if4 .left ∙ c .before .before .before .before .before .before .before .pair-at .ensures .0) (omega arith))
+
+request-in-requires : tie.Need-request-in-requires
+request-in-requires c κs = let k = sym (c .before .before .length-of .ensures .0) ∙ c .before .if4 .left in let s = some-least (c .before .before .before .before .before .before .before .pair-at .result) (sym (c .before .before .before .before .before .before .is-length .ensures) ∙ not-false _ (c .before .before .before .before .before .if2 .left)) in (omega arith, omega arith)
+
+returns-6 : tie.Need-returns-6
+returns-6 c = let e = c .before .before .before .before .before .before .before .before .pair-at .ensures .0 in let l = c .before .if5 .left in ap₂ (λ (q : Request) (n : ℕ). Asks q n) (c .request-in .ensures ∙ ap (λ (k : ℕ). requestFrom k (c .before .before .before .before .before .before .before .before .before .before .before .args .bytes .now)) (c .before .before .before .before .pair-at2 .ensures .0)) (ap (λ (n : ℕ). 2 + n) e) ∙ sym (asks-all (c .before .before .before .before .before .before .before .before .before .before .before .args .bytes .now) (ap someLength (sym (c .before .before .before .before .before .before .before .before .pair-at .ensures .0)) ∙ sym (c .before .before .before .before .before .before .before .is-length .ensures) ∙ not-false _ (c .before .before .before .before .before .before .if2 .left)) (ap kindLength (sym (c .before .before .before .before .pair-at2 .ensures .0)) ∙ sym (c .before .before .before .length-of .ensures .0) ∙ c .before .before .if4 .left ∙ c .before .before .before .before .before .before .before .before .pair-at .ensures .0) (omega arith))
+
+pub read-frame-spec : {M : Type 1} → statement M
+read-frame-spec =
+    tie.close
+    (tie.spec
+    returns
+    pair-at-requires
+    is-length-requires
+    returns-2
+    returns-3
+    pair-at-requires-2
+    length-of-requires
+    returns-4
+    add-size
+    returns-5
+    request-in-requires
+    returns-6)

@@ -1,0 +1,44 @@
+-- `rect_at`: four words, each where the definition finds it.
+use mathlib.Core.Path.{_∙_}
+use Rattle.frames.proofs.Requests.{rect-made}
+use Rattle.frames.proofs.Words.{came}
+use borrow.Author.Needs.{needs}
+use Rattle.frames.proofs.rect_at.Statement.{statement}
+use Rattle.frames.proofs.rect_at.Tie as tie
+
+word-at-requires : tie.Need-word-at-requires
+word-at-requires c κs = search needs
+
+add-word-at : tie.Need-add-word-at
+add-word-at c = search needs
+
+word-at-requires-2 : tie.Need-word-at-requires-2
+word-at-requires-2 c κs = search needs
+
+add-word-at-2 : tie.Need-add-word-at-2
+add-word-at-2 c = search needs
+
+word-at-requires-3 : tie.Need-word-at-requires-3
+word-at-requires-3 c κs = search needs
+
+add-word-at-3 : tie.Need-add-word-at-3
+add-word-at-3 c = search needs
+
+word-at-requires-4 : tie.Need-word-at-requires-4
+word-at-requires-4 c κs = search needs
+
+returns : tie.Need-returns
+returns c = rect-made (c .before .before .before .before .before .args .bytes .now) (c .before .before .before .before .before .args .at) (came (c .before .before .before .word-at .ok) ∙ c .before .before .before .word-at .ensures) (came (c .before .before .word-at2 .ok) ∙ c .before .before .word-at2 .ensures) (came (c .before .word-at3 .ok) ∙ c .before .word-at3 .ensures) (came (c .word-at4 .ok) ∙ c .word-at4 .ensures)
+
+pub rect-at-spec : {M : Type 1} → statement M
+rect-at-spec =
+    tie.close
+    (tie.spec
+    word-at-requires
+    add-word-at
+    word-at-requires-2
+    add-word-at-2
+    word-at-requires-3
+    add-word-at-3
+    word-at-requires-4
+    returns)

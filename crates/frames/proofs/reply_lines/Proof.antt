@@ -1,0 +1,81 @@
+-- `reply_lines`: a turn writes the line of one record more.
+use mathlib.Core.Path.{_≡_, refl, sym, _∙_}
+use Prim.Native.Nat.{ℕ, suc, min, _+_, _*_, _-_, _≤_}
+use mathlib.Core.Path.{_≡_, refl, _∙_}
+use mathlib.Core.List.{List}
+use Prim.Native.Nat.{ℕ, _+_, _*_, _-_, _≤_}
+use native.Mathlib.Nat.{min-le-right}
+use lib.ListN.{length}
+use borrow.Author.Needs.{needs}
+use Rattle.rules.specs.declared.Record.{Record}
+use Rattle.rules.specs.Frames.{listedOf}
+use Rattle.frames.proofs.Lines.{Listed, lines-none, lines-more, lines-all}
+use native.Mathlib.Omega.{arith}
+use Rattle.frames.proofs.reply_lines.Statement.{statement}
+use Rattle.frames.proofs.reply_lines.Tie as tie
+
+-- the lines of i records are written
+record Turn (found : List Record) (listed : ℕ) (out₀ : List ℕ) (next₀ : ℕ) (out : List ℕ) (next i : ℕ) : Type 0 where
+  most : i ≤ listed
+  few : listed ≤ 64
+  places : length found ≡ 64
+  size : length out ≡ length out₀
+  short : next ≤ next₀ + 110 * i
+  lines : Listed out₀ next₀ found i out next
+
+abbrev Inv-loop : tie.InvT-loop
+Inv-loop out₀ at before found listed next₀ i₀ out next i = Turn found listed out₀ next₀ out next i
+
+abbrev μ-loop : tie.MeasureT-loop
+μ-loop out₀ at before found listed next₀ i₀ out next i = listed - i
+
+listed-of-requires : tie.Need-listed-of-requires Inv-loop μ-loop
+listed-of-requires c κs = search needs
+
+answer-line-requires : tie.Need-answer-line-requires Inv-loop μ-loop
+answer-line-requires c κs = search needs
+
+loop-holds : tie.Need-loop-holds Inv-loop μ-loop
+loop-holds c = record { most = omega arith; few = rw (c .before .before .before .before .listed-of .ensures) (min-le-right (listedOf (c .before .before .before .before .before .before .args .answer)) 64); places = search needs; size = refl; short = omega arith; lines = lines-none (c .before .before .before .before .before .before .args .t5) }
+
+mul-record-line : tie.Need-mul-record-line Inv-loop μ-loop
+mul-record-line c = omega arith
+
+array-copy-out-record-line : tie.Need-array-copy-out-record-line Inv-loop μ-loop
+array-copy-out-record-line c = omega arith
+
+record-line-requires : tie.Need-record-line-requires Inv-loop μ-loop
+record-line-requires c κs = omega arith
+
+add-i : tie.Need-add-i Inv-loop μ-loop
+add-i c = omega arith
+
+loop-less : tie.Need-loop-less Inv-loop μ-loop
+loop-less c = omega arith
+
+loop-again : tie.Need-loop-again Inv-loop μ-loop
+loop-again c = let t = c .before .before .before .before .before .before .loop .inv in record { most = omega arith; few = t .few; places = t .places; size = c .before .before .record-line .kept .0 ∙ t .size; short = omega (arith, t .short, c .before .before .record-line .ensures .1); lines = lines-more (c .before .before .before .before .before .before .before .before .before .before .before .before .before .args .t5) (c .before .before .before .before .before .before .loop .i) _ (omega arith) (t .lines) (c .before .before .record-line .ensures .0) }
+
+same-length : tie.Need-same-length Inv-loop μ-loop
+same-length c = c .before .loop .inv .size ∙ c .before .before .before .before .answer-line .kept .0
+
+returns : tie.Need-returns Inv-loop μ-loop
+returns c = let t = c .before .loop .inv in let e : c .before .loop .i ≡ min (listedOf (c .before .before .before .before .before .before .before .before .args .answer)) 64 = omega arith in (lines-all (c .before .before .before .before .before .before .before .before .args .t5) (suc (c .before .before .before .before .before .before .before .before .args .before)) (c .before .before .before .before .before .before .before .before .args .answer) (t .places) (c .before .before .before .before .answer-line .ensures .0) (rw (sym e) (t .lines)), omega (arith, t .short, t .few, c .before .before .before .before .answer-line .ensures .1))
+
+pub reply-lines-spec : {M : Type 1} → statement M
+reply-lines-spec =
+    tie.close
+    (tie.spec
+    Inv-loop
+    μ-loop
+    listed-of-requires
+    answer-line-requires
+    loop-holds
+    mul-record-line
+    array-copy-out-record-line
+    record-line-requires
+    add-i
+    loop-less
+    loop-again
+    same-length
+    returns)

@@ -1,0 +1,22 @@
+-- `update_in`: number, old and new rectangle from the words behind the kind.
+use mathlib.Core.Path.{_∙_}
+use Rattle.frames.proofs.Requests.{update-made}
+use Rattle.frames.proofs.Words.{came}
+use borrow.Author.Needs.{needs}
+use Rattle.frames.proofs.update_in.Statement.{statement}
+use Rattle.frames.proofs.update_in.Tie as tie
+
+word-at-requires : tie.Need-word-at-requires
+word-at-requires c κs = search needs
+
+rect-at-requires : tie.Need-rect-at-requires
+rect-at-requires c κs = search needs
+
+rect-at-requires-2 : tie.Need-rect-at-requires-2
+rect-at-requires-2 c κs = search needs
+
+returns : tie.Need-returns
+returns c = update-made (c .before .before .before .before .args .bytes .now) (came (c .before .before .word-at .ok) ∙ c .before .before .word-at .ensures) (c .before .rect-at .ensures) (c .rect-at2 .ensures)
+
+pub update-in-spec : {M : Type 1} → statement M
+update-in-spec = tie.close (tie.spec word-at-requires rect-at-requires rect-at-requires-2 returns)

@@ -1,0 +1,86 @@
+-- A call as its walk sees it: the number that tells whether it is refused, and what it leaves either way.
+use mathlib.Core.Path.{_≡_, refl, sym, ap, subst, _∙_}
+use mathlib.Core.Bool.{Bool, true, false, not}
+use mathlib.Core.List.{List}
+use mathlib.Core.Option.{none, some}
+use lib.ListN.{length}
+use lib.Dec.{eqb}
+use lib.IntN.{ℤ, pos}
+use mir.Val.{ofZ}
+use mir.Syntax.{w32}
+use Rattle.rules.specs.declared.Record.{Record}
+use Rattle.rules.specs.declared.Answer.{Answer}
+use Rattle.rules.specs.declared.Verdict.{Verdict}
+use Rattle.rules.specs.declared.Verdict.the-variants.{BadLists, BadLength, NotSound, NoRequest}
+use Rattle.rules.specs.Lists.{every}
+use Rattle.rules.specs.Answers.{verdictNumber}
+use Rattle.rules.specs.Call.{Lent, Left, isRequest, callFault, refused, served}
+use Rattle.force.proofs.Faults.{EachGiven, given-none, given-row}
+use Rattle.map.specs.Asking.{left, Allowed}
+use Rattle.map.specs.Batching.{numberOf, refusalOf, batchOf, Batched}
+use Rattle.map.proofs.Refusals.{refusal-is, call-number, call-refused, call-served}
+
+-- ---- once
+
+-- whatever two runs of the call leave, it is the same
+pub once : (l : Lent) (o o′ : Left) → Allowed l o → Allowed l o′ → o ≡ o′
+once l o o′ a b = λ i. record {
+  number = (a .number ∙ sym (b .number)) i;
+  pool = (a .pool ∙ sym (b .pool)) i;
+  workspace = (a .workspace ∙ sym (b .workspace)) i;
+  answers = (a .answers ∙ sym (b .answers)) i;
+  found = (a .found ∙ sym (b .found)) i;
+}
+
+-- ---- the number
+
+-- the bits of the number are not zero
+abbrev Told : Verdict → Type 0
+Told v = not (eqb (ofZ w32 (verdictNumber v)) 0) ≡ true
+
+told : (l : Lent) → EachGiven Told (callFault l)
+unfolding callFault verdictNumber
+told l =
+    given-row Told _ BadLists _ refl
+    (given-row Told _ BadLength _ refl (given-row Told _ NotSound _ refl (given-row Told _ NoRequest _ refl (given-none Told))))
+
+module _ (l : Lent) (all : Bool) (asked : all ≡ every isRequest (l .requests)) (z : ℤ)
+    (is : z ≡ refusalOf (l .pool) (length (l .workspace)) (length (l .requests)) (length (l .answers)) all) where
+  same : z ≡ refusalOf (l .pool) (length (l .workspace)) (length (l .requests)) (length (l .answers)) (every isRequest (l .requests))
+  same = is ∙ ap (refusalOf (l .pool) (length (l .workspace)) (length (l .requests)) (length (l .answers))) asked
+
+  number-is : z ≡ numberOf (callFault l)
+  number-is = same ∙ refusal-is l
+
+  pub not-refused : callFault l ≡ none → not (eqb (ofZ w32 z) 0) ≡ false
+  unfolding numberOf
+  not-refused h = ap (λ (x : ℤ). not (eqb (ofZ w32 x) 0)) (number-is ∙ ap numberOf h)
+
+  pub is-refused : (v : Verdict) → callFault l ≡ some v → not (eqb (ofZ w32 z) 0) ≡ true
+  unfolding numberOf
+  is-refused v h = ap (λ (x : ℤ). not (eqb (ofZ w32 x) 0)) (number-is ∙ ap numberOf h) ∙ subst (EachGiven Told) h (told l)
+
+  -- "A refused call returns its number and writes nothing at all."
+  pub left-alone : (v : Verdict) → callFault l ≡ some v → Allowed l (left z (l .pool) (l .workspace) (l .answers) (l .found))
+  unfolding refused
+  left-alone v h =
+      record {
+        number = same ∙ call-number l;
+        pool = ap (λ (x : Left). x .pool) (sym (call-refused l v h));
+        workspace = ap (λ (x : Left). x .workspace) (sym (call-refused l v h));
+        answers = ap (λ (x : Left). x .answers) (sym (call-refused l v h));
+        found = ap (λ (x : Left). x .found) (sym (call-refused l v h));
+      }
+
+-- "On return 0 the workspace equals the pool."
+pub left-served : (l : Lent) → callFault l ≡ none → (pool work : List ℤ) (answers : List Answer) (found : List Record)
+    → Batched (batchOf l) pool answers found → work ≡ pool → Allowed l (left (pos 0) pool work answers found)
+unfolding served verdictNumber
+left-served l h pool work answers found b e =
+    record {
+      number = ap (λ (x : Left). x .number) (sym (call-served l h));
+      pool = b .pool-is ∙ ap (λ (x : Left). x .pool) (sym (call-served l h));
+      workspace = e ∙ b .pool-is ∙ ap (λ (x : Left). x .workspace) (sym (call-served l h));
+      answers = b .answers-are ∙ ap (λ (x : Left). x .answers) (sym (call-served l h));
+      found = b .found-is ∙ ap (λ (x : Left). x .found) (sym (call-served l h));
+    }

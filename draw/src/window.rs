@@ -1,0 +1,45 @@
+//! A window on the map: what the proved search finds in it, and the nodes that it opens on its way.
+
+use crate::one;
+use crate::tree::{meets, Tree};
+use dustmap::{Found, Rect, Request};
+
+pub struct Shown {
+    pub window: Rect,
+    pub found: Vec<Found>,
+    /// The slots of the nodes opened.
+    pub opened: Vec<usize>,
+}
+
+/// Searches the pool. Which nodes are opened is read from the covers; the search says how many, and the two have to agree.
+pub fn look(pool: &mut [i32], tree: &Tree, window: Rect) -> Result<Shown, String> {
+    let mut found = vec![Found::default(); tree.slots * 8];
+    let answer = one(pool, Request::search(window), &mut found);
+    if answer.number != 0 {
+        return Err(format!(
+            "the window was answered {}: a side out of range, or low above high",
+            answer.number
+        ));
+    }
+    found.truncate(answer.found as usize);
+    let mut opened = Vec::new();
+    open(tree, tree.root, &window, &mut opened);
+    assert_eq!(
+        opened.len(),
+        answer.opened as usize,
+        "the covers that meet the window, and the root"
+    );
+    Ok(Shown { window, found, opened })
+}
+
+/// "Search descends from the root and opens every child whose entry rectangle meets the window."
+fn open(tree: &Tree, slot: usize, window: &Rect, opened: &mut Vec<usize>) {
+    opened.push(slot);
+    let node = tree.node(slot);
+    if node.level == 1 {
+        return;
+    }
+    for entry in node.entries.iter().filter(|e| meets(&e.rect, window)) {
+        open(tree, entry.pointer as usize, window, opened);
+    }
+}
