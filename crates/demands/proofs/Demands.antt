@@ -32,7 +32,9 @@ use Rattle.force.proofs.Faults.{no-row}
 use Rattle.force.proofs.Whole.{request-whole}
 use Rattle.force.proofs.Batch.{noAnswer, kept, long, two-parts}
 use Rattle.force.proofs.Call.{left-refused, left-served, no-fault, left-answers, answers-long, call-shows}
-use Rattle.demands.specs.Steps.{Calls, Step, Call, History, inForceAfter}
+use Rattle.demands.specs.Steps.{Step, Call, History, inForceAfter}
+use Rattle.map.specs.Asking.{Allowed}
+use Rattle.map.proofs.Calls.{once}
 use Rattle.demands.specs.Demands.{after, turnAfter, answerAfter, Untouched, Ends, Refuses, Accepted, Does, Shows}
 use Rattle.demands.proofs.Holds.{history-holds}
 use Rattle.demands.proofs.Turns.{Either, either}
@@ -43,13 +45,7 @@ pub demand-ends : (l : Lent) → Ends l
 demand-ends l = record {
   outcome = call l;
   allowed = record { number = refl; pool = refl; workspace = refl; answers = refl; found = refl };
-  only = λ o k. λ i. record {
-    number = k .number i;
-    pool = k .pool i;
-    workspace = k .workspace i;
-    answers = k .answers i;
-    found = k .found i;
-  };
+  only = λ o k. once l o (call l) k (record { number = refl; pool = refl; workspace = refl; answers = refl; found = refl });
 }
 
 -- ---- a request in its call
@@ -123,7 +119,7 @@ module _ (l : Lent) where
 
 -- ---- D1
 
-module _ (l : Lent) (o : Left) (k : Calls l o) where
+module _ (l : Lent) (o : Left) (k : Allowed l o) where
   fine : o .number ≡ pos 0 → callFault l ≡ none
   unfolding call
   fine z = no-fault ours l (sym (k .number) ∙ z)

@@ -18,7 +18,8 @@ use Rattle.laws.proofs.Orders.{never-both}
 use Rattle.trees.proofs.Same.{same-is}
 use Rattle.force.specs.Force.{forceAfter}
 use Rattle.force.specs.Shows.{Holds}
-use Rattle.demands.specs.Steps.{Blanks, Calls, Step, Blank, Call, poolAfter, History, inForceAfter}
+use Rattle.demands.specs.Steps.{Blanks, Step, Blank, Call, poolAfter, History, inForceAfter}
+use Rattle.map.specs.Asking.{Allowed}
 use Rattle.laws.proofs.Splits.{ours-lawful}
 use Rattle.trees.proofs.Blank.{blank-whole}
 use Rattle.force.proofs.Written.{reads}
@@ -103,7 +104,7 @@ module _ (b : Blanked) (w : List ℤ) (k : Blanks w b) (steps : List Step) (now 
       (subst (λ (m : ℕ). Holds (read (blank w .pool)) (elim (eqb m 0) [ true ↦ [] | false ↦ inForceAfter steps ])) (sym (k .number))
       (blank-cases w (λ x. Holds (read (x .pool)) (elim (eqb (x .number) 0) [ true ↦ [] | false ↦ inForceAfter steps ])) (blank-pool (slotCount w - 1)) now))
 
-module _ (l : Lent) (o : Left) (k : Calls l o) (steps : List Step) (now : Holds (read (l .pool)) (inForceAfter steps)) where
+module _ (l : Lent) (o : Left) (k : Allowed l o) (steps : List Step) (now : Holds (read (l .pool)) (inForceAfter steps)) where
   zero-number : o .number ≡ pos 0 → callBy ours l .number ≡ pos 0
   unfolding call
   zero-number z = sym (k .number) ∙ z

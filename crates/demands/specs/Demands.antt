@@ -27,7 +27,8 @@ use Rattle.rules.specs.Call.{Lent, Left, Batch, callFault, doRequests, starting
 use Rattle.finding.specs.Window.{recordMeets}
 use Rattle.force.specs.Force.{forceAfter, filledAfter}
 use Rattle.force.specs.Batch.{meeting, Told}
-use Rattle.demands.specs.Steps.{Calls, Step, inForceAfter}
+use Rattle.demands.specs.Steps.{Step, inForceAfter}
+use Rattle.map.specs.Asking.{Allowed}
 
 -- how far a call has come when it has done the requests given
 abbrev pub after : Lent → List Request → Batch
@@ -51,8 +52,8 @@ pub record Untouched (l : Lent) (o : Left) : Type 0 where
 -- D1: "Any pool contents, any request, any lent list can be handed in. Each call ends." There is one outcome, and only one
 pub record Ends (l : Lent) : Type 0 where
   pub outcome : Left
-  pub allowed : Calls l outcome
-  pub only : (o : Left) → Calls l o → o ≡ outcome
+  pub allowed : Allowed l outcome
+  pub only : (o : Left) → Allowed l o → o ≡ outcome
 
 -- "Bad input gets the numbered refusal of document 01 under exactly the conditions given there.": a call is refused by the first row of its
 -- table that applies, and then writes nothing, and else it returns 0; each of its requests is answered by the first row of its own table

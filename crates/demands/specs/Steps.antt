@@ -10,21 +10,14 @@ use Rattle.rules.specs.declared.Record.{Record}
 use Rattle.rules.specs.Lists.{same}
 use Rattle.rules.specs.Pool.{blankPool}
 use Rattle.rules.specs.Layout.{Blanked, words, blank}
-use Rattle.rules.specs.Call.{Lent, Left, call}
+use Rattle.rules.specs.Call.{Lent, Left}
 use Rattle.force.specs.Force.{forceAfter}
+use Rattle.map.specs.Asking.{Allowed}
 
--- what `dustmap_blank` promises, of the words lent and of what it returns and leaves
+-- what `dustmap_blank` promises, of the words lent and of what it returns and leaves. (What `dustmap_call` promises is `Allowed` of crate map)
 pub record Blanks (w : List ℤ) (b : Blanked) : Type 0 where
   pub number : b .number ≡ blank w .number
   pub pool : b .pool ≡ blank w .pool
-
--- what `dustmap_call` promises, of all that is lent and of all that it returns and leaves
-pub record Calls (l : Lent) (o : Left) : Type 0 where
-  pub number : o .number ≡ call l .number
-  pub pool : o .pool ≡ call l .pool
-  pub workspace : o .workspace ≡ call l .workspace
-  pub answers : o .answers ≡ call l .answers
-  pub found : o .found ≡ call l .found
 
 -- a step: the pool is blanked, or lent to a call with a workspace and lists; with what came back
 pub data Step : Type 0 where
@@ -41,7 +34,7 @@ poolAfter n (Call l o ∷ steps) = o .pool
 abbrev pub History : ℕ → List Step → Type 0
 History n [] = Unit {0}
 History n (Blank b ∷ steps) = Blanks (poolAfter n steps) b × History n steps
-History n (Call l o ∷ steps) = (l .pool ≡ poolAfter n steps) × Calls l o × History n steps
+History n (Call l o ∷ steps) = (l .pool ≡ poolAfter n steps) × Allowed l o × History n steps
 
 -- "A pair is in force from an accepted insert of it, or update to it, until an accepted delete of it, or update to another.": the pairs in
 -- force after the steps, by requests and answers. A pool that is blanked holds none; a call that is refused does no request
