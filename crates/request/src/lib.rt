@@ -69,17 +69,24 @@ fn asked(q: Request) -> Asked
     Asked::Search(rect)
 }
 
-// "Changes and refusals report zeros for the last three; 8 reports found and opened as they would have been, start zero."
+// "Changes and refusals report zeros for the last three".
+fn zeros(number: u32) -> Answer
+    ensures { λ r. ⌜ r ≡ T.answer number 0 0 0 ⌝ }
+{
+    Answer {
+        number,
+        found: 0,
+        start: 0,
+        opened: 0,
+    }
+}
+
+// .. "8 reports found and opened as they would have been, start zero."
 fn answer_of(reply: Reply) -> Answer
     ensures { λ r. ⌜ r ≡ T.answerOf reply ⌝ }
 {
     match reply {
-        Reply::Changed => Answer {
-            number: 0,
-            found: 0,
-            start: 0,
-            opened: 0,
-        },
+        Reply::Changed => zeros(0),
         Reply::Listed {
             found,
             start,
@@ -90,36 +97,11 @@ fn answer_of(reply: Reply) -> Answer
             start,
             opened,
         },
-        Reply::BadRectangle => Answer {
-            number: 3,
-            found: 0,
-            start: 0,
-            opened: 0,
-        },
-        Reply::BadNumber => Answer {
-            number: 4,
-            found: 0,
-            start: 0,
-            opened: 0,
-        },
-        Reply::NotHeld => Answer {
-            number: 5,
-            found: 0,
-            start: 0,
-            opened: 0,
-        },
-        Reply::Held => Answer {
-            number: 6,
-            found: 0,
-            start: 0,
-            opened: 0,
-        },
-        Reply::NoSlot => Answer {
-            number: 7,
-            found: 0,
-            start: 0,
-            opened: 0,
-        },
+        Reply::BadRectangle => zeros(3),
+        Reply::BadNumber => zeros(4),
+        Reply::NotHeld => zeros(5),
+        Reply::Held => zeros(6),
+        Reply::NoSlot => zeros(7),
         Reply::NoRoom { found, opened } => Answer {
             number: 8,
             found,
