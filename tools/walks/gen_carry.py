@@ -60,7 +60,7 @@ PRE='(2 * n ≤ length ws) × Pointing ps ws 0 n × (at + n ≤ length fs)'
 o='''-- `map::carry` meets its contract: a walk of its MIR, by hand. The found list is opened before the loop and closed after it; a turn has `item` read a record
 -- and stores it. What a turn keeps, on lists, is in `Carries.antt`. Assumes nothing.
 '''+HEAD+struct_uses(F.structs)+'''use lib.Seq.{sets}
-use Rattle.items.specs.Items.{itemAt, itemsFrom, spotAt, Pointing}
+use Rattle.found_items.specs.Items.{itemAt, itemsFrom, spotAt, Pointing}
 use Rattle.map.proofs.Carries.{Upto, ≺, wf, start, next, less, stored, stored-long, stored-none, stored-more}
 '''+F.uses()+'\n'+F.stayed()+F.contracts()+struct_defs(F.structs)+F.tys()+F.modhead(PRE)+F.basics()
 o+=F.exits('says ! is','nf ≡ sets fs at (itemsFrom ps ws 0 n) → ','is')

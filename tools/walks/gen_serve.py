@@ -150,7 +150,7 @@ o='''-- `map::serve` meets its contract: a walk of its MIR, by hand. The request
 '''+HEAD+struct_uses(F.structs)+'''use lib.Seq.{sets}
 use mathlib.Core.WellFounded.{WellFounded, InvImage·wf}
 use Rattle.rules.specs.Call.{Lent, callFault}
-use Rattle.items.specs.Items.{itemsFrom}
+use Rattle.found_items.specs.Items.{itemsFrom}
 use Rattle.map.specs.Asking.{lent as lentOf}
 use Rattle.map.specs.Batching.{Begun, stepOf, batchOf, Batched}
 use Rattle.map.proofs.Asks.{none as nothing-asked}

@@ -59,7 +59,7 @@ use denote.Exit.{yes}
 use Rattle.map.proofs.Lends.{rest-of, ref, Own, OwnShr, lent, back, lent-shr, back-shr, one-fact, more-facts, says-all, use-all, needs-none}
 '''
 # rows of structs: letter -> (crate path for proofs, type name)
-STRUCTS={'Q':('Rattle.rules','Request'),'R':('Rattle.rules','Answer'),'F':('Rattle.rules','Record'),'D':('Rattle.request','Served'),'S':('Rattle.slots','FreeSlots'),
+STRUCTS={'Q':('Rattle.rules','Request'),'R':('Rattle.rules','Answer'),'F':('Rattle.rules','Record'),'D':('Rattle.request','Served'),'S':('Rattle.free_slots','FreeSlots'),
  'K':('Rattle·map·','Progress'),'T':('Rattle·map·','Stepped')}
 def struct_uses(ls):
     o=''

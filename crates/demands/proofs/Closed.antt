@@ -14,8 +14,8 @@ use Rattle.rules.specs.Answers.{answer}
 use Rattle.rules.specs.Call.{Lent, call, starting, doRequests}
 use Rattle.rules.specs.Computed.{document01}
 use Rattle.rules.specs.Histories.{box, insert, delete, update, search, noRecord, shown}
-use Rattle.force.specs.Force.{lessPair, change, inForce, forceBy, forceAfter, placesOf, filledBy, filledAfter}
-use Rattle.force.specs.Batch.{meeting, Told}
+use Rattle.in_force_laws.specs.Force.{lessPair, change, inForce, forceBy, forceAfter, placesOf, filledBy, filledAfter}
+use Rattle.in_force_laws.specs.Batch.{meeting, Told}
 use Rattle.demands.specs.Steps.{Step, Blank, Call, poolAfter, History, inForceAfter}
 use Rattle.demands.proofs.Demands.{demand-3}
 

@@ -24,14 +24,14 @@ use Rattle.rules.specs.Insert.{ours}
 use Rattle.rules.specs.Answers.{answerOf, verdictNumber}
 use Rattle.rules.specs.Request.{asked}
 use Rattle.rules.specs.Call.{Lent, Left, Batch, callFault, refused, served, call, afterTurn, doRequest, doRequests, starting}
-use Rattle.laws.proofs.Bools.{not-false, and-both}
-use Rattle.laws.proofs.Splits.{ours-lawful}
-use Rattle.trees.specs.Tree.{Whole}
-use Rattle.trees.proofs.Sound.{sound-whole}
-use Rattle.force.proofs.Faults.{no-row}
-use Rattle.force.proofs.Whole.{request-whole}
-use Rattle.force.proofs.Batch.{noAnswer, kept, long, two-parts}
-use Rattle.force.proofs.Call.{left-refused, left-served, no-fault, left-answers, answers-long, call-shows}
+use Rattle.rules_laws.proofs.Bools.{not-false, and-both}
+use Rattle.rules_laws.proofs.Splits.{ours-lawful}
+use Rattle.sound_laws.specs.Tree.{Whole}
+use Rattle.sound_laws.proofs.Sound.{sound-whole}
+use Rattle.in_force_laws.proofs.Faults.{no-row}
+use Rattle.in_force_laws.proofs.Whole.{request-whole}
+use Rattle.in_force_laws.proofs.Batch.{noAnswer, kept, long, two-parts}
+use Rattle.in_force_laws.proofs.Call.{left-refused, left-served, no-fault, left-answers, answers-long, call-shows}
 use Rattle.demands.specs.Steps.{Step, Call, History, inForceAfter}
 use Rattle.map.specs.Asking.{Allowed}
 use Rattle.map.proofs.Calls.{once}
@@ -182,7 +182,7 @@ pub demand-3 : (n : ℕ) (steps : List Step) (l : Lent) (o : Left) → History n
 unfolding call
 demand-3 n steps l o h z =
     let k = h .1 in
-    let holds = subst (λ (w : List ℤ). Rattle.force.specs.Shows.Holds (read w) (inForceAfter steps)) (sym (h .0)) (history-holds n steps (h .2)) in
+    let holds = subst (λ (w : List ℤ). Rattle.in_force_laws.specs.Shows.Holds (read w) (inForceAfter steps)) (sym (h .0)) (history-holds n steps (h .2)) in
     rw (k .answers, k .found) (record {
       each = λ done q rest all window s v room. call-shows ours l ours-lawful (inForceAfter steps) holds (sym (k .number) ∙ z) done q rest all window s v room;
     })

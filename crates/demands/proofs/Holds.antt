@@ -14,16 +14,16 @@ use Rattle.rules.specs.Layout.{Blanked, rightLength, slotCount, words, read, bl
 use Rattle.rules.specs.Insert.{ours}
 use Rattle.rules.specs.Answers.{verdictNumber}
 use Rattle.rules.specs.Call.{Lent, Left, callFault, refused, served, callBy, call}
-use Rattle.laws.proofs.Orders.{never-both}
-use Rattle.trees.proofs.Same.{same-is}
-use Rattle.force.specs.Force.{forceAfter}
-use Rattle.force.specs.Shows.{Holds}
+use Rattle.rules_laws.proofs.Orders.{never-both}
+use Rattle.sound_laws.proofs.Same.{same-is}
+use Rattle.in_force_laws.specs.Force.{forceAfter}
+use Rattle.in_force_laws.specs.Shows.{Holds}
 use Rattle.demands.specs.Steps.{Blanks, Step, Blank, Call, poolAfter, History, inForceAfter}
 use Rattle.map.specs.Asking.{Allowed}
-use Rattle.laws.proofs.Splits.{ours-lawful}
-use Rattle.trees.proofs.Blank.{blank-whole}
-use Rattle.force.proofs.Written.{reads}
-use Rattle.force.proofs.Call.{left-refused, left-served, no-fault, call-force, call-pool, blank-holds}
+use Rattle.rules_laws.proofs.Splits.{ours-lawful}
+use Rattle.sound_laws.proofs.Blank.{blank-whole}
+use Rattle.in_force_laws.proofs.Written.{reads}
+use Rattle.in_force_laws.proofs.Call.{left-refused, left-served, no-fault, call-force, call-pool, blank-holds}
 
 -- ---- what blanking leaves
 

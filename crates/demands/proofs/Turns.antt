@@ -18,11 +18,11 @@ use Rattle.rules.specs.Insert.{ours, Change, Done, NoneFree, insertRecord}
 use Rattle.rules.specs.Delete.{deleteRecord, updateRecord}
 use Rattle.rules.specs.Answers.{answerOf}
 use Rattle.rules.specs.Request.{Turn, turn, afterChange, insertFault, deleteFault, updateFault, searchFault, request}
-use Rattle.laws.proofs.Orders.{never-both}
-use Rattle.trees.specs.Tree.{Whole}
-use Rattle.finding.proofs.Exact.{search-exact}
-use Rattle.force.proofs.Faults.{EachGiven, given-none, given-row}
-use Rattle.force.proofs.Change.{Refused, insert-refused, delete-refused, update-refused, insert-some, insert-none, delete-some, delete-none, update-some, update-none}
+use Rattle.rules_laws.proofs.Orders.{never-both}
+use Rattle.sound_laws.specs.Tree.{Whole}
+use Rattle.search_laws.proofs.Exact.{search-exact}
+use Rattle.in_force_laws.proofs.Faults.{EachGiven, given-none, given-row}
+use Rattle.in_force_laws.proofs.Change.{Refused, insert-refused, delete-refused, update-refused, insert-some, insert-none, delete-some, delete-none, update-some, update-none}
 use Rattle.demands.specs.Demands.{Accepted}
 
 -- a request is refused and changes nothing, or accepted and done

@@ -24,9 +24,9 @@ use Rattle.rules.specs.Delete.{deleteRecord, updateRecord}
 use Rattle.rules.specs.Answers.{answer, answerOf, verdictNumber}
 use Rattle.rules.specs.Request.{Turn, asked, request}
 use Rattle.rules.specs.Call.{Lent, Left, Batch, callFault, doRequests, starting}
-use Rattle.finding.specs.Window.{recordMeets}
-use Rattle.force.specs.Force.{forceAfter, filledAfter}
-use Rattle.force.specs.Batch.{meeting, Told}
+use Rattle.search_laws.specs.Window.{recordMeets}
+use Rattle.in_force_laws.specs.Force.{forceAfter, filledAfter}
+use Rattle.in_force_laws.specs.Batch.{meeting, Told}
 use Rattle.demands.specs.Steps.{Step, inForceAfter}
 use Rattle.map.specs.Asking.{Allowed}
 

@@ -11,7 +11,7 @@ use Rattle.rules.specs.Lists.{same}
 use Rattle.rules.specs.Pool.{blankPool}
 use Rattle.rules.specs.Layout.{Blanked, words, blank}
 use Rattle.rules.specs.Call.{Lent, Left}
-use Rattle.force.specs.Force.{forceAfter}
+use Rattle.in_force_laws.specs.Force.{forceAfter}
 use Rattle.map.specs.Asking.{Allowed}
 
 -- what `dustmap_blank` promises, of the words lent and of what it returns and leaves. (What `dustmap_call` promises is `Allowed` of crate map)

@@ -22,8 +22,8 @@ use Rattle.rules.specs.Answers.{answer, answerOf, firstRow}
 use Rattle.rules.specs.Request.{asked, request}
 use Rattle.rules.specs.Call.{Lent, Left, afterTurn, doRequest, doRequests, isRequest, callFault, served, starting, callBy, call}
 use Rattle.rules.specs.Frames.{frameCall, replyLines}
-use Rattle.items.specs.Items.{itemAt, itemsFrom}
-use Rattle.items.proofs.Words.{items-none, items-one, items-length, items-append}
+use Rattle.found_items.specs.Items.{itemAt, itemsFrom}
+use Rattle.found_items.proofs.Words.{items-none, items-one, items-length, items-append}
 use Rattle.request.specs.declared.Served.{Served}
 use Rattle.request.specs.Serving.{Serves}
 use Rattle.request.proofs.Sounds.{sound-fit}

@@ -6,7 +6,7 @@ use native.Mathlib.Omega.{arith}
 use lib.ListN.{length, take, drop, length-drop}
 use lib.Seq.{length-take-le}
 use lib.IntN.{ℤ}
-use Rattle.slots.specs.declared.FreeSlots.{FreeSlots}
+use Rattle.free_slots.specs.declared.FreeSlots.{FreeSlots}
 use Rattle.request.specs.Serving.{Ready}
 use Rattle.dustmap.specs.declared.Run.{Run}
 use Rattle.dustmap.specs.declared.Then.{Then}

@@ -9,7 +9,7 @@ use lib.Seq.{sets-eq, length-take-le, take-at, drop-drop, take-nil}
 use lib.IntN.{ℤ}
 use Rattle.rules.specs.declared.Request.{Request}
 use Rattle.rules.specs.Frames.{badLine}
-use Rattle.slots.specs.declared.FreeSlots.{FreeSlots}
+use Rattle.free_slots.specs.declared.FreeSlots.{FreeSlots}
 use Rattle.frames.specs.declared.Framed.the-variants as F
 use Rattle.frames.specs.Reading.{framed}
 use Rattle.frames.specs.Writing.{Wrote}

@@ -9,7 +9,7 @@ use Rattle.rules.specs.declared.Request.{Request}
 use Rattle.rules.specs.Pool.{number}
 use Rattle.rules.specs.Geometry.{noRect}
 use Rattle.rules.specs.Frames.{frameCall, dustmap}
-use Rattle.slots.specs.declared.FreeSlots.{FreeSlots}
+use Rattle.free_slots.specs.declared.FreeSlots.{FreeSlots}
 use Rattle.frames.specs.Writing.{Wrote}
 use Rattle.frames.specs.declared.Framed.the-variants as F
 use Rattle.frames.specs.Reading.{framed}

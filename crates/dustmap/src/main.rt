@@ -8,7 +8,7 @@ ghost use lib.Seq.{sets};
 ghost use Rattle.rules.specs.Pool.{number};
 ghost use Rattle.rules.specs.Call.{isRequest};
 ghost use Rattle.rules.specs.Frames as F;
-ghost use Rattle.items.specs.Items.{itemsFrom, Pointing};
+ghost use Rattle.found_items.specs.Items.{itemsFrom, Pointing};
 ghost use Rattle.request.specs.Serving.{Ready};
 ghost use Rattle.dustmap.specs.Running.{Stands, Onward, noRecord, Replies, Flushed, runOf, Came, Waited, Rounds};
 use frames::Framed;
@@ -18,7 +18,7 @@ use rules::Record;
 use rules::RecordNumber;
 use rules::Rect;
 use rules::Request;
-use slots::FreeSlots;
+use free_slots::FreeSlots;
 
 // "a 128-slot pool (5,384 words)"
 const WORDS: usize = 5384;
@@ -85,7 +85,7 @@ fn found_list(pool: &[i32], work: &[i32], listed: usize) -> [Record; 64]
     let mut found = [none; 64];
     let mut k: usize = 0;
     while k < shown {
-        found[k] = items::item(pool, work, k);
+        found[k] = found_items::item(pool, work, k);
         k += 1;
     }
     found
@@ -268,8 +268,8 @@ fn main() {
     let mut work = [0i32; WORDS];
     let mut input = io::large_buffer();
     let mut out = io::large_buffer();
-    slots::blank(&mut pool);
-    let free = slots::free_slots(&pool);
+    free_slots::blank(&mut pool);
+    let free = free_slots::free_slots(&pool);
     let mut run = Run {
         before: 0,
         free,

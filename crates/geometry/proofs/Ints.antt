@@ -11,7 +11,7 @@ use mir.Syntax.{w32, w64}
 use mir.Val.{SFits, toZ, ofZ}
 use mir.Facts.{toZ-ofZ, sfits-widen}
 use Rattle.rules.specs.Numbers.{inRange}
-use Rattle.laws.proofs.Bools.{and-both, leb-same}
+use Rattle.rules_laws.proofs.Bools.{and-both, leb-same}
 
 -- ---- differences of two naturals
 

@@ -25,12 +25,12 @@ use Rattle.rules.specs.Sound.{sound}
 use Rattle.rules.specs.Insert.{ours}
 use Rattle.rules.specs.Request.{Turn, asked, request}
 use Rattle.rules.specs.Call.{Lent, Batch, afterTurn, doRequest, doRequests, isRequest, callFault, starting}
-use Rattle.laws.proofs.Bools.{not-false}
-use Rattle.laws.proofs.Orders.{never-both}
-use Rattle.laws.proofs.Places.{at-place}
-use Rattle.trees.proofs.Tests.{every-is}
-use Rattle.force.proofs.Faults.{no-row}
-use Rattle.items.specs.Items.{itemsFrom, Pointing}
+use Rattle.rules_laws.proofs.Bools.{not-false}
+use Rattle.rules_laws.proofs.Orders.{never-both}
+use Rattle.rules_laws.proofs.Places.{at-place}
+use Rattle.sound_laws.proofs.Tests.{every-is}
+use Rattle.in_force_laws.proofs.Faults.{no-row}
+use Rattle.found_items.specs.Items.{itemsFrom, Pointing}
 use Rattle.request.specs.declared.Served.{Served}
 use Rattle.request.specs.Serving.{Ready, Serves}
 use Rattle.request.proofs.Sounds.{sound-fit}

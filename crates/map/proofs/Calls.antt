@@ -15,7 +15,7 @@ use Rattle.rules.specs.declared.Verdict.the-variants.{BadLists, BadLength, NotS
 use Rattle.rules.specs.Lists.{every}
 use Rattle.rules.specs.Answers.{verdictNumber}
 use Rattle.rules.specs.Call.{Lent, Left, isRequest, callFault, refused, served}
-use Rattle.force.proofs.Faults.{EachGiven, given-none, given-row}
+use Rattle.in_force_laws.proofs.Faults.{EachGiven, given-none, given-row}
 use Rattle.map.specs.Asking.{left, Allowed}
 use Rattle.map.specs.Batching.{numberOf, refusalOf, batchOf, Batched}
 use Rattle.map.proofs.Refusals.{refusal-is, call-number, call-refused, call-served}

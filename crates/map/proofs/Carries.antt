@@ -10,8 +10,8 @@ use lib.Seq.{sets, length-sets}
 use lib.WfN.{Nat·lt-wfRel}
 use lib.IntN.{ℤ}
 use Rattle.rules.specs.declared.Record.{Record}
-use Rattle.items.specs.Items.{itemAt, itemsFrom}
-use Rattle.items.proofs.Words.{items-none, items-one, items-length, items-append}
+use Rattle.found_items.specs.Items.{itemAt, itemsFrom}
+use Rattle.found_items.proofs.Words.{items-none, items-one, items-length, items-append}
 use Rattle.pool.proofs.Runs.{sets-more}
 
 -- k of n items are stored

@@ -22,10 +22,10 @@ use Rattle.rules.specs.Search.{found, foundIn, opened}
 use Rattle.rules.specs.Insert.{Choice, Change, Done, NoneFree, insertRecord}
 use Rattle.rules.specs.Delete.{deleteRecord, updateRecord}
 use Rattle.rules.specs.Request.{Turn, turn, afterChange, insertFault, deleteFault, updateFault, searchFault, request}
-use Rattle.finding.proofs.Order.{alike-length, ordered-alike}
+use Rattle.search_laws.proofs.Order.{alike-length, ordered-alike}
 use Rattle.pool.proofs.Parts.{right-size}
-use Rattle.force.proofs.Faults.{no-row}
-use Rattle.force.proofs.Change.{insert-some, insert-none, delete-some, delete-none, update-some, update-none}
+use Rattle.in_force_laws.proofs.Faults.{no-row}
+use Rattle.in_force_laws.proofs.Change.{insert-some, insert-none, delete-some, delete-none, update-some, update-none}
 use Rattle.request.proofs.Sounds.{sound-tree, found-few}
 
 -- there are places for what a turn lists, and two words for each in as many words

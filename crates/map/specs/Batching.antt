@@ -17,7 +17,7 @@ use Rattle.rules.specs.Sound.{sound}
 use Rattle.rules.specs.Answers.{verdictNumber, row, firstRow}
 use Rattle.rules.specs.Insert.{ours}
 use Rattle.rules.specs.Call.{Lent, Batch, starting, doRequests}
-use Rattle.slots.specs.Known.{Known}
+use Rattle.free_slots.specs.Known.{Known}
 use Rattle.request.specs.declared.Served.{Served}
 use Rattle.map.specs.declared.Progress.{Progress}
 use Rattle.map.specs.declared.Stepped.{Stepped}

@@ -11,14 +11,14 @@ ghost use Rattle.rules.specs.Lists.{every};
 ghost use Rattle.rules.specs.Numbers.{mostRequests};
 ghost use Rattle.rules.specs.Layout as L;
 ghost use Rattle.rules.specs.Call as C;
-ghost use Rattle.items.specs.Items.{itemsFrom, Pointing};
+ghost use Rattle.found_items.specs.Items.{itemsFrom, Pointing};
 ghost use Rattle.map.specs.Asking.{lent, left, nothingAsked, Allowed};
 ghost use Rattle.map.specs.Batching.{refusalOf, Begun, stepOf, batchOf, Batched};
 use request::Served;
 use rules::Answer;
 use rules::Record;
 use rules::Request;
-use slots::FreeSlots;
+use free_slots::FreeSlots;
 
 // How far a batch has come: the requests done, the places of the found list filled, and what is known of the free slots.
 struct Progress {
@@ -42,7 +42,7 @@ pub extern "C" fn dustmap_blank(pool: &mut [i32]) -> i32
     ensures number { λ r. ⌜ r ≡ pos (L.blank (now (pool .entry)) .number) ⌝ }
     ensures words { λ _. ⌜ now (pool .exit) ≡ L.blank (now (pool .entry)) .pool ⌝ }
 {
-    slots::blank(pool)
+    free_slots::blank(pool)
 }
 
 // What a call would return that asks nothing: 1 for a wrong length, 2 for a pool that is not sound, else 0. Nothing is written.
@@ -68,7 +68,7 @@ fn lists_fit(requests: usize, answers: usize) -> bool
 fn lengths_fit(pool: &[i32], workspace: usize) -> bool
     ensures { λ r. ⌜ not r ≡ (not (L.rightLength (now (pool .entry))) || not (eqb workspace (length (now (pool .entry))))) ⌝ }
 {
-    if !slots::right_length(pool) {
+    if !free_slots::right_length(pool) {
         return false;
     }
     workspace == pool.len()
@@ -131,7 +131,7 @@ fn carry(pool: &[i32], work: &[i32], n: usize, found: &mut [Record], at: usize)
 {
     let mut k: usize = 0;
     while k < n {
-        let r = items::item(pool, work, k);
+        let r = found_items::item(pool, work, k);
         found[at + k] = r;
         k += 1;
     }
@@ -142,7 +142,7 @@ fn begun(pool: &[i32]) -> Progress
     requires { ⌜ L.rightLength (now pool) ≡ true ⌝ }
     ensures { λ r. ⌜ Begun (now (pool .entry)) r ⌝ }
 {
-    let free = slots::free_slots(pool);
+    let free = free_slots::free_slots(pool);
     Progress {
         done: 0,
         filled: 0,

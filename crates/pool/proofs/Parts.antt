@@ -16,8 +16,8 @@ use Rattle.rules.specs.Geometry.{noRect}
 use Rattle.rules.specs.Choose.{rectFrom}
 use Rattle.rules.specs.Pool.{Node, Pool, rectangle, entry, noEntry, freeNode, nodeAt, entriesAt, entryFrom, entryAt, rects}
 use Rattle.rules.specs.Layout.{headSize, slotSize, slotCount, rightLength, natural, wordAt, runs, rectOf, entryOf, nodeOf, read, pointerOf}
-use Rattle.laws.proofs.Bools.{and-both}
-use Rattle.laws.proofs.Places.{getD-any}
+use Rattle.rules_laws.proofs.Bools.{and-both}
+use Rattle.rules_laws.proofs.Places.{getD-any}
 use Rattle.pool.specs.Slots.{InPool}
 
 -- ---- runs of a width

@@ -13,7 +13,7 @@ use Rattle.rules.specs.Lists.{joined}
 use Rattle.rules.specs.Choose.{rectFrom}
 use Rattle.rules.specs.Pool.{Node, Pool, node, rectangle, rects, freeNode, nodeAt, entriesAt, entryFrom, entryAt, putNode, putEntries}
 use Rattle.rules.specs.Layout.{entryWords, padded, nodeWords, headWords, words, wordAt, rectOf, read}
-use Rattle.laws.proofs.Places.{each-append}
+use Rattle.rules_laws.proofs.Places.{each-append}
 use Rattle.pool.specs.Slots.{InPool, Fit, spotOf}
 use Rattle.pool.proofs.Parts.{startOf, room, slotWords, slot-node, slot-rect, rect-entry}
 use Rattle.pool.proofs.Runs.{Wide, sets-right, sets-left, sets-all, sets-joined}

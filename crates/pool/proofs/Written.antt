@@ -16,7 +16,7 @@ use Rattle.rules.specs.declared.Entry.{Entry}
 use Rattle.rules.specs.Lists.{joined}
 use Rattle.rules.specs.Pool.{Node, Pool, slot, number, node, noEntry, childOf, isLeaf, putNode, putRoot, putRecords}
 use Rattle.rules.specs.Layout.{slotCount, rightLength, pointerWord, entryWords, padded, nodeWords, headWords, words, natural, wordAt, runs, rectOf, pointerOf, entryOf, nodeOf, read}
-use Rattle.laws.proofs.Places.{Each}
+use Rattle.rules_laws.proofs.Places.{Each}
 use Rattle.pool.specs.Slots.{InPool, Fit, KindAll}
 use Rattle.pool.proofs.Parts.{startOf, node-count, length-runs}
 use Rattle.pool.proofs.Runs.{Wide, length-joined, runs-joined, take-runs, sets-right, sets-all, sets-joined}

@@ -19,9 +19,9 @@ use Rattle.rules.specs.Insert.{ours}
 use Rattle.rules.specs.Answers.{answerOf}
 use Rattle.rules.specs.Request.{Turn, turn, request}
 use Rattle.pool.proofs.Parts.{right-size, few-slots}
-use Rattle.finding.proofs.Order.{alike-length, ordered-alike}
-use Rattle.slots.specs.declared.FreeSlots.{FreeSlots}
-use Rattle.items.specs.Items.{itemsFrom, Pointing}
+use Rattle.search_laws.proofs.Order.{alike-length, ordered-alike}
+use Rattle.free_slots.specs.declared.FreeSlots.{FreeSlots}
+use Rattle.found_items.specs.Items.{itemsFrom, Pointing}
 use Rattle.request.specs.declared.Served.{Served}
 use Rattle.request.specs.Serving.{Ready, Serves, Changes, replied}
 use Rattle.request.proofs.Sounds.{found-few, low-tree}

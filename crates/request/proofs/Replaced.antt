@@ -10,16 +10,16 @@ use Rattle.rules.specs.Layout.{read}
 use Rattle.rules.specs.Insert.{ours, Change, Done, NoneFree, insertRecord}
 use Rattle.rules.specs.Delete.{deleteRecord, updateRecord}
 use Rattle.pool.specs.Slots.{Fit}
-use Rattle.laws.proofs.Splits.{ours-lawful}
-use Rattle.trees.specs.Tree.{Whole}
-use Rattle.slots.specs.declared.FreeSlots.{FreeSlots}
-use Rattle.slots.specs.Known.{Known}
-use Rattle.shrinking.proofs.Delete.{delete-whole}
-use Rattle.shrinking.proofs.Update.{moved, update-done, update-none}
-use Rattle.inserting.specs.declared.Outcome.{Outcome}
-use Rattle.inserting.specs.declared.Outcome.the-variants.{Made, Refused}
-use Rattle.inserting.specs.Left.{Leaves}
-use Rattle.removing.specs.Removed.{Removes}
+use Rattle.rules_laws.proofs.Splits.{ours-lawful}
+use Rattle.sound_laws.specs.Tree.{Whole}
+use Rattle.free_slots.specs.declared.FreeSlots.{FreeSlots}
+use Rattle.free_slots.specs.Known.{Known}
+use Rattle.delete_laws.proofs.Delete.{delete-whole}
+use Rattle.delete_laws.proofs.Update.{moved, update-done, update-none}
+use Rattle.insert.specs.declared.Outcome.{Outcome}
+use Rattle.insert.specs.declared.Outcome.the-variants.{Made, Refused}
+use Rattle.insert.specs.Left.{Leaves}
+use Rattle.delete.specs.Removed.{Removes}
 
 -- the second half refused leaves what the first half left
 leaves-removes : (w v u : List ℤ) (c : Change) (o : Outcome) → length u ≡ length w → Leaves v c o u → Removes w c o u

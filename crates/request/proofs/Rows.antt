@@ -20,9 +20,9 @@ use Rattle.rules.specs.Insert.{ours, insertRecord}
 use Rattle.rules.specs.Delete.{deleteRecord, updateRecord}
 use Rattle.rules.specs.Answers.{firstRow}
 use Rattle.rules.specs.Request.{Turn, turn, afterChange, insertFault, deleteFault, updateFault, searchFault, request}
-use Rattle.trees.proofs.Same.{same-is}
+use Rattle.sound_laws.proofs.Same.{same-is}
 use Rattle.request.specs.Serving.{otherHeld}
-use Rattle.force.proofs.Change.{insert-some, insert-none, delete-some, delete-none, update-some, update-none}
+use Rattle.in_force_laws.proofs.Change.{insert-some, insert-none, delete-some, delete-none, update-some, update-none}
 
 -- ---- insert: 3, 4, 6
 

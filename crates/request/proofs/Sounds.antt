@@ -14,20 +14,20 @@ use Rattle.rules.specs.Pool.{Pool, nodeAt, entriesAt, slot, isLeaf, recordOf, s
 use Rattle.rules.specs.Layout.{rightLength, slotCount, words, read, sameWords}
 use Rattle.rules.specs.Sound.{nothingElse, soundPool, sound}
 use Rattle.rules.specs.Search.{foundIn}
-use Rattle.laws.proofs.Bools.{and-both, both-and}
-use Rattle.laws.proofs.Orders.{never-both}
-use Rattle.laws.proofs.Places.{Among, length-upFrom}
-use Rattle.laws.proofs.Parts.{those-all}
-use Rattle.trees.specs.Tree.{recordsAt, Whole}
-use Rattle.trees.proofs.Same.{same-is}
-use Rattle.trees.proofs.Joins.{length-joined}
-use Rattle.trees.proofs.Flat.{slots-are, stored-are}
-use Rattle.trees.proofs.Sound.{sound-whole, whole-sound}
-use Rattle.trees.proofs.Heights.{height-eight}
-use Rattle.finding.specs.Window.{recordMeets}
-use Rattle.finding.proofs.Lists.{count-fewer}
-use Rattle.finding.proofs.Order.{alike-length}
-use Rattle.finding.proofs.Found.{found-alike}
+use Rattle.rules_laws.proofs.Bools.{and-both, both-and}
+use Rattle.rules_laws.proofs.Orders.{never-both}
+use Rattle.rules_laws.proofs.Places.{Among, length-upFrom}
+use Rattle.rules_laws.proofs.Parts.{those-all}
+use Rattle.sound_laws.specs.Tree.{recordsAt, Whole}
+use Rattle.sound_laws.proofs.Same.{same-is}
+use Rattle.sound_laws.proofs.Joins.{length-joined}
+use Rattle.sound_laws.proofs.Flat.{slots-are, stored-are}
+use Rattle.sound_laws.proofs.Sound.{sound-whole, whole-sound}
+use Rattle.sound_laws.proofs.Heights.{height-eight}
+use Rattle.search_laws.specs.Window.{recordMeets}
+use Rattle.search_laws.proofs.Lists.{count-fewer}
+use Rattle.search_laws.proofs.Order.{alike-length}
+use Rattle.search_laws.proofs.Found.{found-alike}
 use Rattle.pool.specs.Slots.{Fit}
 use Rattle.pool.proofs.Parts.{few-slots, slot-few}
 use Rattle.pool.proofs.Written.{read-slots}

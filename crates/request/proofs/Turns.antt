@@ -23,20 +23,20 @@ use Rattle.rules.specs.Insert.{ours, Change, Done, NoneFree, insertRecord}
 use Rattle.rules.specs.Delete.{deleteRecord, updateRecord}
 use Rattle.rules.specs.Request.{Turn, turn, afterChange, request}
 use Rattle.pool.specs.Slots.{Fit}
-use Rattle.trees.specs.Tree.{Whole}
-use Rattle.slots.specs.declared.FreeSlots.{FreeSlots}
-use Rattle.slots.specs.Known.{Known}
-use Rattle.shrinking.specs.Shrunk.{EachPool, roomFor, deleteRoom}
-use Rattle.shrinking.proofs.Spare.{room-least}
-use Rattle.inserting.specs.declared.Outcome.{Outcome}
-use Rattle.inserting.specs.declared.Outcome.the-variants.{Made, Refused}
-use Rattle.inserting.specs.Left.{Holds, Leaves}
-use Rattle.removing.specs.Removed.{Removes}
+use Rattle.sound_laws.specs.Tree.{Whole}
+use Rattle.free_slots.specs.declared.FreeSlots.{FreeSlots}
+use Rattle.free_slots.specs.Known.{Known}
+use Rattle.delete_laws.specs.Shrunk.{EachPool, roomFor, deleteRoom}
+use Rattle.delete_laws.proofs.Spare.{room-least}
+use Rattle.insert.specs.declared.Outcome.{Outcome}
+use Rattle.insert.specs.declared.Outcome.the-variants.{Made, Refused}
+use Rattle.insert.specs.Left.{Holds, Leaves}
+use Rattle.delete.specs.Removed.{Removes}
 use Rattle.request.specs.Serving.{Ready, Changes, ChangesTo, replied, came, TakenBack, enoughFor, otherHeld}
-use Rattle.laws.proofs.Splits.{ours-lawful}
-use Rattle.growing.proofs.Whole.{insert-whole}
-use Rattle.shrinking.proofs.Delete.{delete-whole, delete-fits}
-use Rattle.shrinking.proofs.Update.{update-whole, update-fits}
+use Rattle.rules_laws.proofs.Splits.{ours-lawful}
+use Rattle.insert_laws.proofs.Whole.{insert-whole}
+use Rattle.delete_laws.proofs.Delete.{delete-whole, delete-fits}
+use Rattle.delete_laws.proofs.Update.{update-whole, update-fits}
 use Rattle.request.proofs.Rows.{insert-0, delete-0, update-0}
 use Rattle.request.proofs.Sounds.{sound-fit, sound-tree, fit-sound}
 

@@ -19,12 +19,12 @@ use Rattle.rules.specs.Sound.{sound}
 use Rattle.rules.specs.Answers.{answerOf}
 use Rattle.rules.specs.Insert.{ours}
 use Rattle.rules.specs.Request.{Turn, asked, request}
-use Rattle.slots.specs.declared.FreeSlots.{FreeSlots}
-use Rattle.slots.specs.Known.{Known}
-use Rattle.items.specs.Items.{itemsFrom, Pointing}
-use Rattle.shrinking.specs.Shrunk.{deleteRoom}
-use Rattle.inserting.specs.declared.Outcome.{Outcome}
-use Rattle.inserting.specs.declared.Outcome.the-variants.{Made, Refused}
+use Rattle.free_slots.specs.declared.FreeSlots.{FreeSlots}
+use Rattle.free_slots.specs.Known.{Known}
+use Rattle.found_items.specs.Items.{itemsFrom, Pointing}
+use Rattle.delete_laws.specs.Shrunk.{deleteRoom}
+use Rattle.insert.specs.declared.Outcome.{Outcome}
+use Rattle.insert.specs.declared.Outcome.the-variants.{Made, Refused}
 use Rattle.request.specs.declared.Served.{Served}
 
 -- a sound pool, and what is known of its free slots

@@ -15,13 +15,13 @@ ghost use Rattle.rules.specs.Answers as T;
 ghost use Rattle.rules.specs.Request as R;
 ghost use Rattle.rules.specs.Call.{isRequest};
 ghost use Rattle.pool.specs.Slots.{Fit};
-ghost use Rattle.slots.specs.Known.{Known};
-ghost use Rattle.trees.specs.Tree.{Whole};
-ghost use Rattle.leaf.specs.Ways.{Shows};
-ghost use Rattle.removing.specs.Removed.{Removes};
+ghost use Rattle.free_slots.specs.Known.{Known};
+ghost use Rattle.sound_laws.specs.Tree.{Whole};
+ghost use Rattle.find_leaf.specs.Ways.{Shows};
+ghost use Rattle.delete.specs.Removed.{Removes};
 ghost use Rattle.request.specs.Serving.{Ready, Serves, ChangesTo, ServesTo, replied, came, TakenBack, enoughFor, otherHeld};
-use inserting::Outcome;
-use leaf::Way;
+use insert::Outcome;
+use find_leaf::Way;
 use rules::Answer;
 use rules::Asked;
 use rules::Record;
@@ -29,7 +29,7 @@ use rules::RecordNumber;
 use rules::Rect;
 use rules::Reply;
 use rules::Request;
-use slots::FreeSlots;
+use free_slots::FreeSlots;
 
 // What a request came to: its answer, how many items wait in the workspace for the found list, and what is known of the free slots now.
 pub struct Served {
@@ -184,10 +184,10 @@ fn insert(pool: &mut [i32], r: Record, free: FreeSlots) -> Served
     if !good_number(number) {
         return told(Reply::BadNumber, free);
     }
-    if leaf::holds(pool, r) {
+    if find_leaf::holds(pool, r) {
         return told(Reply::Held, free);
     }
-    let o = inserting::insert_record(pool, r, free);
+    let o = insert::insert_record(pool, r, free);
     came_to(o, free)
 }
 
@@ -227,12 +227,12 @@ fn delete(pool: &mut [i32], work: &mut [i32], r: Record, free: FreeSlots) -> Ser
     if !good_number(number) {
         return told(Reply::BadNumber, free);
     }
-    let way = leaf::find_leaf(pool, r);
+    let way = find_leaf::find_leaf(pool, r);
     if !way.found {
         return told(Reply::NotHeld, free);
     }
     keep(pool, work, scarce(pool, free));
-    let o = removing::delete_record(pool, r, way, free);
+    let o = delete::delete_record(pool, r, way, free);
     take_back(pool, work, o);
     came_to(o, free)
 }
@@ -248,8 +248,8 @@ fn replace(pool: &mut [i32], old: Record, new: Rect, way: Way, free: FreeSlots) 
     ensures { λ o. ⌜ Removes (now (pool .entry)) (D.updateRecord I.ours (L.read (now (pool .entry))) old new) o (now (pool .exit)) ⌝ }
 {
     let number = old.number;
-    match removing::delete_record(pool, old, way, free) {
-        Outcome::Made(f) => inserting::insert_record(pool, Record { number, rect: new }, f),
+    match delete::delete_record(pool, old, way, free) {
+        Outcome::Made(f) => insert::insert_record(pool, Record { number, rect: new }, f),
         Outcome::Refused => Outcome::Refused,
     }
 }
@@ -265,7 +265,7 @@ fn other_held(pool: &[i32], old: Record, new: Rect) -> bool
         return false;
     }
     let number = old.number;
-    leaf::holds(pool, Record { number, rect: new })
+    find_leaf::holds(pool, Record { number, rect: new })
 }
 
 // 3, 4, 5 and 6, and then the one pair goes out and the other in.
@@ -286,7 +286,7 @@ fn update(pool: &mut [i32], work: &mut [i32], old: Record, new: Rect, free: Free
     if !good_number(number) {
         return told(Reply::BadNumber, free);
     }
-    let way = leaf::find_leaf(pool, old);
+    let way = find_leaf::find_leaf(pool, old);
     if !way.found {
         return told(Reply::NotHeld, free);
     }
@@ -324,7 +324,7 @@ fn search(
     if room < w.next {
         return told(Reply::NoRoom { found, opened }, free);
     }
-    sorting::sort(pool, work, w.next);
+    found_order::sort(pool, work, w.next);
     let answer = answer_of(Reply::Listed {
         found,
         start: filled as u32,

@@ -18,8 +18,8 @@ use Rattle.rules.specs.Search.{foundIn, openedIn, opened}
 use Rattle.pool.specs.Slots.{InPool, spotOf}
 use Rattle.pool.proofs.Parts.{slot-few}
 use Rattle.pool.proofs.Stores.{spot-inside, spot-entry}
-use Rattle.items.specs.Items.{spotAt, itemsFrom, Pointing}
-use Rattle.items.proofs.Words.{SameItems, put-before, spot-put, item-put, items-none, items-one, items-append, items-same, pointing-none, pointing-same, pointing-append}
+use Rattle.found_items.specs.Items.{spotAt, itemsFrom, Pointing}
+use Rattle.found_items.proofs.Words.{SameItems, put-before, spot-put, item-put, items-none, items-one, items-append, items-same, pointing-none, pointing-same, pointing-append}
 use Rattle.search.specs.declared.Walked.{Walked}
 use Rattle.search.specs.Walk.{Room, Went}
 use Rattle.search.proofs.Walks.{opened-most}

@@ -20,8 +20,8 @@ use Rattle.rules.specs.Pool.{Pool, rects, noEntry, entriesAt, entryFrom, entryA
 use Rattle.rules.specs.Layout.{rightLength, read}
 use Rattle.rules.specs.Search.{meeting, foundIn, openedIn}
 use Rattle.pool.proofs.Parts.{rect-entry}
-use Rattle.finding.proofs.Lists.{total-those}
-use Rattle.trees.proofs.Joins.{joined-those, total-zero}
+use Rattle.search_laws.proofs.Lists.{total-those}
+use Rattle.sound_laws.proofs.Joins.{joined-those, total-zero}
 use Rattle.search.specs.State.{openedBelow, heldBelow, foundBelow, openedFrom, foundFrom}
 use Rattle.search.proofs.Sums.{total-end, total-next, total-most, joined-end, joined-next, joined-ones}
 use Rattle.search.proofs.Nodes.{same-entries, most-entries}

@@ -7,7 +7,7 @@ use lib.ListN.{length}
 use lib.IntN.{ℤ}
 use Rattle.rules.specs.declared.Record.{Record}
 use Rattle.rules.specs.Layout.{wordAt}
-use Rattle.items.specs.Items.{itemsFrom, Pointing}
+use Rattle.found_items.specs.Items.{itemsFrom, Pointing}
 use Rattle.search.specs.declared.Walked.{Walked}
 
 -- the items have room, and the count stays below what 8 levels can open

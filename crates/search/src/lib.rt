@@ -10,7 +10,7 @@ ghost use Rattle.rules.specs.Layout as L;
 ghost use Rattle.rules.specs.Pool as P;
 ghost use Rattle.rules.specs.Search as F;
 ghost use Rattle.pool.specs.Slots.{InPool};
-ghost use Rattle.items.specs.Items.{itemsFrom, Pointing};
+ghost use Rattle.found_items.specs.Items.{itemsFrom, Pointing};
 ghost use Rattle.search.specs.State.{openedBelow, foundBelow, openedFrom, foundFrom};
 ghost use Rattle.search.specs.Walk.{Room, Went};
 use rules::Pointer;
@@ -98,7 +98,7 @@ fn list_record(pool: &[i32], s: SlotNumber, i: usize, items: &mut [i32], done: W
     let opened = done.opened;
     let n = number_at(pool, s, i);
     let spot = pool::spot(s, i);
-    items::put_item(items, at, n, spot);
+    found_items::put_item(items, at, n, spot);
     let next = at + 1;
     Walked { next, opened }
 }

@@ -11,8 +11,8 @@ use Rattle.rules.specs.Numbers.{mostSlots}
 use Rattle.rules.specs.Pool.{slotNumbers}
 use Rattle.rules.specs.Layout.{read}
 use Rattle.rules.specs.Sound.{sound, soundPool, shapeSound, nothingElse, usedSound}
-use Rattle.trees.proofs.Sound.{sound-whole}
-use Rattle.trees.proofs.Heights.{height-eight}
+use Rattle.sound_laws.proofs.Sound.{sound-whole}
+use Rattle.sound_laws.proofs.Heights.{height-eight}
 
 module _ (w : List ℤ) where
   sound-is : sound w ≡ (nothingElse w && soundPool (read w))

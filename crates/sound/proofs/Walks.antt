@@ -16,8 +16,8 @@ use Rattle.rules.specs.Geometry.{noRect, coverAll, sameRect}
 use Rattle.rules.specs.Pool.{Pool, slot, noEntry, slotNumbers, nodeAt, entriesAt, childOf, rects, coverOf}
 use Rattle.rules.specs.Layout.{rightLength, read}
 use Rattle.rules.specs.Sound.{isSlot, leafEntrySound, innerEntrySound, nodeSound, inUse, usedSound}
-use Rattle.laws.proofs.Bools.{and-both}
-use Rattle.laws.proofs.Places.{length-upFrom, getD-upFrom}
+use Rattle.rules_laws.proofs.Bools.{and-both}
+use Rattle.rules_laws.proofs.Places.{length-upFrom, getD-upFrom}
 use Rattle.pool.specs.Slots.{InPool}
 use Rattle.pool.proofs.Written.{read-slots}
 use Rattle.sound.specs.State.{innerSound}

@@ -71,7 +71,7 @@ fn cover_at(pool: &[i32], s: SlotNumber) -> Rect
             highY: 0,
         };
     }
-    slots::cover_of(pool, s)
+    free_slots::cover_of(pool, s)
 }
 
 // "its pointer is a slot from 1 to N whose node is .. one level lower, and its rectangle is the smallest holding that node's entries"
@@ -175,7 +175,7 @@ pub fn sound(pool: &[i32]) -> bool
     if !tidy::tidy(pool) {
         return false;
     }
-    if !shape::shaped(pool) {
+    if !sound_shape::shaped(pool) {
         return false;
     }
     if 8 < pool::height_of(pool) {

@@ -18,7 +18,7 @@ use Rattle.rules.specs.Split.{preference, mostPreferring}
 use Rattle.geometry.proofs.Ints.{sub-pos, sub-neg, pos-minus}
 use Rattle.split.specs.declared.Next.{Next}
 use Rattle.split.specs.State.{prefersMore, widerNext, unjoined, firstOf}
-use Rattle.laws.proofs.Turns.{best-nil, best-cons}
+use Rattle.rules_laws.proofs.Turns.{best-nil, best-cons}
 
 -- the difference of two naturals, without its sign
 pub abs-minus : (x y : ℕ) → natAbs (pos x -ℤ pos y) ≡ (x - y) + (y - x)

@@ -10,11 +10,11 @@ use lib.ListN.{length}
 use Rattle.rules.specs.declared.Rect.{Rect}
 use Rattle.rules.specs.Lists.{earliestBest, upFrom}
 use Rattle.rules.specs.Split.{Seeds, seeds, pairsFrom, wasteOf, pickSeeds}
-use Rattle.laws.proofs.Earliest.{best-append}
+use Rattle.rules_laws.proofs.Earliest.{best-append}
 use Rattle.geometry.proofs.Measures.{waste-lt}
 use Rattle.split.specs.declared.Pair.{Pair}
 use Rattle.split.specs.State.{Keyed, wastesMore, placesOf}
-use Rattle.laws.proofs.Turns.{best-nil, best-cons, up-more, up-none}
+use Rattle.rules_laws.proofs.Turns.{best-nil, best-cons, up-more, up-none}
 
 -- the pair that the code keeps
 abbrev pub kept : Pair → Pair → Pair

@@ -8,7 +8,7 @@ use lib.Seq.{sets}
 use lib.IntN.{ℤ}
 use borrow.Author.Needs.{needs}
 use Rattle.rules.specs.declared.Record.{Record}
-use Rattle.items.specs.Items.{itemsFrom}
+use Rattle.found_items.specs.Items.{itemsFrom}
 use Rattle.dustmap.specs.Running.{noRecord}
 use Rattle.dustmap.proofs.Calls.{found-none, found-more}
 use native.Mathlib.Omega.{arith}

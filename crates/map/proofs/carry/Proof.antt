@@ -53,12 +53,12 @@ use Rattle.rules.specs.declared.Record.{Record}
 use Rattle.rules.proofs.Record as F
 use Rattle.rules.proofs.Record.Laws as F′
 use lib.Seq.{sets}
-use Rattle.items.specs.Items.{itemAt, itemsFrom, spotAt, Pointing}
+use Rattle.found_items.specs.Items.{itemAt, itemsFrom, spotAt, Pointing}
 use Rattle.map.proofs.Carries.{Upto, ≺, wf, start, next, less, stored, stored-long, stored-none, stored-more}
-use Rattle.items.proofs.item as item
-use Rattle.items.proofs.item.Symbol as item-def
-use Rattle.items.proofs.item.Symbol.{name as #items·item}
-use Rattle.items.proofs.item.Met as item-thm
+use Rattle.found_items.proofs.item as item
+use Rattle.found_items.proofs.item.Symbol as item-def
+use Rattle.found_items.proofs.item.Symbol.{name as #items·item}
+use Rattle.found_items.proofs.item.Met as item-thm
 use Rattle.map.proofs.carry.Key.{name as #map·carry}
 use Rattle.map.proofs.carry as carry′
 use Rattle.map.proofs.carry.Statement as stated

@@ -1,11 +1,11 @@
 use mathlib.Core.Path.{sym, _∙_}
-use Rattle.laws.proofs.Bools.{not-true, not-false}
+use Rattle.rules_laws.proofs.Bools.{not-true, not-false}
 use borrow.Author.Needs.{needs}
 use Rattle.map.proofs.lengths_fit.Statement.{statement}
 use Rattle.map.proofs.lengths_fit.Tie as tie
 use Rattle.map.proofs.lengths_fit.Reads as reads
 use Rattle.map.proofs.lengths_fit.Lts as lts
-use Rattle.slots.proofs.right_length.Reads as right-length-reads
+use Rattle.free_slots.proofs.right_length.Reads as right-length-reads
 
 -- src/lib.rt:71:9
 right-length-requires : tie.Need-right-length-requires

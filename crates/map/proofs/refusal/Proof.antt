@@ -2,7 +2,7 @@ use mathlib.Core.Path.{sym, _∙_}
 use lib.Dec.{eqb}
 use lib.ListN.{length}
 use Rattle.rules.specs.Layout.{rightLength}
-use Rattle.laws.proofs.Bools.{not-true, not-false}
+use Rattle.rules_laws.proofs.Bools.{not-true, not-false}
 use Rattle.map.proofs.Refusals.{bad-lists, bad-length, right-first, not-sound, no-request, none-refuses}
 use borrow.Author.Needs.{needs}
 use Rattle.map.proofs.refusal.Statement.{statement}

@@ -63,9 +63,9 @@ use Rattle.rules.proofs.Record.Laws as F′
 use Rattle.request.specs.declared.Served.{Served}
 use Rattle.request.proofs.Served as D
 use Rattle.request.proofs.Served.Laws as D′
-use Rattle.slots.specs.declared.FreeSlots.{FreeSlots}
-use Rattle.slots.proofs.FreeSlots as S
-use Rattle.slots.proofs.FreeSlots.Laws as S′
+use Rattle.free_slots.specs.declared.FreeSlots.{FreeSlots}
+use Rattle.free_slots.proofs.FreeSlots as S
+use Rattle.free_slots.proofs.FreeSlots.Laws as S′
 use Rattle.map.specs.declared.Progress.{Progress}
 use Rattle.map.proofs.Progress as K
 use Rattle.map.proofs.Progress.Laws as K′
@@ -75,7 +75,7 @@ use Rattle.map.proofs.Stepped.Laws as T′
 use lib.Seq.{sets}
 use mathlib.Core.WellFounded.{WellFounded, InvImage·wf}
 use Rattle.rules.specs.Call.{Lent, callFault}
-use Rattle.items.specs.Items.{itemsFrom}
+use Rattle.found_items.specs.Items.{itemsFrom}
 use Rattle.map.specs.Asking.{lent as lentOf}
 use Rattle.map.specs.Batching.{Begun, stepOf, batchOf, Batched}
 use Rattle.map.proofs.Asks.{none as nothing-asked}

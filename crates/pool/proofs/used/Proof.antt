@@ -1,7 +1,7 @@
 use native.Mathlib.Omega.{arith}
 use borrow.Author.Tests.{lt-ltb, le-ltb}
 use Rattle.rules.specs.Pool.{noEntry}
-use Rattle.laws.proofs.Places.{getD-any}
+use Rattle.rules_laws.proofs.Places.{getD-any}
 use borrow.Author.Needs.{needs}
 use Rattle.pool.proofs.used.Statement.{statement}
 use Rattle.pool.proofs.used.Tie as tie

@@ -1,8 +1,8 @@
 use mathlib.Core.Path.{refl, sym, _∙_}
-use Rattle.laws.proofs.Bools.{not-true, not-false}
+use Rattle.rules_laws.proofs.Bools.{not-true, not-false}
 use Rattle.rules.specs.declared.Asked.the-variants.{Delete}
 use Rattle.rules.specs.declared.Reply.the-variants.{BadRectangle, BadNumber, NotHeld}
-use Rattle.leaf.proofs.Held.{shows-held}
+use Rattle.find_leaf.proofs.Held.{shows-held}
 use Rattle.request.proofs.Turns.{ready-fit, ready-whole, off, delete-made}
 use Rattle.request.proofs.Sounds.{low-tree}
 use Rattle.request.proofs.Rows.{delete-3, delete-4, delete-5}
@@ -12,8 +12,8 @@ use Rattle.request.proofs.delete.Tie as tie
 use Rattle.request.proofs.delete.Reads as reads
 use Rattle.request.proofs.delete.Lts as lts
 use Rattle.geometry.proofs.valid.Reads as valid-reads
-use Rattle.leaf.proofs.find_leaf.Reads as find-leaf-reads
-use Rattle.removing.proofs.delete_record.Reads as delete-record-reads
+use Rattle.find_leaf.proofs.find_leaf.Reads as find-leaf-reads
+use Rattle.delete.proofs.delete_record.Reads as delete-record-reads
 use Rattle.request.proofs.came_to.Reads as came-to-reads
 use Rattle.request.proofs.good_number.Reads as good-number-reads
 use Rattle.request.proofs.keep.Reads as keep-reads

@@ -1,7 +1,7 @@
 use Rattle.rules.specs.declared.Asked.the-variants.{Insert}
 use Rattle.request.proofs.Turns.{ready-fit, ready-whole, off, insert-made}
 use mathlib.Core.Path.{sym, _∙_}
-use Rattle.laws.proofs.Bools.{not-true, not-false}
+use Rattle.rules_laws.proofs.Bools.{not-true, not-false}
 use Rattle.rules.specs.declared.Reply.the-variants.{BadRectangle, BadNumber, Held}
 use Rattle.request.proofs.Rows.{insert-3, insert-4, insert-6}
 use Rattle.request.proofs.Turns.{ready-fit, ready-whole, off, insert-made}
@@ -11,8 +11,8 @@ use Rattle.request.proofs.insert.Tie as tie
 use Rattle.request.proofs.insert.Reads as reads
 use Rattle.request.proofs.insert.Lts as lts
 use Rattle.geometry.proofs.valid.Reads as valid-reads
-use Rattle.inserting.proofs.insert_record.Reads as insert-record-reads
-use Rattle.leaf.proofs.holds.Reads as holds-reads
+use Rattle.insert.proofs.insert_record.Reads as insert-record-reads
+use Rattle.find_leaf.proofs.holds.Reads as holds-reads
 use Rattle.request.proofs.came_to.Reads as came-to-reads
 use Rattle.request.proofs.good_number.Reads as good-number-reads
 use Rattle.request.proofs.told.Reads as told-reads

@@ -1,6 +1,6 @@
 use mathlib.Core.Path.{refl, ap, _∙_}
 use lib.ListN.{length}
-use Rattle.laws.proofs.Orders.{never-both}
+use Rattle.rules_laws.proofs.Orders.{never-both}
 use borrow.Author.Needs.{needs}
 use Rattle.request.proofs.keep.Statement.{statement}
 use Rattle.request.proofs.keep.Tie as tie

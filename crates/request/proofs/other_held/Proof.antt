@@ -6,7 +6,7 @@ use Rattle.request.proofs.other_held.Tie as tie
 use Rattle.request.proofs.other_held.Reads as reads
 use Rattle.request.proofs.other_held.Lts as lts
 use Rattle.geometry.proofs.same_rect.Reads as same-rect-reads
-use Rattle.leaf.proofs.holds.Reads as holds-reads
+use Rattle.find_leaf.proofs.holds.Reads as holds-reads
 
 -- src/lib.rt:172:8
 same-rect-requires : tie.Need-same-rect-requires

@@ -4,8 +4,8 @@ use Rattle.request.proofs.replace.Statement.{statement}
 use Rattle.request.proofs.replace.Tie as tie
 use Rattle.request.proofs.replace.Reads as reads
 use Rattle.request.proofs.replace.Lts as lts
-use Rattle.inserting.proofs.insert_record.Reads as insert-record-reads
-use Rattle.removing.proofs.delete_record.Reads as delete-record-reads
+use Rattle.insert.proofs.insert_record.Reads as insert-record-reads
+use Rattle.delete.proofs.delete_record.Reads as delete-record-reads
 
 -- src/lib.rt:221:11
 delete-record-requires : tie.Need-delete-record-requires

@@ -1,9 +1,9 @@
 use mathlib.Core.Path.{sym, _∙_}
 use native.Mathlib.Omega.{arith}
-use Rattle.laws.proofs.Bools.{not-true, not-false}
+use Rattle.rules_laws.proofs.Bools.{not-true, not-false}
 use Rattle.request.proofs.Listing.{walk-room, walk-small, ready-low, search-bad, search-full, search-done}
 use mathlib.Core.Path.{subst}
-use Rattle.items.specs.Items.{Pointing}
+use Rattle.found_items.specs.Items.{Pointing}
 use borrow.Author.Needs.{needs}
 use Rattle.request.proofs.search.Statement.{statement}
 use Rattle.request.proofs.search.Tie as tie
@@ -13,7 +13,7 @@ use Rattle.geometry.proofs.valid.Reads as valid-reads
 use Rattle.request.proofs.answer_of.Reads as answer-of-reads
 use Rattle.request.proofs.told.Reads as told-reads
 use Rattle.search.proofs.list.Reads as list-reads
-use Rattle.sorting.proofs.sort.Reads as sort-reads
+use Rattle.found_order.proofs.sort.Reads as sort-reads
 
 -- src/lib.rt:185:9
 valid-requires : tie.Need-valid-requires

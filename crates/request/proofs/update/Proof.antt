@@ -1,8 +1,8 @@
 use mathlib.Core.Path.{refl, sym, _∙_}
-use Rattle.laws.proofs.Bools.{not-true, not-false}
+use Rattle.rules_laws.proofs.Bools.{not-true, not-false}
 use Rattle.rules.specs.declared.Asked.the-variants.{Update}
 use Rattle.rules.specs.declared.Reply.the-variants.{BadRectangle, BadNumber, NotHeld, Held}
-use Rattle.leaf.proofs.Held.{shows-held}
+use Rattle.find_leaf.proofs.Held.{shows-held}
 use Rattle.request.proofs.Turns.{ready-fit, ready-whole, off, update-made}
 use Rattle.request.proofs.Sounds.{low-tree}
 use Rattle.request.proofs.Rows.{update-old, update-new, update-4, update-5, update-6}
@@ -12,7 +12,7 @@ use Rattle.request.proofs.update.Tie as tie
 use Rattle.request.proofs.update.Reads as reads
 use Rattle.request.proofs.update.Lts as lts
 use Rattle.geometry.proofs.valid.Reads as valid-reads
-use Rattle.leaf.proofs.find_leaf.Reads as find-leaf-reads
+use Rattle.find_leaf.proofs.find_leaf.Reads as find-leaf-reads
 use Rattle.request.proofs.came_to.Reads as came-to-reads
 use Rattle.request.proofs.good_number.Reads as good-number-reads
 use Rattle.request.proofs.keep.Reads as keep-reads

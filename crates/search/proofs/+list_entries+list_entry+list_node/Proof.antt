@@ -6,7 +6,7 @@ use lib.ListN.{length}
 use Rattle.rules.specs.Pool.{entriesAt, entryAt}
 use Rattle.rules.specs.Layout.{read}
 use Rattle.rules.specs.Search.{foundIn, openedIn}
-use Rattle.laws.proofs.Bools.{not-true, not-false}
+use Rattle.rules_laws.proofs.Bools.{not-true, not-false}
 use Rattle.search.specs.State.{openedBelow, foundBelow, openedFrom, foundFrom}
 use Rattle.search.proofs.Nodes.{some-within, most-entries}
 use Rattle.search.proofs.Steps.{room-same, room-first, room-rest, room-opens, went-same, went-none, went-both, went-opens}

@@ -6,7 +6,7 @@ use Rattle.search.proofs.list_record.Statement.{statement}
 use Rattle.search.proofs.list_record.Tie as tie
 use Rattle.search.proofs.list_record.Reads as reads
 use Rattle.search.proofs.list_record.Lts as lts
-use Rattle.items.proofs.put_item.Reads as put-item-reads
+use Rattle.found_items.proofs.put_item.Reads as put-item-reads
 use Rattle.pool.proofs.spot.Reads as spot-reads
 use Rattle.search.proofs.number_at.Reads as number-at-reads
 

@@ -5,7 +5,7 @@ use native.Mathlib.Omega.{arith}
 use Rattle.rules.specs.Pool.{entriesAt, entryAt, entryFrom}
 use Rattle.rules.specs.Layout.{read}
 use Rattle.rules.specs.Sound.{nodeSound}
-use Rattle.laws.proofs.Bools.{not-true, not-false}
+use Rattle.rules_laws.proofs.Bools.{not-true, not-false}
 use Rattle.sound.specs.State.{innerSound}
 use Rattle.sound.proofs.Everies.{every-none}
 use Rattle.sound.proofs.Walks.{slot-in, fits-slot, entry-fails, node-fails, both-hold, node-none, node-leaf, node-inner}

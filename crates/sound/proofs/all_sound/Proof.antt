@@ -9,7 +9,7 @@ use Rattle.rules.specs.Lists.{every}
 use Rattle.rules.specs.Pool.{slot, slotNumbers}
 use Rattle.rules.specs.Layout.{read}
 use Rattle.rules.specs.Sound.{usedSound}
-use Rattle.laws.proofs.Bools.{not-true, not-false}
+use Rattle.rules_laws.proofs.Bools.{not-true, not-false}
 use Rattle.pool.proofs.Written.{read-slots}
 use Rattle.sound.proofs.Everies.{every-fails, every-goes, every-none}
 use Rattle.sound.proofs.Walks.{slots-size, slots-at}

@@ -7,7 +7,7 @@ use Rattle.sound.proofs.cover_at.Tie as tie
 use Rattle.sound.proofs.cover_at.Reads as reads
 use Rattle.sound.proofs.cover_at.Lts as lts
 use Rattle.pool.proofs.count_of.Reads as count-of-reads
-use Rattle.slots.proofs.cover_of.Reads as cover-of-reads
+use Rattle.free_slots.proofs.cover_of.Reads as cover-of-reads
 
 -- src/lib.rt:67:8
 count-of-requires : tie.Need-count-of-requires

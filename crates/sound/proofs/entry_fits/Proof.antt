@@ -3,7 +3,7 @@ use borrow.Author.Tests.{eq-eqb, ne-eqb}
 use Rattle.rules.specs.Pool.{nodeAt}
 use Rattle.rules.specs.Layout.{read}
 use Rattle.rules.specs.Sound.{isSlot}
-use Rattle.laws.proofs.Bools.{not-true, not-false}
+use Rattle.rules_laws.proofs.Bools.{not-true, not-false}
 use Rattle.sound.proofs.Walks.{slot-in}
 use borrow.Author.Needs.{needs}
 use Rattle.sound.proofs.entry_fits.Statement.{statement}

@@ -9,7 +9,7 @@ use Rattle.rules.specs.Lists.{every}
 use Rattle.rules.specs.Pool.{noEntry, entriesAt, entryAt, entryFrom}
 use Rattle.rules.specs.Layout.{read}
 use Rattle.rules.specs.Sound.{leafEntrySound}
-use Rattle.laws.proofs.Bools.{not-true, not-false}
+use Rattle.rules_laws.proofs.Bools.{not-true, not-false}
 use Rattle.sound.proofs.Everies.{every-fails, every-goes, every-none}
 use Rattle.sound.proofs.leaf_sound.Statement.{statement}
 use Rattle.sound.proofs.leaf_sound.Tie as tie

@@ -1,5 +1,5 @@
 use mathlib.Core.Path.{sym, _∙_}
-use Rattle.laws.proofs.Bools.{not-true, not-false}
+use Rattle.rules_laws.proofs.Bools.{not-true, not-false}
 use Rattle.pool.proofs.Parts.{few-slots}
 use Rattle.pool.proofs.Written.{read-slots}
 use Rattle.sound.proofs.Tops.{not-tidy, not-shaped, too-high, tidy-shaped}
@@ -9,7 +9,7 @@ use Rattle.sound.proofs.sound.Tie as tie
 use Rattle.sound.proofs.sound.Reads as reads
 use Rattle.sound.proofs.sound.Lts as lts
 use Rattle.pool.proofs.height_of.Reads as height-of-reads
-use Rattle.shape.proofs.shaped.Reads as shaped-reads
+use Rattle.sound_shape.proofs.shaped.Reads as shaped-reads
 use Rattle.tidy.proofs.tidy.Reads as tidy-reads
 use Rattle.sound.proofs.all_sound.Reads as all-sound-reads
 

@@ -1,6 +1,6 @@
 use mathlib.Core.Bool.{Bool, false}
 use lib.ListN.{length, getD, drop}
-use Rattle.laws.proofs.Bools.{not-true, not-false}
+use Rattle.rules_laws.proofs.Bools.{not-true, not-false}
 use Rattle.split.proofs.Nexts.{first-here, first-later, first-never}
 use borrow.Author.Needs.{needs}
 use mathlib.Core.Path.{_≡_, sym, _∙_}

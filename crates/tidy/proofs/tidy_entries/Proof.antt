@@ -9,7 +9,7 @@ use Rattle.rules.specs.declared.Entry.{Entry}
 use Rattle.rules.specs.Lists.{joined}
 use Rattle.rules.specs.Pool.{noEntry, entriesAt, entryAt, entryFrom}
 use Rattle.rules.specs.Layout.{entryWords, read}
-use Rattle.laws.proofs.Bools.{not-true, not-false}
+use Rattle.rules_laws.proofs.Bools.{not-true, not-false}
 use Rattle.pool.proofs.Parts.{startOf, room, slot-few}
 use Rattle.tidy.specs.Words.{stand}
 use Rattle.tidy.proofs.Stand.{parts-on, parts-stop, parts-end}

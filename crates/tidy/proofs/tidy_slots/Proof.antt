@@ -7,7 +7,7 @@ use lib.IntN.{ℤ}
 use Rattle.rules.specs.Lists.{joined}
 use Rattle.rules.specs.Pool.{freeNode, nodeAt}
 use Rattle.rules.specs.Layout.{slotCount, nodeWords, read}
-use Rattle.laws.proofs.Bools.{not-true, not-false}
+use Rattle.rules_laws.proofs.Bools.{not-true, not-false}
 use Rattle.pool.proofs.Parts.{right-size, few-slots}
 use Rattle.pool.proofs.Written.{node-size, read-slots}
 use Rattle.tidy.specs.Words.{stand}

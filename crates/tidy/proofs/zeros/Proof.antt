@@ -5,7 +5,7 @@ use mathlib.Core.List.{List}
 use Prim.Native.Nat.{ℕ, _-_, _≤_}
 use lib.ListN.{replicate}
 use lib.IntN.{ℤ, pos}
-use Rattle.laws.proofs.Bools.{not-true, not-false}
+use Rattle.rules_laws.proofs.Bools.{not-true, not-false}
 use Rattle.tidy.specs.Words.{stand}
 use Rattle.tidy.proofs.Stand.{zeros-on, zeros-stop, zeros-end}
 use Rattle.tidy.proofs.zeros.Statement.{statement}

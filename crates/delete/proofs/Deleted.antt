@@ -1,0 +1,192 @@
+-- Delete as the code has it: the count, CondenseTree, the entries set aside, the root. Each step leaves what the next one asks.
+use mathlib.Core.Path.{_≡_, refl, sym, ap, subst, subst₂, _∙_}
+use mathlib.Core.Bool.{true}
+use mathlib.Core.List.{List, []}
+use mathlib.Core.Option.{Option, none, some}
+use Prim.Native.Nat.{ℕ, _-_, _≤_}
+use native.Mathlib.Omega.{arith}
+use lib.ListN.{length}
+use lib.IntN.{ℤ}
+use Rattle.rules.specs.declared.Record.{Record}
+use Rattle.rules.specs.Pool.{Pool, stored, putRecords}
+use Rattle.rules.specs.Layout.{read}
+use Rattle.rules.specs.Insert.{Change, Done, NoneFree, ours}
+use Rattle.rules.specs.Delete.{Path, Condensed, findLeaf, condense, shorten, shortened, reinsert, deleteRecord}
+use Rattle.rules_laws.proofs.Orders.{never-both}
+use Rattle.rules_laws.proofs.Splits.{ours-lawful}
+use Rattle.rules_laws.proofs.Parts.{counted, those-all}
+use Rattle.pool.specs.Slots.{Fit}
+use Rattle.free_slots.specs.declared.FreeSlots.{FreeSlots}
+use Rattle.free_slots.specs.Known.{Known}
+use Rattle.free_slots.proofs.Known.{known-records}
+use Rattle.sound_laws.specs.Tree.{Whole}
+use Rattle.sound_laws.proofs.Heights.{height-eight}
+use Rattle.insert_laws.specs.Standing.{Standing}
+use Rattle.insert_laws.proofs.Standing.{standing-once}
+use Rattle.delete_laws.specs.Way.{Leads, EachWay, Found}
+use Rattle.delete_laws.specs.Shrunk.{Shrunk, Waiting, PutBack, EachPool}
+use Rattle.delete_laws.proofs.Finds.{find-leads}
+use Rattle.delete_laws.proofs.Held.{held-is, find-held}
+use Rattle.delete_laws.proofs.Again.{reinsert-puts}
+use Rattle.delete_laws.proofs.Delete.{short-done, short-none, back-is, stands, way-there, out, out-is, shrunk, waiting, delete-some}
+use Rattle.find_leaf.specs.declared.Way.{Way}
+use Rattle.find_leaf.specs.Ways.{placesOf, Long, Shows}
+use Rattle.insert.specs.declared.Outcome.{Outcome}
+use Rattle.insert.specs.declared.Outcome.the-variants.{Made, Refused}
+use Rattle.insert.specs.Left.{Holds}
+use Rattle.insert.proofs.Records.{records-few}
+use Rattle.delete.specs.declared.Asides.{Asides}
+use Rattle.delete.specs.Removed.{Removes}
+use Rattle.delete.specs.Aside.{asidesOf, Has, ComesDown}
+use Rattle.delete.proofs.Nodes.{few-read}
+use Rattle.delete.proofs.Listed.{listed-length}
+
+shows-some : (o : Option Path) (l : ℕ) (way : Way) → way .found ≡ true → Shows o l way → (o ≡ some (placesOf l way)) × Long way
+shows-some none l way t h = never-both t (h .0)
+shows-some (some path) l way t h = (ap some (sym (h .1)), h .2)
+
+-- a change that was made
+removes-made : (Good : Pool → Type 0) (v : List ℤ) (f : FreeSlots) (w : List ℤ) (c : Change) → EachPool Good c → Removes v c (Made f) w
+    → (q : Pool) × (c ≡ Done q) × Good q × Holds q f w
+removes-made Good v f w (Done q) g h = (q, refl, g, h)
+removes-made Good v f w NoneFree g h = absurd h
+
+removes-none : (v w : List ℤ) (c : Change) → Removes v c Refused w → c ≡ NoneFree
+removes-none v w (Done q) h = absurd h
+removes-none v w NoneFree h = refl
+
+-- ---- the steps
+
+-- what a delete is asked with
+pub record Asked (w₀ : List ℤ) (r : Record) (way : Way) : Type 0 where
+  pub fit : Fit w₀
+  pub whole : Whole (read w₀)
+  pub found : way .found ≡ true
+  pub shows : Shows (findLeaf (read w₀) r (read w₀ .height) (read w₀ .root)) (read w₀ .height) way
+
+-- .. and w₁ is w₀ with a record counted off, h its height
+pub record CountedOff (w₀ : List ℤ) (h : ℕ) (w₁ : List ℤ) : Type 0 where
+  pub level : h ≡ read w₀ .height
+  pub less : read w₁ ≡ putRecords (read w₀) (read w₀ .records - 1)
+
+pub counted-off : (w₀ : List ℤ) (n : ℕ) → n ≡ read w₀ .records → (h : ℕ) → h ≡ read w₀ .height → (w₁ : List ℤ) → read w₁ ≡ putRecords (read w₀) (n - 1)
+    → CountedOff w₀ h w₁
+counted-off w₀ n en h eh w₁ e = record { level = eh; less = e ∙ ap (λ (k : ℕ). putRecords (read w₀) (k - 1)) en }
+
+module _ {w₀ : List ℤ} {r : Record} {way : Way} (g : Asked w₀ r way) where
+  abbrev p : Pool
+  p = read w₀
+
+  abbrev path : Path
+  path = placesOf (p .height) way
+
+  abbrev less : Pool
+  less = putRecords p (p .records - 1)
+
+  finds : findLeaf p r (p .height) (p .root) ≡ some path
+  finds = shows-some (findLeaf p r (p .height) (p .root)) (p .height) way (g .found) (g .shows) .0
+
+  led : Leads p r (p .height) (p .root) path
+  led = subst (EachWay (Leads p r (p .height) (p .root))) finds (find-leads p r (p .height) (p .root))
+
+  high : p .height ≤ 8
+  high = height-eight p (g .whole) (few-read (g .fit))
+
+  -- the pair is one of the records
+  pub some-record : 1 ≤ p .records
+  some-record =
+      let h = find-held p (g .whole) r .1 (subst Found (sym finds) tt) in
+      omega (arith, g .whole .counted, counted (λ x. true) (held-is r p .0 h) refl, ap length (those-all (stored p)))
+
+  pub records-fit : p .records ≤ 2147483647
+  records-fit = omega (arith, records-few w₀ (g .fit .right) (g .whole))
+
+  -- the pair is counted off
+  module _ {h : ℕ} {w₁ : List ℤ} (u : CountedOff w₀ h w₁) where
+    pub down-way : ComesDown (read w₁) h way
+    unfolding putRecords
+    down-way =
+        subst₂ (λ (q : Pool) (l : ℕ). ComesDown q l way) (sym (u .less)) (sym (u .level)) (record {
+          pair = r;
+          tree = stands ours ours-lawful p (g .whole) r path led .tree;
+          once = standing-once less [] (stands ours ours-lawful p (g .whole) r path led);
+          leads = way-there ours ours-lawful p (g .whole) r path led;
+          long = shows-some (findLeaf p r (p .height) (p .root)) (p .height) way (g .found) (g .shows) .1;
+          high = high;
+        })
+
+    pub down-known : (f : FreeSlots) → Known p f → Known (read w₁) f
+    down-known f k = subst (λ (q : Pool). Known q f) (sym (u .less)) (known-records p f k (p .records - 1))
+
+    -- CondenseTree is done
+    module _ {a : Asides} {w₂ : List ℤ} (d : Has (condense (read w₁) (placesOf h way)) a w₂) where
+      abbrev done : Condensed
+      done = out ours ours-lawful p (g .whole) r path led
+
+      done-is : done ≡ condense less path
+      done-is = out-is ours ours-lawful p (g .whole) r path led
+
+      has : Has done a w₂
+      has =
+          subst (λ (x : Condensed). Has x a w₂) ((λ i. condense (u .less i) (placesOf (u .level i) way)) ∙ sym done-is) d
+
+      shrank : Shrunk less (less .height) (less .root) r done
+      shrank = shrunk ours ours-lawful p (g .whole) r path led
+
+      pub back-waits : Waiting (read w₂) (asidesOf a)
+      back-waits = subst₂ Waiting (sym (has .pool .is)) (sym (has .list)) (waiting ours ours-lawful p (g .whole) r path led)
+
+      pub back-few : a .count ≤ 14
+      unfolding putRecords
+      back-few =
+          omega (
+            arith,
+            listed-length (a .entries) (a .levels) 0 (a .count),
+            ap length (has .list),
+            shrank .two-each,
+            shrank .fewer,
+            high,
+          )
+
+      pub back-high : read w₂ .height ≤ 8
+      unfolding putRecords
+      back-high = omega (arith, ap (λ (q : Pool). q .height) (has .pool .is), shrank .head .height, high)
+
+      pub back-known : Known (read w₂) (a .free)
+      back-known = subst (λ (q : Pool). Known q (a .free)) (sym (has .pool .is)) (has .pool .known)
+
+      delete-is : deleteRecord ours p r ≡ shortened (reinsert ours (read w₂) (asidesOf a))
+      delete-is =
+          delete-some ours p r path finds ∙ back-is ours (condense less path)
+          ∙ ap (λ (x : Condensed). shortened (reinsert ours (x .pool) (x .setAside))) (sym done-is)
+          ∙ sym (λ i. shortened (reinsert ours (has .pool .is i) (has .list i)))
+
+      module _ (o : Outcome) (w₃ : List ℤ) (b : Removes w₂ (reinsert ours (read w₂) (asidesOf a)) o w₃) where
+        -- an entry found no slot
+        pub delete-refused : o ≡ Refused → length w₃ ≡ length w₀ → Removes w₀ (deleteRecord ours p r) Refused w₃
+        delete-refused e long =
+            let k = subst (λ (x : Outcome). Removes w₂ (reinsert ours (read w₂) (asidesOf a)) x w₃) e b in
+            let none = delete-is ∙ ap shortened (removes-none w₂ w₃ (reinsert ours (read w₂) (asidesOf a)) k) ∙ short-none ours in
+            subst (λ (c : Change). Removes w₀ c Refused w₃) (sym none) long
+
+        -- all are back
+        module _ (f : FreeSlots) (e : o ≡ Made f) where
+          made : (q : Pool) × (reinsert ours (read w₂) (asidesOf a) ≡ Done q) × PutBack (read w₂) (asidesOf a) q × Holds q f w₃
+          made =
+              removes-made (PutBack (read w₂) (asidesOf a)) w₂ f w₃ (reinsert ours (read w₂) (asidesOf a))
+              (reinsert-puts ours ours-lawful (asidesOf a) (read w₂) back-waits)
+              (subst (λ (x : Outcome). Removes w₂ (reinsert ours (read w₂) (asidesOf a)) x w₃) e b)
+
+          pub made-fit : Fit w₃
+          made-fit = made .3 .fit
+
+          pub made-stands : Standing (read w₃) []
+          made-stands = subst (λ (q : Pool). Standing q []) (sym (made .3 .is)) (made .2 .stands)
+
+          pub made-known : Known (read w₃) f
+          made-known = subst (λ (q : Pool). Known q f) (sym (made .3 .is)) (made .3 .known)
+
+          pub delete-made : (v : FreeSlots) (w₄ : List ℤ) → Holds (shorten (read w₃)) v w₄ → Removes w₀ (deleteRecord ours p r) (Made v) w₄
+          delete-made v w₄ k =
+              let is = delete-is ∙ ap shortened (made .1) ∙ short-done ours (made .0) ∙ ap (λ (q : Pool). Done (shorten q)) (sym (made .3 .is)) in
+              subst (λ (c : Change). Removes w₀ c (Made v) w₄) (sym is) k

@@ -1,0 +1,124 @@
+-- `removing::condense` meets its contract: the leaf's entry is out, and each turn relieves the node one level up.
+use borrow.Author.Needs.{needs}
+use mathlib.Core.Path.{_≡_, _∙_}
+use lib.ListN.{length}
+use Prim.Native.Nat.{_-_}
+use native.Mathlib.Omega.{arith}
+use Rattle.rules.specs.Layout.{read}
+use Rattle.delete.proofs.Nodes.{few-read}
+use Rattle.delete.proofs.Climb.{leaf-there, leaf-rewritable, Climbing, climbing-child, climbing-known, climbing-few, climbing-next, climbing-first, climbing-last}
+use Rattle.delete.proofs.condense.Statement.{statement}
+use Rattle.delete.proofs.condense.Tie as tie
+use Rattle.delete.proofs.condense.Reads as reads
+use Rattle.delete.proofs.condense.Lts as lts
+use Rattle.delete.proofs.none_aside.Reads as none-aside-reads
+use Rattle.delete.proofs.relieve.Reads as relieve-reads
+use Rattle.delete.proofs.take_out.Reads as take-out-reads
+
+abbrev Inv-loop : tie.InvT-loop
+Inv-loop pool₀ height nodes places asides₀ l₀ pool asides l = Climbing pool₀ height nodes places pool asides l
+
+abbrev μ-loop : tie.MeasureT-loop
+μ-loop pool₀ height nodes places asides₀ l₀ pool asides l = height - l
+
+-- src/lib.rt:205:20
+array-copy-out-take-out : tie.Need-array-copy-out-take-out Inv-loop μ-loop
+array-copy-out-take-out c = omega arith
+
+-- src/lib.rt:205:30
+array-read-take-out : tie.Need-array-read-take-out Inv-loop μ-loop
+array-read-take-out c = omega arith
+
+-- src/lib.rt:205:5
+take-out-requires : tie.Need-take-out-requires Inv-loop μ-loop
+take-out-requires c κs = let s = c .before .before .before .before in let p = read (s .args .pool .now) in
+    (s .pre .0, (leaf-rewritable p (s .args .way) (s .args .height) (s .pre .1 .0) (few-read (s .pre .0)), leaf-there p (s .args .way) (s .args .height) (s .pre .1 .0)))
+
+-- src/lib.rt:206:9
+none-aside-requires : tie.Need-none-aside-requires Inv-loop μ-loop
+none-aside-requires c κs = search needs
+
+-- src/lib.rt:208:5
+loop-holds : tie.Need-loop-holds Inv-loop μ-loop
+loop-holds c = let s = c .before .before .before .before .before .before .before in let p = read (s .args .pool .now) in
+    climbing-first p (s .args .way) (s .args .height) (s .pre .1 .0) (c .before .before .take-out .last .0) (c .before .before .take-out .ensures .0) (few-read (s .pre .0)) (c .before .before .take-out .ensures .1)
+    (s .args .free) (s .pre .1 .1) (c .none-aside .result) (c .none-aside .ensures .0) (c .none-aside .ensures .1 .0) (c .none-aside .ensures .1 .1)
+
+-- src/lib.rt:209:32
+mul-relieve : tie.Need-mul-relieve Inv-loop μ-loop
+mul-relieve c = omega (arith, c .before .loop-test .taken, c .before .before .loop .inv .levels)
+
+-- src/lib.rt:209:32
+array-copy-out-relieve : tie.Need-array-copy-out-relieve Inv-loop μ-loop
+array-copy-out-relieve c = omega (arith, c .before .loop-test .taken, c .before .before .loop .inv .levels)
+
+-- src/lib.rt:209:42
+mul-relieve-2 : tie.Need-mul-relieve-2 Inv-loop μ-loop
+mul-relieve-2 c = omega (arith, c .before .before .loop-test .taken, c .before .before .before .loop .inv .levels)
+
+-- src/lib.rt:209:42
+array-read-relieve : tie.Need-array-read-relieve Inv-loop μ-loop
+array-read-relieve c = omega (arith, c .before .before .loop-test .taken, c .before .before .before .loop .inv .levels)
+
+-- src/lib.rt:209:59
+sub-relieve : tie.Need-sub-relieve Inv-loop μ-loop
+sub-relieve c = omega (arith, c .before .before .before .loop .inv .low)
+
+-- src/lib.rt:209:53
+mul-relieve-3 : tie.Need-mul-relieve-3 Inv-loop μ-loop
+mul-relieve-3 c = omega (arith, c .before .before .loop-test .taken, c .before .before .before .loop .inv .levels)
+
+-- src/lib.rt:209:53
+array-copy-out-relieve-2 : tie.Need-array-copy-out-relieve-2 Inv-loop μ-loop
+array-copy-out-relieve-2 c = omega (arith, c .before .before .loop-test .taken, c .before .before .before .loop .inv .levels)
+
+-- src/lib.rt:209:9
+relieve-requires : tie.Need-relieve-requires Inv-loop μ-loop
+relieve-requires c κs = let t = c .before .before .before .before .loop .inv in let h = c .before .before .before .loop-test .taken in
+    (t .has .pool .fit, (climbing-child t h, (climbing-known t, (t .has .roomy, climbing-few t h))))
+
+-- src/lib.rt:210:9
+add-l : tie.Need-add-l Inv-loop μ-loop
+add-l c = omega (arith, c .before .before .before .before .before .loop-test .taken, c .before .before .before .before .before .before .loop .inv .levels)
+
+-- src/lib.rt:208:5
+loop-less : tie.Need-loop-less Inv-loop μ-loop
+loop-less c = omega (arith, c .before .before .before .before .before .loop-test .taken)
+
+-- src/lib.rt:208:5
+loop-again : tie.Need-loop-again Inv-loop μ-loop
+loop-again c = climbing-next (c .before .before .before .before .before .before .loop .inv) (c .before .before .before .before .before .loop-test .taken) (c .before .relieve .last .0) (search needs) (c .before .relieve .result) (c .before .relieve .ensures)
+
+-- src/lib.rt:197:1
+same-length : tie.Need-same-length Inv-loop μ-loop
+same-length c = let b : length (c .before .before .before .before .take-out .last .0) ≡ length (c .before .before .before .before .before .before .before .before .before .args .pool .now) = search needs in c .before .loop .inv .long ∙ b
+
+-- src/lib.rt:197:1
+returns : tie.Need-returns Inv-loop μ-loop
+returns c = let s = c .before .before .before .before .before .before .before .before .before in
+    climbing-last (read (s .args .pool .now)) (s .args .way) (s .args .height) (s .pre .1 .0) (c .before .before .before .before .take-out .last .0) (c .before .before .before .before .take-out .ensures .0) (c .before .loop .pool) (c .before .loop .asides) (c .before .loop .l) (c .before .loop .inv) (c .loop-test .left)
+
+pub condense-spec : {M : Type 1} → statement M
+condense-spec =
+    tie.close
+    (tie.spec
+    Inv-loop
+    μ-loop
+    array-copy-out-take-out
+    array-read-take-out
+    take-out-requires
+    none-aside-requires
+    loop-holds
+    mul-relieve
+    array-copy-out-relieve
+    mul-relieve-2
+    array-read-relieve
+    sub-relieve
+    mul-relieve-3
+    array-copy-out-relieve-2
+    relieve-requires
+    add-l
+    loop-less
+    loop-again
+    same-length
+    returns)

@@ -1,0 +1,70 @@
+-- The entries set aside as the code has them, and what the steps up the way ask of the pool.
+use mathlib.Core.Path.{_≡_}
+use mathlib.Core.Logic.{_≢_}
+use mathlib.Core.List.{List, [], _∷_}
+use Prim.Native.Nat.{ℕ, zero, suc, _≤_, _<_}
+use lib.ListN.{length, getD}
+use lib.IntN.{ℤ}
+use Rattle.rules.specs.declared.SlotNumber.{SlotNumber}
+use Rattle.rules.specs.declared.Record.{Record}
+use Rattle.rules.specs.declared.Entry.{Entry}
+use Rattle.rules.specs.Numbers.{mostSlots}
+use Rattle.rules.specs.Pool.{Pool, noEntry, nodeAt, entriesAt, entryAt, childOf}
+use Rattle.rules.specs.Delete.{Aside, Condensed}
+use Rattle.pool.specs.Slots.{SmallAll}
+use Rattle.free_slots.specs.Known.{moreSlot}
+use Rattle.sound_laws.specs.Tree.{slotsIn, Once, Slot, Tree}
+use Rattle.delete_laws.specs.Way.{Leads}
+use Rattle.find_leaf.specs.declared.Way.{Way}
+use Rattle.find_leaf.specs.Ways.{placesOf, Long}
+use Rattle.insert.specs.Left.{Holds}
+use Rattle.delete.specs.declared.Asides.{Asides}
+
+-- n of the entries set aside, from place k on, each with its level
+unfoldable pub asidesFrom : List Entry → List ℕ → ℕ → ℕ → List Aside
+asidesFrom es ls k zero = []
+asidesFrom es ls k (suc n) = record { level = getD ls k 0; entry = getD es k noEntry } ∷ asidesFrom es ls (suc k) n
+
+-- all of them
+abbrev pub asidesOf : Asides → List Aside
+asidesOf a = asidesFrom (a .entries) (a .levels) 0 (a .count)
+
+-- .. with the slot t known to be free besides
+abbrev pub withFree : Asides → SlotNumber → Asides
+withFree a t = record { entries = a .entries; levels = a .levels; count = a .count; free = moreSlot (a .free) t }
+
+-- there is room for 14
+pub record Roomy (a : Asides) : Type 0 where
+  pub entries : length (a .entries) ≡ 14
+  pub levels : length (a .levels) ≡ 14
+
+-- the words hold the pool of d, and a has what d has set aside
+pub record Has (d : Condensed) (a : Asides) (w : List ℤ) : Type 0 where
+  pub pool : Holds (d .pool) (a .free) w
+  pub list : asidesOf a ≡ d .setAside
+  pub roomy : Roomy a
+
+-- a node whose entries can be written again: its level and its pointers are small
+pub record Rewritable (p : Pool) (s : SlotNumber) : Type 0 where
+  pub slot : Slot p s
+  pub low : nodeAt p s .level ≤ mostSlots
+  pub small : SmallAll (entriesAt p s) (length (entriesAt p s))
+
+-- t is the child at place i of the node at s
+pub record ChildAt (p : Pool) (s : SlotNumber) (i : ℕ) (t : SlotNumber) : Type 0 where
+  pub parent : Rewritable p s
+  pub there : i < length (entriesAt p s)
+  pub inner : 2 ≤ nodeAt p s .level
+  pub slot : Slot p t
+  pub used : nodeAt p t .level ≢ 0
+  pub apart : t ≢ s
+  pub is : childOf (entryAt p s i) ≡ t
+
+-- the way comes down a tree of h levels to a pair
+pub record ComesDown (p : Pool) (h : ℕ) (way : Way) : Type 0 where
+  pub pair : Record
+  pub tree : Tree p h (p .root)
+  pub once : Once (slotsIn p h (p .root))
+  pub leads : Leads p pair h (p .root) (placesOf h way)
+  pub long : Long way
+  pub high : h ≤ 8

@@ -1,0 +1,283 @@
+// Delete: the pair goes out of its leaf, CondenseTree goes up the way that FindLeaf came down, and what was set aside goes in again.
+ghost use mathlib.Core.Path.{_≡_};
+ghost use mathlib.Core.Bool.{true};
+ghost use mathlib.Core.List.{[], _++_};
+ghost use Prim.Native.Nat.{_+_, _-_, _≤_, _<_};
+ghost use lib.ListN.{length, take};
+ghost use Rattle.rules.specs.Lists.{without};
+ghost use Rattle.rules.specs.Pool as P;
+ghost use Rattle.rules.specs.Layout as L;
+ghost use Rattle.rules.specs.Insert as I;
+ghost use Rattle.rules.specs.Delete as D;
+ghost use Rattle.pool.specs.Slots.{Fit, InPool};
+ghost use Rattle.free_slots.specs.Known.{Known};
+ghost use Rattle.sound_laws.specs.Tree.{Whole};
+ghost use Rattle.insert_laws.specs.Standing.{Standing};
+ghost use Rattle.delete_laws.specs.Shrunk.{Waiting, condensed};
+ghost use Rattle.find_leaf.specs.Ways.{Shows, placesOf};
+ghost use Rattle.insert.specs.Left.{Holds};
+ghost use Rattle.delete.specs.Removed.{Removes};
+ghost use Rattle.delete.specs.Aside.{asidesOf, Roomy, Has, Rewritable, ChildAt, ComesDown, withFree};
+use insert::Outcome;
+use find_leaf::Way;
+use rules::Entry;
+use rules::Pointer;
+use rules::Record;
+use rules::Rect;
+use rules::SlotNumber;
+use free_slots::FreeSlots;
+
+// What CondenseTree has in hand on its way up: the entries set aside, each with the level of the node that it was in, and what is known of
+// the free slots. A node that leaves has two entries at most, and 7 levels at most lie below the root.
+struct Asides {
+    entries: [Entry; 14],
+    levels: [usize; 14],
+    count: usize,
+    free: FreeSlots,
+}
+
+// Five zero words.
+fn no_entry() -> Entry
+    ensures { λ r. ⌜ r ≡ P.noEntry ⌝ }
+{
+    Entry {
+        rect: Rect {
+            lowX: 0,
+            lowY: 0,
+            highX: 0,
+            highY: 0,
+        },
+        pointer: Pointer::Child(SlotNumber(0)),
+    }
+}
+
+// ---- D2, and CT3 and CT4 at one node
+
+// "Later entries close up": the first n, less the one at place i.
+fn close_up(entries: [Entry; 9], i: usize, n: usize) -> [Entry; 9]
+    requires { ⌜ (i < n) × (n ≤ 9) ⌝ }
+    ensures { λ r. ⌜ take (n - 1) r ≡ without i (take n entries) ⌝ }
+{
+    let mut es = entries;
+    let mut k = i + 1;
+    while k < n {
+        let e = es[k];
+        es[k - 1] = e;
+        k += 1;
+    }
+    es
+}
+
+// An entry goes out of its node. "Later entries close up; the freed place is zeroed."
+fn take_out(pool: &mut [i32], s: SlotNumber, i: usize)
+    requires { ⌜ Fit (now pool) ⌝ }
+    requires { ⌜ Rewritable (L.read (now pool)) s ⌝ }
+    requires { ⌜ i < length (P.entriesAt (L.read (now pool)) s) ⌝ }
+    ensures is { λ _. ⌜ L.read (now (pool .exit)) ≡ D.takeOut (L.read (now (pool .entry))) (D.place s i) ⌝ }
+    ensures fit { λ _. ⌜ Fit (now (pool .exit)) ⌝ }
+{
+    let level = pool::level_of(pool, s);
+    let n = pool::count_of(pool, s);
+    let es = pool::entries_of(pool, s);
+    let rest = close_up(es, i, n);
+    pool::put_node(pool, s, level, rest, n - 1);
+}
+
+// "its slot is zeroed and free at once"
+fn zero_slot(pool: &mut [i32], s: SlotNumber)
+    requires { ⌜ Fit (now pool) ⌝ }
+    requires { ⌜ InPool (now pool) s ⌝ }
+    ensures is { λ _. ⌜ L.read (now (pool .exit)) ≡ P.zeroSlot (L.read (now (pool .entry))) s ⌝ }
+    ensures fit { λ _. ⌜ Fit (now (pool .exit)) ⌝ }
+{
+    let none = [no_entry(); 9];
+    pool::put_node(pool, s, 0, none, 0);
+}
+
+// "Covers on the path are made tight": the cover of the child t, which the entry at place i of the node at s leads to.
+fn tighten(pool: &mut [i32], s: SlotNumber, i: usize, t: SlotNumber)
+    requires { ⌜ Fit (now pool) ⌝ }
+    requires { ⌜ ChildAt (L.read (now pool)) s i t ⌝ }
+    requires { ⌜ 0 < length (P.entriesAt (L.read (now pool)) t) ⌝ }
+    ensures is { λ _. ⌜ L.read (now (pool .exit)) ≡ P.tighten (L.read (now (pool .entry))) s i ⌝ }
+    ensures fit { λ _. ⌜ Fit (now (pool .exit)) ⌝ }
+{
+    let rect = free_slots::cover_of(pool, t);
+    let pointer = Pointer::Child(t);
+    pool::put_entry_of(pool, s, i, Entry { rect, pointer });
+}
+
+// "its entries are set aside", behind those of the levels below, each with its node's level.
+fn set_aside(pool: &[i32], t: SlotNumber, level: usize, asides: Asides) -> Asides
+    requires { ⌜ InPool (now pool) t ⌝ }
+    requires { ⌜ level ≡ P.nodeAt (L.read (now pool)) t .level ⌝ }
+    requires { ⌜ Roomy asides ⌝ }
+    requires { ⌜ asides .count + length (P.entriesAt (L.read (now pool)) t) ≤ 14 ⌝ }
+    ensures is { λ r. ⌜ asidesOf r ≡ asidesOf asides ++ D.asides (L.read (now (pool .entry))) t ⌝ }
+    ensures roomy { λ r. ⌜ Roomy r ⌝ }
+    ensures free { λ r. ⌜ r .free ≡ asides .free ⌝ }
+{
+    let mut entries = asides.entries;
+    let mut levels = asides.levels;
+    let count = asides.count;
+    let free = asides.free;
+    let n = pool::count_of(pool, t);
+    let mut k: usize = 0;
+    while k < n {
+        entries[count + k] = pool::entry_of(pool, t, k);
+        levels[count + k] = level;
+        k += 1;
+    }
+    Asides {
+        entries,
+        levels,
+        count: count + n,
+        free,
+    }
+}
+
+// One slot more is known to be free.
+fn with_free(asides: Asides, t: SlotNumber) -> Asides
+    requires { ⌜ asides .free .count ≤ 4096 ⌝ }
+    ensures { λ r. ⌜ r ≡ withFree asides t ⌝ }
+{
+    let entries = asides.entries;
+    let levels = asides.levels;
+    let count = asides.count;
+    let free = asides.free;
+    let more = free_slots::more_slot(free, t);
+    Asides {
+        entries,
+        levels,
+        count,
+        free: more,
+    }
+}
+
+// CT3 and CT4 at place i of the node at s, whose child is t: "a non-root node with fewer than 3 entries leaves its parent, its entries are
+// set aside, and its slot is zeroed and free at once"; else its cover is made tight.
+fn relieve(pool: &mut [i32], s: SlotNumber, i: usize, t: SlotNumber, asides: Asides) -> Asides
+    requires { ⌜ Fit (now pool) ⌝ }
+    requires { ⌜ ChildAt (L.read (now pool)) s i t ⌝ }
+    requires { ⌜ Known (L.read (now pool)) (asides .free) ⌝ }
+    requires { ⌜ Roomy asides ⌝ }
+    requires { ⌜ asides .count ≤ 12 ⌝ }
+    ensures { λ r. ⌜ Has (D.relieve (D.place s i) t (condensed (L.read (now (pool .entry))) (asidesOf asides))) r (now (pool .exit)) ⌝ }
+{
+    if pool::count_of(pool, t) < 3 {
+        let level = pool::level_of(pool, t);
+        let more = set_aside(pool, t, level, asides);
+        take_out(pool, s, i);
+        zero_slot(pool, t);
+        return with_free(more, t);
+    }
+    tighten(pool, s, i, t);
+    asides
+}
+
+// ---- CondenseTree
+
+// Nothing is set aside yet.
+fn none_aside(free: FreeSlots) -> Asides
+    ensures is { λ r. ⌜ asidesOf r ≡ [] ⌝ }
+    ensures roomy { λ r. ⌜ Roomy r ⌝ }
+    ensures free { λ r. ⌜ r .free ≡ free ⌝ }
+{
+    let entries = [no_entry(); 14];
+    let levels = [0; 14];
+    Asides {
+        entries,
+        levels,
+        count: 0,
+        free,
+    }
+}
+
+// D2, then CT1 to CT5 up the way that FindLeaf came down.
+fn condense(pool: &mut [i32], way: Way, height: usize, free: FreeSlots) -> Asides
+    requires { ⌜ Fit (now pool) ⌝ }
+    requires { ⌜ ComesDown (L.read (now pool)) height way ⌝ }
+    requires { ⌜ Known (L.read (now pool)) free ⌝ }
+    ensures { λ r. ⌜ Has (D.condense (L.read (now (pool .entry))) (placesOf height way)) r (now (pool .exit)) ⌝ }
+{
+    let nodes = way.nodes;
+    let places = way.places;
+    take_out(pool, nodes[0], places[0]);
+    let mut asides = none_aside(free);
+    let mut l: usize = 1;
+    while l < height {
+        asides = relieve(pool, nodes[l], places[l], nodes[l - 1], asides);
+        l += 1;
+    }
+    asides
+}
+
+// CT6: "entries set aside are inserted again, lowest level first, in stored order, each at its own level, by the insert rules".
+fn reinsert(pool: &mut [i32], asides: Asides) -> Outcome
+    requires { ⌜ Fit (now pool) ⌝ }
+    requires { ⌜ Waiting (L.read (now pool)) (asidesOf asides) ⌝ }
+    requires { ⌜ Known (L.read (now pool)) (asides .free) ⌝ }
+    requires { ⌜ Roomy asides ⌝ }
+    requires { ⌜ (asides .count ≤ 14) × (L.read (now pool) .height ≤ 8) ⌝ }
+    ensures is { λ o. ⌜ Removes (now (pool .entry)) (D.reinsert I.ours (L.read (now (pool .entry))) (asidesOf asides)) o (now (pool .exit)) ⌝ }
+    ensures high { λ _. ⌜ L.read (now (pool .exit)) .height ≤ 22 ⌝ }
+{
+    let entries = asides.entries;
+    let levels = asides.levels;
+    let n = asides.count;
+    let mut free = asides.free;
+    let mut left = n;
+    while 0 < left {
+        let k = n - left;
+        let Outcome::Made(after) = insert::insert_at(pool, levels[k], entries[k], free) else {
+            return Outcome::Refused;
+        };
+        free = after;
+        left -= 1;
+    }
+    Outcome::Made(free)
+}
+
+// ---- Delete
+
+// D4: "Last, an inner root with one child is freed and that child is root."
+fn shorten(pool: &mut [i32], free: FreeSlots) -> FreeSlots
+    requires { ⌜ Fit (now pool) ⌝ }
+    requires { ⌜ Standing (L.read (now pool)) [] ⌝ }
+    requires { ⌜ L.read (now pool) .height ≤ 64 ⌝ }
+    requires { ⌜ Known (L.read (now pool)) free ⌝ }
+    ensures { λ r. ⌜ Holds (D.shorten (L.read (now (pool .entry)))) r (now (pool .exit)) ⌝ }
+{
+    let s = pool::root_of(pool);
+    let height = pool::height_of(pool);
+    if height == 1 {
+        return free;
+    }
+    if pool::count_of(pool, s) == 1 {
+        let t = pool::child_of(pool, s, 0);
+        zero_slot(pool, s);
+        pool::put_root(pool, t, height - 1);
+        return free_slots::more_slot(free, s);
+    }
+    free
+}
+
+// D1 to D4 for a pair that is held, by the way that FindLeaf found to it. Where it is refused, the pool is left half done, and the caller
+// writes it over: a caller who cannot know that the slots suffice keeps a copy.
+pub fn delete_record(pool: &mut [i32], r: Record, way: Way, free: FreeSlots) -> Outcome
+    requires { ⌜ Fit (now pool) ⌝ }
+    requires { ⌜ Whole (L.read (now pool)) ⌝ }
+    requires { ⌜ Known (L.read (now pool)) free ⌝ }
+    requires { ⌜ way .found ≡ true ⌝ }
+    requires { ⌜ Shows (D.findLeaf (L.read (now pool)) r (L.read (now pool) .height) (L.read (now pool) .root)) (L.read (now pool) .height) way ⌝ }
+    ensures { λ o. ⌜ Removes (now (pool .entry)) (D.deleteRecord I.ours (L.read (now (pool .entry))) r) o (now (pool .exit)) ⌝ }
+{
+    let n = pool::records_of(pool);
+    let height = pool::height_of(pool);
+    pool::put_records(pool, n - 1);
+    let asides = condense(pool, way, height, free);
+    let Outcome::Made(after) = reinsert(pool, asides) else {
+        return Outcome::Refused;
+    };
+    Outcome::Made(shorten(pool, after))
+}

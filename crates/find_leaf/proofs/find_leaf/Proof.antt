@@ -1,0 +1,29 @@
+use native.Mathlib.Omega.{arith}
+use Rattle.rules.specs.Layout.{read}
+use Rattle.find_leaf.proofs.Turns.{from-root}
+use Rattle.find_leaf.proofs.find_leaf.Statement.{statement}
+use Rattle.find_leaf.proofs.find_leaf.Tie as tie
+use Rattle.find_leaf.proofs.find_leaf.Reads as reads
+use Rattle.find_leaf.proofs.find_leaf.Lts as lts
+use Rattle.find_leaf.proofs.find_in.Reads as find-in-reads
+use Rattle.pool.proofs.height_of.Reads as height-of-reads
+use Rattle.pool.proofs.root_of.Reads as root-of-reads
+
+-- src/lib.rt:228:9
+height-of-requires : tie.Need-height-of-requires
+height-of-requires c κs = c .pre .0
+
+-- src/lib.rt:229:25
+root-of-requires : tie.Need-root-of-requires
+root-of-requires c κs = c .before .pre .0
+
+-- src/lib.rt:229:5
+find-in-requires : tie.Need-find-in-requires
+find-in-requires c κs = (c .before .before .pre .0, omega (arith, c .before .height-of .ensures, c .before .before .pre .1))
+
+-- src/lib.rt:223:1
+returns : tie.Need-returns
+returns c = let s = c .before .before .before in let w = s .args .pool .now in from-root (read w) (s .args .r) (c .before .before .height-of .result) (c .before .root-of .result) (c .find-in .result) (c .before .before .height-of .ensures) (c .before .root-of .ensures) (c .find-in .ensures)
+
+pub find-leaf-spec : {M : Type 1} → statement M
+find-leaf-spec = tie.close (tie.spec height-of-requires root-of-requires find-in-requires returns)

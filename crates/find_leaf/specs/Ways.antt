@@ -1,0 +1,25 @@
+-- The way that FindLeaf comes down, as the code has it: a place for each level.
+use mathlib.Core.Path.{_≡_}
+use mathlib.Core.Bool.{true, false}
+use mathlib.Core.List.{[], _∷_}
+use mathlib.Core.Option.{Option, none, some}
+use Prim.Native.Nat.{ℕ, zero, suc}
+use lib.ListN.{length, getD}
+use Rattle.rules.specs.Pool.{slot}
+use Rattle.rules.specs.Delete.{Path, place}
+use Rattle.find_leaf.specs.declared.Way.{Way}
+
+-- the places from level l down to the leaf
+unfoldable pub placesOf : ℕ → Way → Path
+placesOf zero w = []
+placesOf (suc l) w = place (getD (w .nodes) l (slot 0)) (getD (w .places) l 0) ∷ placesOf l w
+
+-- there is room for 8 levels
+pub record Long (w : Way) : Type 0 where
+  pub nodes : length (w .nodes) ≡ 8
+  pub places : length (w .places) ≡ 8
+
+-- what FindLeaf gives from level l down, as the code has it
+abbrev pub Shows : Option Path → ℕ → Way → Type 0
+Shows none l w = (w .found ≡ false) × Long w
+Shows (some path) l w = (w .found ≡ true) × (placesOf l w ≡ path) × Long w

@@ -1,0 +1,173 @@
+// The slots of a pool, one after the other: a node's cover, the free slots, and blanking.
+ghost use mathlib.Core.Path.{_≡_};
+ghost use mathlib.Core.Bool.{true, cond};
+ghost use lib.Dec.{eqb};
+ghost use Prim.Native.Nat.{_-_, _<_, _≤_};
+ghost use lib.ListN.{length, drop, replicate};
+ghost use lib.IntN.{pos};
+ghost use Rattle.rules.specs.Layout as L;
+ghost use Rattle.rules.specs.Pool as P;
+ghost use Rattle.pool.specs.Slots.{InPool};
+ghost use Rattle.free_slots.specs.Known.{Known, lessSlot, moreSlot};
+use rules::FreeSlot;
+use rules::Rect;
+use rules::SlotNumber;
+
+// What is known of the free slots: how many there are, and a slot below which there is none.
+pub struct FreeSlots {
+    pub count: usize,
+    pub low: SlotNumber,
+}
+
+// A cover: "its rectangle is the smallest holding that node's entries".
+pub fn cover_of(pool: &[i32], s: SlotNumber) -> Rect
+    requires { ⌜ InPool (now pool) s ⌝ }
+    requires { ⌜ 0 < length (P.entriesAt (L.read (now pool)) s) ⌝ }
+    ensures { λ r. ⌜ r ≡ P.coverOf (P.entriesAt (L.read (now (pool .entry))) s) ⌝ }
+{
+    let n = pool::count_of(pool, s);
+    let mut all = pool::rect_of(pool, s, 0);
+    let mut i: usize = 1;
+    while i < n {
+        all = geometry::cover(all, pool::rect_of(pool, s, i));
+        i += 1;
+    }
+    all
+}
+
+// "the lowest free slot", of the slots from a given one on: the lowest of all where every slot below is in use.
+pub fn lowest_free_from(pool: &[i32], from: SlotNumber) -> FreeSlot
+    requires { ⌜ L.rightLength (now pool) ≡ true ⌝ }
+    requires { ⌜ 1 ≤ from .0 ⌝ }
+    ensures { λ r. ⌜ r ≡ P.freeFrom (from .0) (drop (from .0 - 1) (L.read (now (pool .entry)) .slots)) ⌝ }
+{
+    let n = pool::slot_count(pool);
+    let mut s = from.0;
+    while s <= n {
+        if pool::level_of(pool, SlotNumber(s)) == 0 {
+            return FreeSlot::At(SlotNumber(s));
+        }
+        s += 1;
+    }
+    FreeSlot::Nowhere
+}
+
+// "the lowest free slot", of all.
+pub fn lowest_free(pool: &[i32]) -> FreeSlot
+    requires { ⌜ L.rightLength (now pool) ≡ true ⌝ }
+    ensures { λ r. ⌜ r ≡ P.lowestFree (L.read (now (pool .entry))) ⌝ }
+{
+    lowest_free_from(pool, SlotNumber(1))
+}
+
+// "Level 0 is free": 1 for a free slot, 0 for one in use.
+fn one_if_free(pool: &[i32], s: SlotNumber) -> usize
+    requires { ⌜ InPool (now pool) s ⌝ }
+    ensures { λ r. ⌜ r ≡ cond (eqb (P.nodeAt (L.read (now (pool .entry))) s .level) 0) 1 0 ⌝ }
+{
+    if pool::level_of(pool, s) == 0 { 1 } else { 0 }
+}
+
+// How many slots are free; none, at "a moment when none is free".
+pub fn free_count(pool: &[i32]) -> usize
+    requires { ⌜ L.rightLength (now pool) ≡ true ⌝ }
+    ensures { λ r. ⌜ r ≡ P.freeCount (L.read (now (pool .entry))) ⌝ }
+{
+    let n = pool::slot_count(pool);
+    let mut free: usize = 0;
+    let mut at: usize = 1;
+    while at <= n {
+        free += one_if_free(pool, SlotNumber(at));
+        at += 1;
+    }
+    free
+}
+
+// What is known of the free slots before a batch's first request: all are counted, and no slot is below slot 1.
+pub fn free_slots(pool: &[i32]) -> FreeSlots
+    requires { ⌜ L.rightLength (now pool) ≡ true ⌝ }
+    ensures { λ r. ⌜ Known (L.read (now (pool .entry))) r ⌝ }
+{
+    let n = free_count(pool);
+    FreeSlots {
+        count: n,
+        low: SlotNumber(1),
+    }
+}
+
+// "the lowest free slot", looked for from the slot on below which none is known to be free.
+pub fn lowest(pool: &[i32], free: FreeSlots) -> FreeSlot
+    requires { ⌜ L.rightLength (now pool) ≡ true ⌝ }
+    requires { ⌜ Known (L.read (now pool)) free ⌝ }
+    ensures { λ r. ⌜ r ≡ P.lowestFree (L.read (now (pool .entry))) ⌝ }
+{
+    let first = free.low;
+    lowest_free_from(pool, first)
+}
+
+// What is known once the lowest free slot, t, is taken: the next search starts behind it.
+pub fn less_slot(free: FreeSlots, t: SlotNumber) -> FreeSlots
+    requires { ⌜ 0 < free .count ⌝ }
+    requires { ⌜ t .0 ≤ 4096 ⌝ }
+    ensures { λ r. ⌜ r ≡ lessSlot free t ⌝ }
+{
+    FreeSlots {
+        count: free.count - 1,
+        low: SlotNumber(t.0 + 1),
+    }
+}
+
+// What is known once slot s has become free: "its slot is zeroed and free at once".
+pub fn more_slot(free: FreeSlots, s: SlotNumber) -> FreeSlots
+    requires { ⌜ free .count ≤ 4096 ⌝ }
+    ensures { λ r. ⌜ r ≡ moreSlot free s ⌝ }
+{
+    let count = free.count + 1;
+    if s.0 < free.low.0 {
+        return FreeSlots { count, low: s };
+    }
+    let low = free.low;
+    FreeSlots { count, low }
+}
+
+// "A pool is 8 + 42N signed 32-bit words", N from 1 to 4,096.
+pub fn right_length(pool: &[i32]) -> bool
+    ensures { λ r. ⌜ r ≡ L.rightLength (now (pool .entry)) ⌝ }
+{
+    let n = pool::slot_count(pool);
+    if n < 1 {
+        return false;
+    }
+    if 4096 < n {
+        return false;
+    }
+    pool.len() == 8 + 42 * n
+}
+
+// "all else zero": every word is zeroed, and blanking writes the others after that.
+fn zero_all(pool: &mut [i32])
+    ensures { λ _. ⌜ now (pool .exit) ≡ replicate (length (now (pool .entry))) (pos 0) ⌝ }
+{
+    let mut i: usize = 0;
+    while i < pool.len() {
+        pool[i] = 0;
+        i += 1;
+    }
+}
+
+// "Blanking writes edition 1, root 1, height 1, records 0, slot 1 as an empty leaf, all else zero." It "knows only 1, for the pool's
+// length", and then writes nothing.
+pub fn blank(pool: &mut [i32]) -> i32
+    ensures number { λ r. ⌜ r ≡ pos (L.blank (now (pool .entry)) .number) ⌝ }
+    ensures words { λ _. ⌜ now (pool .exit) ≡ L.blank (now (pool .entry)) .pool ⌝ }
+{
+    if right_length(pool) {
+        zero_all(pool);
+        pool[0] = 1;
+        pool[1] = 1;
+        pool[2] = 1;
+        pool[8] = 1;
+        return 0;
+    }
+    1
+}

@@ -1,0 +1,231 @@
+-- The requests of a batch in turn: the pool holds the records in force after each, and each search stands in the lists at the end as it was
+-- answered, for later answers go to later places and later searches fill later ones.
+use mathlib.Core.Path.{_≡_, refl, sym, subst, ap, _∙_}
+use mathlib.Core.Bool.{true}
+use mathlib.Core.List.{List, [], _∷_, _++_}
+use mathlib.Core.Option.{Option, none, some}
+use Prim.Native.Nat.{ℕ, suc, _+_, _-_, _≤_, _<_}
+use native.Mathlib.Omega.{arith}
+use lib.ListN.{length, getD, set, take, drop, length-append, length-set}
+use lib.Seq.{sets, length-sets, sets-eq, slice, slice-empty, take-set-le, take-at, drop-at, length-take-le, getD-set-same, getD-set-other}
+use Rattle.rules.specs.declared.Rect.{Rect}
+use Rattle.rules.specs.declared.Record.{Record}
+use Rattle.rules.specs.declared.Request.{Request}
+use Rattle.rules.specs.declared.Asked.{Asked}
+use Rattle.rules.specs.declared.Asked.the-variants.{Search}
+use Rattle.rules.specs.declared.Answer.{Answer}
+use Rattle.rules.specs.Lists.{those}
+use Rattle.rules.specs.Geometry.{valid}
+use Rattle.rules.specs.Answers.{answer, answerOf}
+use Rattle.rules.specs.Insert.{Choice}
+use Rattle.rules.specs.Lawful.{Lawful}
+use Rattle.rules.specs.Request.{asked, request}
+use Rattle.rules.specs.Call.{Batch, afterTurn, doRequest, doRequests}
+use Rattle.search_laws.specs.Window.{recordMeets}
+use Rattle.search_laws.proofs.Order.{alike-length, ordered-alike}
+use Rattle.in_force_laws.specs.Force.{inForce, forceBy, forceAfter}
+use Rattle.in_force_laws.specs.Shows.{EachOnce, Holds, nodesMeeting, Shows}
+use Rattle.in_force_laws.specs.Batch.{meeting, Told}
+use Rattle.in_force_laws.proofs.Change.{request-force}
+use Rattle.in_force_laws.proofs.Search.{request-search}
+
+-- ---- runs of stores
+
+module _ {A : Type 0} where
+  sets-take : (vs l : List A) (i n : ℕ) → n ≤ i → take n (sets l i vs) ≡ take n l
+  sets-take [] l i n h = refl
+  sets-take (a ∷ vs) l i n h = sets-take vs (set l i a) (suc i) n (omega arith) ∙ take-set-le n l i a h
+
+  -- what was stored stands there
+  sets-slice : (vs l : List A) (i : ℕ) → length vs ≤ length l - i → slice i (i + length vs) (sets l i vs) ≡ vs
+  sets-slice [] l i h = ap (λ (n : ℕ). slice i n l) none ∙ slice-empty i l
+    where
+      none : i + 0 ≡ i
+      none = omega arith
+  sets-slice (a ∷ vs) l i h =
+      let room : i + length (a ∷ vs) ≤ length l = omega arith in
+      let front : length (take i l) ≡ i = length-take-le i l (omega arith) in
+      ap (slice i (i + length (a ∷ vs))) (sets-eq (a ∷ vs) l i room)
+      ∙ ap (drop i) (take-at (take i l ++ (a ∷ vs)) (drop (i + length (a ∷ vs)) l) (i + length (a ∷ vs))
+      (length-append (take i l) (a ∷ vs) ∙ ap (λ (n : ℕ). n + length (a ∷ vs)) front))
+      ∙ drop-at (take i l) (a ∷ vs) i front
+
+abbrev pub noAnswer : Answer
+noAnswer = answer 0 0 0 0
+
+module _ (c : Choice) where
+  -- ---- one request: what it leaves of the lists
+
+  step-kept : (i : ℕ) (b : Batch) (o : Option Asked) (j : ℕ) → j < i → getD (doRequest c i b o .answers) j noAnswer ≡ getD (b .answers) j noAnswer
+  unfolding doRequest afterTurn
+  step-kept i b none j h = refl
+  step-kept i b (some a) j h = getD-set-other (b .answers) i j _ noAnswer (λ e. omega (arith, h, e))
+
+  pub step-long : (i : ℕ) (b : Batch) (o : Option Asked) → length (doRequest c i b o .answers) ≡ length (b .answers)
+  unfolding doRequest afterTurn
+  step-long i b none = refl
+  step-long i b (some a) = length-set (b .answers) i _
+
+  step-places : (i : ℕ) (b : Batch) (o : Option Asked) → length (doRequest c i b o .found) ≡ length (b .found)
+  unfolding doRequest afterTurn
+  step-places i b none = refl
+  step-places i b (some a) = length-sets (b .found) (b .filled) (request c (b .pool) (b .filled) (length (b .found) - b .filled) a .listed)
+
+  step-filled : (i : ℕ) (b : Batch) (o : Option Asked) → b .filled ≤ doRequest c i b o .filled
+  unfolding doRequest afterTurn
+  step-filled i b none = omega arith
+  step-filled i b (some a) = omega arith
+
+  step-take : (i : ℕ) (b : Batch) (o : Option Asked) (n : ℕ) → n ≤ b .filled → take n (doRequest c i b o .found) ≡ take n (b .found)
+  unfolding doRequest afterTurn
+  step-take i b none n h = refl
+  step-take i b (some a) n h = sets-take (request c (b .pool) (b .filled) (length (b .found) - b .filled) a .listed) (b .found) (b .filled) n h
+
+  -- ---- .. and those from place i on
+
+  pub kept : (i : ℕ) (qs : List Request) (b : Batch) (j : ℕ) → j < i → getD (doRequests c i qs b .answers) j noAnswer ≡ getD (b .answers) j noAnswer
+  unfolding doRequests
+  kept i [] b j h = refl
+  kept i (q ∷ qs) b j h = kept (suc i) qs (doRequest c i b (asked q)) j (omega arith) ∙ step-kept i b (asked q) j h
+
+  pub long : (i : ℕ) (qs : List Request) (b : Batch) → length (doRequests c i qs b .answers) ≡ length (b .answers)
+  unfolding doRequests
+  long i [] b = refl
+  long i (q ∷ qs) b = long (suc i) qs (doRequest c i b (asked q)) ∙ step-long i b (asked q)
+
+  pub places : (i : ℕ) (qs : List Request) (b : Batch) → length (doRequests c i qs b .found) ≡ length (b .found)
+  unfolding doRequests
+  places i [] b = refl
+  places i (q ∷ qs) b = places (suc i) qs (doRequest c i b (asked q)) ∙ step-places i b (asked q)
+
+  found-kept : (i : ℕ) (qs : List Request) (b : Batch) (n : ℕ) → n ≤ b .filled → take n (doRequests c i qs b .found) ≡ take n (b .found)
+  unfolding doRequests
+  found-kept i [] b n h = refl
+  found-kept i (q ∷ qs) b n h =
+      found-kept (suc i) qs (doRequest c i b (asked q)) n (omega (arith, h, step-filled i b (asked q))) ∙ step-take i b (asked q) n h
+
+  pub two-parts : (i : ℕ) (xs ys : List Request) (b : Batch) → doRequests c i (xs ++ ys) b ≡ doRequests c (i + length xs) ys (doRequests c i xs b)
+  unfolding doRequests
+  two-parts i [] ys b = ap (λ (n : ℕ). doRequests c n ys b) none
+    where
+      none : i ≡ i + 0
+      none = omega arith
+  two-parts i (x ∷ xs) ys b =
+      two-parts (suc i) xs ys (doRequest c i b (asked x))
+      ∙ ap (λ (n : ℕ). doRequests c n ys (doRequests c (suc i) xs (doRequest c i b (asked x)))) one
+    where
+      one : suc i + length xs ≡ i + suc (length xs)
+      one = omega arith
+
+  -- ---- the records in force
+
+  force-same : (rs : List Record) (i : ℕ) (qs : List Request) (x y : List Answer)
+      → ((j : ℕ) → j < i + length qs → getD x j noAnswer ≡ getD y j noAnswer) → forceAfter rs i qs x ≡ forceAfter rs i qs y
+  unfolding forceAfter
+  force-same rs i [] x y h = refl
+  force-same rs i (q ∷ qs) x y h =
+      ap (λ (a : Answer). forceAfter (forceBy rs (asked q) a) (suc i) qs x) (h i (omega arith))
+      ∙ force-same (forceBy rs (asked q) (getD y i noAnswer)) (suc i) qs x y (λ j l. h j (omega (arith, l)))
+
+  module _ (lawful : Lawful c) where
+    step-force : (i : ℕ) (b : Batch) (rs : List Record) (o : Option Asked) → Holds (b .pool) rs → i < length (b .answers)
+        → Holds (doRequest c i b o .pool) (forceBy rs o (getD (doRequest c i b o .answers) i noAnswer))
+    unfolding doRequest afterTurn forceBy
+    step-force i b rs none k h = k
+    step-force i b rs (some a) k h =
+        let t = request c (b .pool) (b .filled) (length (b .found) - b .filled) a in
+        subst (λ (x : Answer). Holds (t .pool) (inForce rs a x)) (sym (getD-set-same (b .answers) i (answerOf (t .reply)) noAnswer h))
+        (request-force c lawful (b .pool) rs k (b .filled) (length (b .found) - b .filled) a)
+
+    -- a batch leaves a whole pool that holds the records in force by its requests and answers
+    pub batch-force : (i : ℕ) (qs : List Request) (b : Batch) (rs : List Record) → Holds (b .pool) rs → i + length qs ≤ length (b .answers)
+        → Holds (doRequests c i qs b .pool) (forceAfter rs i qs (doRequests c i qs b .answers))
+    unfolding doRequests forceAfter
+    batch-force i [] b rs k h = k
+    batch-force i (q ∷ qs) b rs k h =
+        let b1 = doRequest c i b (asked q) in
+        let end = doRequests c (suc i) qs b1 in
+        subst (λ (x : Answer). Holds (end .pool) (forceAfter (forceBy rs (asked q) x) (suc i) qs (end .answers)))
+        (sym (kept (suc i) qs b1 i (omega arith)))
+        (batch-force (suc i) qs b1 (forceBy rs (asked q) (getD (b1 .answers) i noAnswer)) (step-force i b rs (asked q) k (omega (arith, h)))
+        (omega (arith, h, step-long i b (asked q))))
+
+  -- ---- a search
+
+  module _ (i : ℕ) (b : Batch) (rs : List Record) (k : Holds (b .pool) rs) (h : i < length (b .answers)) (window : Rect) (v : valid window ≡ true)
+      (room : meeting window rs ≤ length (b .found) - b .filled) where
+    abbrev now : Batch
+    now = doRequest c i b (some (Search window))
+
+    shows : Shows (b .pool) rs (b .filled) window (request c (b .pool) (b .filled) (length (b .found) - b .filled) (Search window))
+    shows = request-search (b .pool) rs k window (length (b .found) - b .filled) c (b .filled) v room
+
+    many : length (request c (b .pool) (b .filled) (length (b .found) - b .filled) (Search window) .listed) ≡ meeting window rs
+    many = ap length (shows .lists) ∙ alike-length (ordered-alike (those (recordMeets window) rs))
+
+    told-now : getD (now .answers) i noAnswer ≡ answer 0 (meeting window rs) (b .filled) (suc (nodesMeeting (b .pool) window))
+    unfolding doRequest afterTurn answerOf
+    told-now = getD-set-same (b .answers) i _ noAnswer h ∙ ap answerOf (shows .reply)
+
+    filled-now : now .filled ≡ b .filled + meeting window rs
+    unfolding doRequest afterTurn
+    filled-now = ap (λ (n : ℕ). b .filled + n) many
+
+    listed-now : slice (b .filled) (b .filled + meeting window rs) (now .found)
+        ≡ request c (b .pool) (b .filled) (length (b .found) - b .filled) (Search window) .listed
+    unfolding doRequest afterTurn
+    listed-now =
+        let t = request c (b .pool) (b .filled) (length (b .found) - b .filled) (Search window) in
+        ap (λ (n : ℕ). slice (b .filled) (b .filled + n) (sets (b .found) (b .filled) (t .listed))) (sym many)
+        ∙ sets-slice (t .listed) (b .found) (b .filled) (omega (arith, many, room))
+
+    -- .. and at the end of the batch
+    told-end : (later : List Request)
+        → Told (b .pool) rs (b .filled) window i (doRequests c (suc i) later now .answers) (doRequests c (suc i) later now .found)
+    told-end later =
+        let end = doRequests c (suc i) later now in
+        let there : slice (b .filled) (b .filled + meeting window rs) (end .found)
+        ≡ request c (b .pool) (b .filled) (length (b .found) - b .filled) (Search window) .listed =
+        ap (drop (b .filled)) (found-kept (suc i) later now (b .filled + meeting window rs) (omega (arith, filled-now))) ∙ listed-now in
+        record {
+          told = kept (suc i) later now i (omega arith) ∙ told-now;
+          shown = there ∙ shows .lists;
+          once = subst EachOnce (sym there) (shows .once);
+          high = shows .high;
+        }
+
+  -- a search anywhere in a batch: by what the batch leaves in the lists, and the records in force by the requests before it and their answers
+  module _ (lawful : Lawful c) (i : ℕ) (earlier : List Request) (q : Request) (later : List Request) (b : Batch) (rs : List Record)
+      (k : Holds (b .pool) rs) (h : i + length (earlier ++ q ∷ later) ≤ length (b .answers)) where
+    abbrev before : Batch
+    before = doRequests c i earlier b
+
+    abbrev end : Batch
+    end = doRequests c i (earlier ++ q ∷ later) b
+
+    end-is : (o : Option Asked) → asked q ≡ o → end ≡ doRequests c (suc (i + length earlier)) later (doRequest c (i + length earlier) before o)
+    unfolding doRequests
+    end-is o e =
+        two-parts i earlier (q ∷ later) b
+        ∙ ap (λ (x : Option Asked). doRequests c (suc (i + length earlier)) later (doRequest c (i + length earlier) before x)) e
+
+    inside : i + length earlier < length (b .answers)
+    inside = omega (arith, h, length-append earlier (q ∷ later))
+
+    same-force : forceAfter rs i earlier (before .answers) ≡ forceAfter rs i earlier (end .answers)
+    same-force =
+        force-same rs i earlier (before .answers) (end .answers) (λ j l.
+        sym (ap (λ (x : Batch). getD (x .answers) j noAnswer) (two-parts i earlier (q ∷ later) b)
+        ∙ kept (i + length earlier) (q ∷ later) before j l))
+
+    pub batch-search : (window : Rect) → asked q ≡ some (Search window) → valid window ≡ true
+        → meeting window (forceAfter rs i earlier (end .answers)) ≤ length (b .found) - before .filled
+        → Told (before .pool) (forceAfter rs i earlier (end .answers)) (before .filled) window (i + length earlier) (end .answers) (end .found)
+    batch-search window s v room =
+        let holds : Holds (before .pool) (forceAfter rs i earlier (end .answers)) =
+        subst (Holds (before .pool)) same-force (batch-force lawful i earlier b rs k (omega (arith, inside))) in
+        subst (λ (x : Batch).
+        Told (before .pool) (forceAfter rs i earlier (end .answers)) (before .filled) window (i + length earlier) (x .answers) (x .found))
+        (sym (end-is (some (Search window)) s))
+        (told-end (i + length earlier) before (forceAfter rs i earlier (end .answers)) holds (omega (arith, inside, long i earlier b)) window v
+        (omega (arith, room, places i earlier b)) later)

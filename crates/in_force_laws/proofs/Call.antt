@@ -1,0 +1,215 @@
+-- A call that returns 0, and the calls of a history.
+use mathlib.Core.Path.{_≡_, refl, sym, subst, ap, _∙_}
+use mathlib.Core.Bool.{Bool, true, false, not, _||_}
+use mathlib.Core.List.{List, [], _∷_, _++_}
+use mathlib.Core.Option.{Option, none, some}
+use Prim.Native.Nat.{ℕ, _+_, _-_, _≤_}
+use native.Mathlib.Omega.{arith}
+use lib.ListN.{length, length-append}
+use lib.Dec.{ltb, eqb}
+use lib.IntN.{ℤ, pos, negsuc}
+use borrow.Author.Tests.{eqb-true}
+use Rattle.rules.specs.declared.Rect.{Rect}
+use Rattle.rules.specs.declared.Record.{Record}
+use Rattle.rules.specs.declared.Request.{Request}
+use Rattle.rules.specs.declared.Asked.the-variants.{Search}
+use Rattle.rules.specs.declared.Verdict.{Verdict}
+use Rattle.rules.specs.declared.Verdict.the-variants.{BadLists, BadLength, NotSound, NoRequest}
+use Rattle.rules.specs.Numbers.{mostRequests}
+use Rattle.rules.specs.Geometry.{valid, samePair}
+use Rattle.rules.specs.Pool.{Pool, blankPool, stored}
+use Rattle.rules.specs.Layout.{words, read}
+use Rattle.rules.specs.Answers.{verdictNumber}
+use Rattle.rules.specs.Insert.{Choice, ours}
+use Rattle.rules.specs.Lawful.{Lawful}
+use Rattle.rules.specs.Request.{asked}
+use Rattle.rules.specs.Call.{Lent, Left, Batch, doRequests, callFault, refused, served, starting, callBy, call}
+use Rattle.rules_laws.proofs.Bools.{not-false}
+use Rattle.rules_laws.proofs.Orders.{never-both}
+use Rattle.rules_laws.proofs.Places.{nothing}
+use Rattle.rules_laws.proofs.Parts.{those-none}
+use Rattle.rules_laws.proofs.Splits.{ours-lawful}
+use Rattle.sound_laws.proofs.Blank.{blank-whole}
+use Rattle.in_force_laws.specs.Force.{forceAfter, filledAfter}
+use Rattle.in_force_laws.specs.Shows.{Holds}
+use Rattle.in_force_laws.specs.Batch.{meeting, Told}
+use Rattle.in_force_laws.specs.History.{poolAfter, forceOf, History}
+use Rattle.in_force_laws.proofs.Written.{reads}
+use Rattle.in_force_laws.proofs.Faults.{EachGiven, given-none, given-row, no-row}
+use Rattle.in_force_laws.proofs.Batch.{batch-force, batch-search}
+use Rattle.in_force_laws.proofs.Filled.{part-filled}
+
+-- ---- a call that returns 0 is not refused
+
+size : ℤ → ℕ
+size (pos n) = n
+size (negsuc n) = 1
+
+abbrev Told-off : Verdict → Type 0
+Told-off v = verdictNumber v ≡ pos 0 → ⊥
+
+all-off : (l : Lent) → EachGiven Told-off (callFault l)
+unfolding callFault verdictNumber size
+all-off l =
+    given-row Told-off _ BadLists _ (λ h. omega (arith, ap size h))
+    (given-row Told-off _ BadLength _ (λ h. omega (arith, ap size h))
+    (given-row Told-off _ NotSound _ (λ h. omega (arith, ap size h))
+    (given-row Told-off _ NoRequest _ (λ h. omega (arith, ap size h)) (given-none Told-off))))
+
+or-later : (a b : Bool) → (a || b) ≡ false → b ≡ false
+or-later true b h = never-both refl h
+or-later false b h = h
+
+module _ (c : Choice) (l : Lent) where
+  abbrev whole-batch : Batch
+  whole-batch = doRequests c 0 (l .requests) (starting l)
+
+  pub left-refused : (v : Verdict) → callFault l ≡ some v → callBy c l ≡ refused l v
+  unfolding callBy
+  left-refused v h = rw (h, callBy)
+
+  pub left-served : callFault l ≡ none → callBy c l ≡ served whole-batch
+  unfolding callBy
+  left-served h = rw (h, callBy)
+
+  pub refused-number : (v : Verdict) → refused l v .number ≡ verdictNumber v
+  unfolding refused
+  refused-number v = refl
+
+  pub no-fault : callBy c l .number ≡ pos 0 → callFault l ≡ none
+  no-fault z = go (callFault l) refl (all-off l)
+    where
+      go : (o : Option Verdict) → callFault l ≡ o → EachGiven Told-off o → callFault l ≡ none
+      go none h g = h
+      go (some v) h g = absurd (g (sym (refused-number v) ∙ ap (λ (x : Left). x .number) (sym (left-refused v h)) ∙ z))
+
+  pub answers-long : callFault l ≡ none → length (l .answers) ≡ length (l .requests)
+  unfolding callFault
+  answers-long h =
+      let a = no-row (ltb mostRequests (length (l .requests)) || not (eqb (length (l .answers)) (length (l .requests)))) BadLists _ h in
+      eqb-true _ _ (not-false _ (or-later (ltb mostRequests (length (l .requests))) _ (a .0)))
+
+  pub left-pool : callFault l ≡ none → callBy c l .pool ≡ words (whole-batch .pool)
+  unfolding served
+  left-pool h = ap (λ (x : Left). x .pool) (left-served h)
+
+  pub left-answers : callFault l ≡ none → callBy c l .answers ≡ whole-batch .answers
+  unfolding served
+  left-answers h = ap (λ (x : Left). x .answers) (left-served h)
+
+  pub left-found : callFault l ≡ none → callBy c l .found ≡ whole-batch .found
+  unfolding served
+  left-found h = ap (λ (x : Left). x .found) (left-served h)
+
+  module _ (lawful : Lawful c) (rs : List Record) (k : Holds (read (l .pool)) rs) (z : callBy c l .number ≡ pos 0) where
+    start-holds : Holds (starting l .pool) rs
+    unfolding starting
+    start-holds = k
+
+    start-long : 0 + length (l .requests) ≤ length (starting l .answers)
+    unfolding starting
+    start-long = omega (arith, answers-long (no-fault z))
+
+    -- the pool that a call leaves holds the records in force by its requests and answers
+    pub call-force : Holds (whole-batch .pool) (forceAfter rs 0 (l .requests) (callBy c l .answers))
+    call-force =
+        rw (left-answers (no-fault z)) (batch-force c lawful 0 (l .requests) (starting l) rs start-holds start-long)
+
+    pub call-pool : callBy c l .pool ≡ words (whole-batch .pool)
+    call-pool = left-pool (no-fault z)
+
+    -- a search at any place of its request list
+    module _ (earlier : List Request) (q : Request) (later : List Request) (is : l .requests ≡ earlier ++ q ∷ later) (window : Rect)
+        (s : asked q ≡ some (Search window)) (v : valid window ≡ true) where
+      -- how far the batch had come
+      abbrev pub so-far : Batch
+      so-far = doRequests c 0 earlier (starting l)
+
+      -- the records in force then
+      abbrev pub then-force : List Record
+      then-force = forceAfter rs 0 earlier (callBy c l .answers)
+
+      parts : callBy c l .answers ≡ doRequests c 0 (earlier ++ q ∷ later) (starting l) .answers
+      parts = left-answers (no-fault z) ∙ ap (λ (qs : List Request). doRequests c 0 qs (starting l) .answers) is
+
+      found-parts : callBy c l .found ≡ doRequests c 0 (earlier ++ q ∷ later) (starting l) .found
+      found-parts = left-found (no-fault z) ∙ ap (λ (qs : List Request). doRequests c 0 qs (starting l) .found) is
+
+      start-places : length (starting l .found) ≡ length (l .found)
+      unfolding starting
+      start-places = refl
+
+      pub call-search : meeting window then-force ≤ length (l .found) - so-far .filled
+          → Told (so-far .pool) then-force (so-far .filled) window (0 + length earlier) (callBy c l .answers) (callBy c l .found)
+      call-search =
+          rw (parts, found-parts, ← start-places)
+          (batch-search c lawful 0 earlier q later (starting l) rs start-holds
+          (subst (λ (qs : List Request). 0 + length qs ≤ length (starting l .answers)) is start-long) window s v)
+
+      inside : 0 + length earlier ≤ length (starting l .answers)
+      inside = omega (arith, start-long, ap length is, length-append earlier (q ∷ later))
+
+      -- the places filled then, by the answers
+      filled-then : so-far .filled ≡ filledAfter 0 0 earlier (callBy c l .answers)
+      unfolding starting
+      filled-then = rw parts (part-filled c 0 earlier (q ∷ later) (starting l) inside)
+
+      pub call-shows : meeting window then-force ≤ length (l .found) - filledAfter 0 0 earlier (callBy c l .answers)
+          → Told (so-far .pool) then-force (filledAfter 0 0 earlier (callBy c l .answers)) window (length earlier) (callBy c l .answers)
+          (callBy c l .found)
+      call-shows =
+          subst (λ (n : ℕ). meeting window then-force ≤ length (l .found) - n
+          → Told (so-far .pool) then-force n window (length earlier) (callBy c l .answers) (callBy c l .found)) filled-then
+          (subst (λ (i : ℕ). meeting window then-force ≤ length (l .found) - so-far .filled
+          → Told (so-far .pool) then-force (so-far .filled) window i (callBy c l .answers) (callBy c l .found)) none-before call-search)
+        where
+          none-before : 0 + length earlier ≡ length earlier
+          none-before = omega arith
+
+-- ---- a history
+
+pub blank-holds : (n : ℕ) → Holds (blankPool n) []
+blank-holds n = record {
+  whole = blank-whole n;
+  alike = record { each = λ f. rw (nothing (stored (blankPool n)) (sym (blank-whole n .counted) ∙ none-yet)) };
+  once = λ x. omega (arith, ap length (those-none (samePair x)));
+}
+  where
+    none-yet : blankPool n .records ≡ 0
+    none-yet = unfold blankPool in refl
+
+module _ (c : Choice) (lawful : Lawful c) where
+  -- the pool that a history leaves holds the records in force
+  pub history-holds : (n : ℕ) (ls : List Lent) → History c n ls → Holds (read (poolAfter c n ls)) (forceOf c ls)
+  unfolding poolAfter forceOf
+  history-holds n [] h = subst (λ (p : Pool). Holds p []) (sym (reads (blankPool n) (blank-whole n))) (blank-holds n)
+  history-holds n (l ∷ ls) h =
+      let k : Holds (read (l .pool)) (forceOf c ls) =
+      subst (λ (w : List ℤ). Holds (read w) (forceOf c ls)) (sym (h .0)) (history-holds n ls (h .2)) in
+      let now = call-force c l lawful (forceOf c ls) k (h .1) in
+      subst (λ (p : Pool). Holds p (forceAfter (forceOf c ls) 0 (l .requests) (callBy c l .answers)))
+      (sym (ap read (call-pool c l lawful (forceOf c ls) k (h .1)) ∙ reads (whole-batch c l .pool) (now .whole))) now
+
+  -- "From a blank pool changed only by these requests, every search in a call that returns 0 (valid window, room in its list) shows the
+  -- records in force that meet the window, each once, in record order; the nodes opened are one for the root and one for each other node
+  -- whose cover meets the window; with n records and height h, h is 1 or 2·3^(h-1) ≤ n."
+  pub in-force : (n : ℕ) (ls : List Lent) (l : Lent) → History c n (l ∷ ls)
+      → (earlier : List Request) (q : Request) (later : List Request) → l .requests ≡ earlier ++ q ∷ later
+      → (window : Rect) → asked q ≡ some (Search window) → valid window ≡ true
+      → meeting window (forceAfter (forceOf c ls) 0 earlier (callBy c l .answers)) ≤ length (l .found) - filledAfter 0 0 earlier (callBy c l .answers)
+      → Told (doRequests c 0 earlier (starting l) .pool) (forceAfter (forceOf c ls) 0 earlier (callBy c l .answers))
+      (filledAfter 0 0 earlier (callBy c l .answers)) window (length earlier) (callBy c l .answers) (callBy c l .found)
+  in-force n ls l h earlier q later is window s v room =
+      let k : Holds (read (l .pool)) (forceOf c ls) =
+      subst (λ (w : List ℤ). Holds (read w) (forceOf c ls)) (sym (h .0)) (history-holds n ls (h .2)) in
+      call-shows c l lawful (forceOf c ls) k (h .1) earlier q later is window s v room
+
+-- .. by document 01's choices
+pub ours-in-force : (n : ℕ) (ls : List Lent) (l : Lent) → History ours n (l ∷ ls)
+    → (earlier : List Request) (q : Request) (later : List Request) → l .requests ≡ earlier ++ q ∷ later
+    → (window : Rect) → asked q ≡ some (Search window) → valid window ≡ true
+    → meeting window (forceAfter (forceOf ours ls) 0 earlier (call l .answers)) ≤ length (l .found) - filledAfter 0 0 earlier (call l .answers)
+    → Told (doRequests ours 0 earlier (starting l) .pool) (forceAfter (forceOf ours ls) 0 earlier (call l .answers))
+    (filledAfter 0 0 earlier (call l .answers)) window (length earlier) (call l .answers) (call l .found)
+unfolding call
+ours-in-force = in-force ours ours-lawful

@@ -1,0 +1,80 @@
+-- A search in a pool that holds the records in force shows those that meet its window.
+use mathlib.Core.Path.{_≡_, refl, sym, subst, ap, _∙_}
+use mathlib.Core.Logic.{_⊎_}
+use mathlib.Core.Bool.{Bool, true, false}
+use mathlib.Core.List.{List}
+use mathlib.Core.Option.{none}
+use Prim.Native.Nat.{ℕ, _-_, _*_, _^_, _≤_}
+use native.Mathlib.Omega.{arith}
+use lib.ListN.{length}
+use lib.Dec.{ltb}
+use borrow.Author.Tests.{le-ltb}
+use Rattle.rules.specs.declared.Rect.{Rect}
+use Rattle.rules.specs.declared.Record.{Record}
+use Rattle.rules.specs.declared.Asked.the-variants.{Search}
+use Rattle.rules.specs.declared.Reply.the-variants.{Listed}
+use Rattle.rules.specs.Lists.{those}
+use Rattle.rules.specs.Geometry.{valid, samePair}
+use Rattle.rules.specs.Pool.{Pool, stored}
+use Rattle.rules.specs.Search.{ordered, found, opened}
+use Rattle.rules.specs.Answers.{firstRow}
+use Rattle.rules.specs.Insert.{Choice}
+use Rattle.rules.specs.Request.{turn, searchFault, request}
+use Rattle.search_laws.specs.Window.{recordMeets}
+use Rattle.search_laws.specs.Order.{Alike}
+use Rattle.search_laws.proofs.Lists.{those-and}
+use Rattle.search_laws.proofs.Order.{alike-length, ordered-alike, ordered-same}
+use Rattle.search_laws.proofs.Exact.{search-exact, opened-exact, found-once}
+use Rattle.sound_laws.proofs.Heights.{height-records}
+use Rattle.in_force_laws.specs.Shows.{EachOnce, Holds, Shows}
+
+-- those of alike lists are alike
+pub those-alike : (t : Record → Bool) (xs ys : List Record) → Alike xs ys → Alike (those t xs) (those t ys)
+those-alike t xs ys a = record {
+  each = λ q. ap length (sym (those-and t q xs)) ∙ a .each _ ∙ ap length (those-and t q ys);
+}
+
+module _ (p : Pool) (rs : List Record) (k : Holds p rs) (window : Rect) where
+  pub found-force : found p window ≡ ordered (those (recordMeets window) rs)
+  found-force =
+      search-exact p (k .whole) window
+      ∙ ordered-same (those (recordMeets window) (stored p)) (those (recordMeets window) rs)
+      (those-alike (recordMeets window) (stored p) rs (k .alike))
+
+  found-many : length (found p window) ≡ length (those (recordMeets window) rs)
+  found-many = ap length found-force ∙ alike-length (ordered-alike (those (recordMeets window) rs))
+
+  found-each : EachOnce (found p window)
+  found-each = found-once p (k .whole) window (λ x. omega (arith, k .alike .each (samePair x), k .once x))
+
+  high : (p .height ≡ 1) ⊎ (2 * 3 ^ (p .height - 1) ≤ length rs)
+  high =
+      subst (λ (n : ℕ). (p .height ≡ 1) ⊎ (2 * 3 ^ (p .height - 1) ≤ n)) (k .whole .counted ∙ alike-length (k .alike))
+      (height-records p (k .whole))
+
+  module _ (room : ℕ) where
+    no-fault : valid window ≡ true → length (those (recordMeets window) rs) ≤ room → searchFault p room window ≡ none
+    unfolding searchFault firstRow
+    no-fault v r =
+        let enough : ltb room (length (found p window)) ≡ false = le-ltb room (length (found p window)) (omega (arith, found-many, r)) in
+        rw (v, enough)
+
+    module _ (c : Choice) (filled : ℕ) where
+      search-is : searchFault p room window ≡ none
+          → request c p filled room (Search window) ≡ turn p (Listed (length (found p window)) filled (opened p window)) (found p window)
+      unfolding request
+      search-is h = rw (h, request)
+
+      shown : Shows p rs filled window (turn p (Listed (length (found p window)) filled (opened p window)) (found p window))
+      shown = record {
+        lists = found-force;
+        once = found-each;
+        reply = rw (found-many, opened-exact p (k .whole) window);
+        same = refl;
+        high = high;
+      }
+
+      -- "valid window, room in its list"
+      pub request-search : valid window ≡ true → length (those (recordMeets window) rs) ≤ room
+          → Shows p rs filled window (request c p filled room (Search window))
+      request-search v r = subst (Shows p rs filled window) (sym (search-is (no-fault v r))) shown

@@ -1,0 +1,41 @@
+-- A pool that holds the records in force, and what a search in it is to show.
+use mathlib.Core.Path.{_≡_}
+use mathlib.Core.Logic.{_⊎_}
+use mathlib.Core.List.{List}
+use Prim.Native.Nat.{ℕ, suc, _-_, _*_, _^_, _≤_}
+use lib.ListN.{length}
+use Rattle.rules.specs.declared.Rect.{Rect}
+use Rattle.rules.specs.declared.Record.{Record}
+use Rattle.rules.specs.declared.Reply.the-variants.{Listed}
+use Rattle.rules.specs.Lists.{those}
+use Rattle.rules.specs.Geometry.{samePair}
+use Rattle.rules.specs.Pool.{Pool, slotNumbers, stored}
+use Rattle.rules.specs.Search.{ordered}
+use Rattle.rules.specs.Request.{Turn}
+use Rattle.sound_laws.specs.Tree.{Whole}
+use Rattle.search_laws.specs.Window.{recordMeets, nodeMeets, otherNode}
+use Rattle.search_laws.specs.Order.{Alike}
+
+-- no pair stands there twice
+abbrev pub EachOnce : List Record → Type 0
+EachOnce rs = (x : Record) → length (those (samePair x) rs) ≤ 1
+
+-- the pool is one tree, and its records are those of the list, each as often and none twice
+pub record Holds (p : Pool) (rs : List Record) : Type 0 where
+  pub whole : Whole p
+  pub alike : Alike (stored p) rs
+  pub once : EachOnce rs
+
+-- the nodes in use other than the root whose cover meets the window
+abbrev pub nodesMeeting : Pool → Rect → ℕ
+nodesMeeting p window = length (those (nodeMeets p window) (those (otherNode p) (slotNumbers p)))
+
+-- a search in a pool that holds the records rs, with so many places of the found list filled: it lists "the records in force that meet the
+-- window, each once, in record order"; it answers their number, the first place filled, and the nodes opened, "one for the root and one for
+-- each other node whose cover meets the window"; with n records and height h, "h is 1 or 2·3^(h-1) ≤ n"
+pub record Shows (p : Pool) (rs : List Record) (filled : ℕ) (window : Rect) (t : Turn) : Type 0 where
+  pub lists : t .listed ≡ ordered (those (recordMeets window) rs)
+  pub once : EachOnce (t .listed)
+  pub reply : t .reply ≡ Listed (length (those (recordMeets window) rs)) filled (suc (nodesMeeting p window))
+  pub same : t .pool ≡ p
+  pub high : (p .height ≡ 1) ⊎ (2 * 3 ^ (p .height - 1) ≤ length rs)

@@ -1,0 +1,180 @@
+-- `inserting::full_run` meets its contract: the run below goes on through the node where it has come to it. The levels to go down fall.
+use mathlib.Core.Path.{sym, _∙_}
+use Prim.Native.Nat.{ℕ, _≤_, _<_}
+use native.Mathlib.Omega.{arith}
+use borrow.Fn.Kinds.{In}
+use borrow.Fn.PlainCycle.{Measures, is, falls, and}
+use Rattle.insert.proofs.Fitted.{slot-in}
+use Rattle.insert.proofs.Steps.{way-node, way-choosable, way-valid, way-inner, way-down, run-here, run-shorter, run-longer}
+use Rattle.insert.proofs.full_run.Reads as full-run
+use Rattle.insert.proofs.full_run.Kinds as full-run-kinds
+use Rattle.insert.proofs.+full_run.Lts-full_run as full-run-lts
+use Rattle.choose.proofs.choose_child.Reads as choose-child-reads
+use Rattle.insert.proofs.one_if_full.Reads as one-if-full-reads
+use Rattle.pool.proofs.child_of.Reads as child-of-reads
+use Rattle.insert.proofs.+full_run.{statement}
+use Rattle.insert.proofs.+full_run.Tie.{close}
+
+abbrev μ-full-run : Measures 1 full-run-kinds.ps ℕ
+μ-full-run κs a = a .1 .0
+
+abbrev full-run-at : ℕ → In 1 full-run-kinds.ps
+full-run-at t = and 1 full-run-kinds.ps (is 1 full-run-kinds.ps μ-full-run t) full-run.Pre
+
+abbrev full-run-below : ℕ → In 1 full-run-kinds.ps
+full-run-below t =
+    and 1 full-run-kinds.ps (falls 1 full-run-kinds.ps _<_ μ-full-run t) full-run.Pre
+
+-- src/lib.rt:255:9
+full-run-one-if-full-requires : (t : ℕ) → full-run-lts.Need-one-if-full-requires (
+  one-if-full-reads.Asked,
+  one-if-full-reads.Learnt,
+  choose-child-reads.Asked,
+  choose-child-reads.Learnt,
+  child-of-reads.Asked,
+  child-of-reads.Learnt,
+  full-run-below t,
+  full-run.Post,
+) (full-run-at t) full-run.Post
+full-run-one-if-full-requires t c κs = let s = c .before in let w = s .args .pool .now in let r = s .pre .1 .0 in let h = s .pre .1 .1 in slot-in w (s .args .s) r (way-node h .slot)
+
+-- src/lib.rt:255:9
+full-run-returns : (t : ℕ) → full-run-lts.Need-returns (
+  one-if-full-reads.Asked,
+  one-if-full-reads.Learnt,
+  choose-child-reads.Asked,
+  choose-child-reads.Learnt,
+  child-of-reads.Asked,
+  child-of-reads.Learnt,
+  full-run-below t,
+  full-run.Post,
+) (full-run-at t) full-run.Post
+full-run-returns t c = let s = c .before .before in let h = s .pre .1 .1 in (c .one-if-full .ensures .0 ∙ sym (run-here h (c .before .if1 .taken)), omega (arith, c .one-if-full .ensures .1))
+
+-- src/lib.rt:258:9
+full-run-choose-child-requires : (t : ℕ) → full-run-lts.Need-choose-child-requires (
+  one-if-full-reads.Asked,
+  one-if-full-reads.Learnt,
+  choose-child-reads.Asked,
+  choose-child-reads.Learnt,
+  child-of-reads.Asked,
+  child-of-reads.Learnt,
+  full-run-below t,
+  full-run.Post,
+) (full-run-at t) full-run.Post
+full-run-choose-child-requires t c κs = let s = c .before .before in let w = s .args .pool .now in let r = s .pre .1 .0 in let h = s .pre .1 .1 in let more : 1 ≤ s .args .n = omega (arith, c .before .if1 .left) in (slot-in w (s .args .s) r (way-node h .slot), (way-choosable h more, way-valid h))
+
+-- src/lib.rt:259:9
+full-run-child-of-requires : (t : ℕ) → full-run-lts.Need-child-of-requires (
+  one-if-full-reads.Asked,
+  one-if-full-reads.Learnt,
+  choose-child-reads.Asked,
+  choose-child-reads.Learnt,
+  child-of-reads.Asked,
+  child-of-reads.Learnt,
+  full-run-below t,
+  full-run.Post,
+) (full-run-at t) full-run.Post
+full-run-child-of-requires t c κs = let s = c .before .before .before in let w = s .args .pool .now in let r = s .pre .1 .0 in let h = s .pre .1 .1 in let more : 1 ≤ s .args .n = omega (arith, c .before .before .if1 .left) in (slot-in w (s .args .s) r (way-node h .slot), (c .choose-child .ensures .1, way-inner h more))
+
+-- src/lib.rt:260:28
+full-run-sub-full-run : (t : ℕ) → full-run-lts.Need-sub-full-run (
+  one-if-full-reads.Asked,
+  one-if-full-reads.Learnt,
+  choose-child-reads.Asked,
+  choose-child-reads.Learnt,
+  child-of-reads.Asked,
+  child-of-reads.Learnt,
+  full-run-below t,
+  full-run.Post,
+) (full-run-at t) full-run.Post
+full-run-sub-full-run t c = omega (arith, c .before .before .before .if1 .left)
+
+-- src/lib.rt:260:9
+full-run-full-run-requires : (t : ℕ) → full-run-lts.Need-full-run-requires (
+  one-if-full-reads.Asked,
+  one-if-full-reads.Learnt,
+  choose-child-reads.Asked,
+  choose-child-reads.Learnt,
+  child-of-reads.Asked,
+  child-of-reads.Learnt,
+  full-run-below t,
+  full-run.Post,
+) (full-run-at t) full-run.Post
+full-run-full-run-requires t c κs = let s = c .before .before .before .before in let r = s .pre .1 .0 in let h = s .pre .1 .1 in let more : 1 ≤ s .args .n = omega (arith, c .before .before .before .if1 .left) in (omega (arith, s .pre .0), (r, way-down h more (c .before .choose-child .result) (c .child-of .result) (c .before .choose-child .ensures .0) (c .child-of .ensures)))
+
+-- src/lib.rt:262:9
+full-run-returns-2 : (t : ℕ) → full-run-lts.Need-returns-2 (
+  one-if-full-reads.Asked,
+  one-if-full-reads.Learnt,
+  choose-child-reads.Asked,
+  choose-child-reads.Learnt,
+  child-of-reads.Asked,
+  child-of-reads.Learnt,
+  full-run-below t,
+  full-run.Post,
+) (full-run-at t) full-run.Post
+full-run-returns-2 t c = let s = c .before .before .before .before .before .before in let h = s .pre .1 .1 in let more : 1 ≤ s .args .n = omega (arith, c .before .before .before .before .before .if1 .left) in (run-shorter h more (c .before .before .before .choose-child .result) (c .before .before .child-of .result) (c .before .before .before .choose-child .ensures .0) (c .before .before .child-of .ensures) (c .before .full-run .result) (c .before .full-run .ensures .0) (c .if2 .taken), omega (arith, c .if2 .taken))
+
+-- src/lib.rt:264:9
+full-run-one-if-full-requires-2 : (t : ℕ) → full-run-lts.Need-one-if-full-requires-2 (
+  one-if-full-reads.Asked,
+  one-if-full-reads.Learnt,
+  choose-child-reads.Asked,
+  choose-child-reads.Learnt,
+  child-of-reads.Asked,
+  child-of-reads.Learnt,
+  full-run-below t,
+  full-run.Post,
+) (full-run-at t) full-run.Post
+full-run-one-if-full-requires-2 t c κs = let s = c .before .before .before .before .before .before in let w = s .args .pool .now in let r = s .pre .1 .0 in let h = s .pre .1 .1 in slot-in w (s .args .s) r (way-node h .slot)
+
+-- src/lib.rt:264:5
+full-run-add-result : (t : ℕ) → full-run-lts.Need-add-result (
+  one-if-full-reads.Asked,
+  one-if-full-reads.Learnt,
+  choose-child-reads.Asked,
+  choose-child-reads.Learnt,
+  child-of-reads.Asked,
+  child-of-reads.Learnt,
+  full-run-below t,
+  full-run.Post,
+) (full-run-at t) full-run.Post
+full-run-add-result t c = let s = c .before .before .before .before .before .before .before in let h = s .pre .1 .1 in omega (arith, h .few, c .one-if-full2 .ensures .1)
+
+-- src/lib.rt:248:1
+full-run-returns-3 : (t : ℕ) → full-run-lts.Need-returns-3 (
+  one-if-full-reads.Asked,
+  one-if-full-reads.Learnt,
+  choose-child-reads.Asked,
+  choose-child-reads.Learnt,
+  child-of-reads.Asked,
+  child-of-reads.Learnt,
+  full-run-below t,
+  full-run.Post,
+) (full-run-at t) full-run.Post
+full-run-returns-3 t c = let s = c .before .before .before .before .before .before .before in let h = s .pre .1 .1 in let more : 1 ≤ s .args .n = omega (arith, c .before .before .before .before .before .before .if1 .left) in (run-longer h more (c .before .before .before .before .choose-child .result) (c .before .before .before .child-of .result) (c .before .before .before .before .choose-child .ensures .0) (c .before .before .before .child-of .ensures) (c .before .before .full-run .result) (c .before .before .full-run .ensures .0) (omega (arith, c .before .if2 .left, c .before .before .full-run .ensures .1)) (c .one-if-full2 .result) (c .one-if-full2 .ensures .0), omega (arith, c .one-if-full2 .ensures .1))
+
+pub +full-run-spec : {M : Type 1} → statement M
++full-run-spec = close μ-full-run λ t. full-run-lts.spec (
+  one-if-full-reads.Asked,
+  one-if-full-reads.Learnt,
+  choose-child-reads.Asked,
+  choose-child-reads.Learnt,
+  child-of-reads.Asked,
+  child-of-reads.Learnt,
+  full-run-below t,
+  full-run.Post,
+)
+    (full-run-at t)
+    full-run.Post
+    (full-run-one-if-full-requires t)
+    (full-run-returns t)
+    (full-run-choose-child-requires t)
+    (full-run-child-of-requires t)
+    (full-run-sub-full-run t)
+    (full-run-full-run-requires t)
+    (full-run-returns-2 t)
+    (full-run-one-if-full-requires-2 t)
+    (full-run-add-result t)
+    (full-run-returns-3 t)

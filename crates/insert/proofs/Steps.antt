@@ -1,0 +1,269 @@
+-- The way down and back. Below a node on the way stands the child that the entry goes below, on the way too. While the child grew, the
+-- node itself has not changed, so its entry leads there still; made tight, the node is the top of a tree again, in which the partner's
+-- entry fits.
+use mathlib.Core.Path.{_≡_, refl, sym, ap, subst, subst⁻¹, _∙_}
+use mathlib.Core.Bool.{true, false}
+use mathlib.Core.List.{List, [], _∷_, List·Memᴰ·head}
+use Prim.Native.Nat.{ℕ, suc, _+_, _-_, _≤_, _<_}
+use native.Mathlib.Omega.{arith}
+use lib.ListN.{length, set}
+use lib.IntN.{ℤ}
+use borrow.Author.Tests.{ne-eqb}
+use Rattle.rules.specs.declared.Rect.{Rect}
+use Rattle.rules.specs.declared.SlotNumber.{SlotNumber}
+use Rattle.rules.specs.declared.Pointer.the-variants.{Child}
+use Rattle.rules.specs.declared.Entry.{Entry}
+use Rattle.rules.specs.Numbers.{least}
+use Rattle.rules.specs.Geometry.{valid}
+use Rattle.rules.specs.Pool.{Node, Pool, node, entry, noEntry, nodeAt, entriesAt, entryFrom, entryAt, childOf, isLeaf, rects, coverOf, entryFor, putEntries, tighten}
+use Rattle.rules.specs.Insert.{Grown, Kept, Split, Full, ours, install, adjust, insertBelow}
+use Rattle.rules.specs.Layout.{read}
+use Rattle.rules_laws.proofs.Places.{at-place}
+use Rattle.rules_laws.proofs.Splits.{ours-lawful}
+use Rattle.choose.specs.State.{Choosable}
+use Rattle.pool.specs.Slots.{Fit}
+use Rattle.pool.proofs.Parts.{length-rects, rect-entry}
+use Rattle.free_slots.specs.declared.FreeSlots.{FreeSlots}
+use Rattle.free_slots.specs.Known.{Known}
+use Rattle.free_slots.proofs.Known.{known-put}
+use Rattle.sound_laws.specs.Tree.{slotsIn, Once, Slot, NodeIn, InnerEntry, Tree}
+use Rattle.sound_laws.proofs.Apart.{once-child}
+use Rattle.sound_laws.proofs.Entries.{tree-valid}
+use Rattle.sound_laws.proofs.Frame.{entries-same}
+use Rattle.sound_laws.proofs.Walk.{tree-node}
+use Rattle.insert_laws.specs.Grown as G
+use Rattle.insert_laws.specs.Slots.{leading, isFull, wayUp}
+use Rattle.insert_laws.proofs.Under.{fits-level}
+use Rattle.insert_laws.proofs.Tighten.{among-here, child-entry, top-same, tighten-grew}
+use Rattle.insert_laws.proofs.Below.{below-here, below-down, way, adjust-kept, adjust-split, adjust-full, way-there, below-grows}
+use Rattle.insert_laws.proofs.Taken.{way-here, run, run-ends, run-goes-on}
+use Rattle.insert.specs.declared.Growth.{Growth}
+use Rattle.insert.specs.declared.Growth.the-variants.{One, Two, Stuck}
+use Rattle.insert.specs.Left.{Holds, Grows}
+use Rattle.insert.specs.State.{Here, Way, Leads, Ready, grownOf, Back}
+use Rattle.insert.proofs.Fitted.{fits-valid}
+
+-- ---- the words stand for what the definitions give
+
+pub grown-is : (o : Grown) (g : Growth) (v : List ℤ) → Grows o g v → o ≡ grownOf (read v) g
+grown-is (Kept q) (One f) v h = ap Kept (sym (h .is))
+grown-is (Kept q) (Two y f) v h = absurd h
+grown-is (Kept q) Stuck v h = absurd h
+grown-is (Split q x) (One f) v h = absurd h
+grown-is (Split q x) (Two y f) v h = λ i. Split (sym (h .1 .is) i) (sym (h .0) i)
+grown-is (Split q x) Stuck v h = absurd h
+grown-is Full (One f) v h = absurd h
+grown-is Full (Two y f) v h = absurd h
+grown-is Full Stuck v h = refl
+
+pub holds-ready : {q : Pool} {f : FreeSlots} {v : List ℤ} → Holds q f v → Ready v f
+holds-ready {f = f} h = record { fit = h .fit; known = subst⁻¹ (λ (p : Pool). Known p f) (h .is) (h .known) }
+
+-- ---- an entry made tight
+
+pub inner-no-leaf : (n : Node) → 2 ≤ n .level → isLeaf n ≡ false
+unfolding isLeaf
+inner-no-leaf n h = ne-eqb (n .level) 1 (λ e. omega arith)
+
+module _ (p : Pool) (s : SlotNumber) (i : ℕ) where
+  pub tighten-made : (c : SlotNumber) (r : Rect) → c ≡ childOf (entryAt p s i) → r ≡ coverOf (entriesAt p c)
+      → putEntries p s (set (entriesAt p s) i (entry r (Child c))) ≡ tighten p s i
+  unfolding tighten entryFor
+  tighten-made c r h k =
+      ap (λ (x : Entry). putEntries p s (set (entriesAt p s) i x))
+      (ap (λ (q : Rect). entry q (Child c)) k ∙ ap (λ (d : SlotNumber). entry (coverOf (entriesAt p d)) (Child d)) h)
+
+  pub tighten-known : (f : FreeSlots) → Known p f → Leads p s i → Known (tighten p s i) f
+  unfolding tighten putEntries
+  tighten-known f k h =
+      known-put p f k s (h .slot .low) (h .slot .high) (λ e. omega (arith, h .inner)) (node (nodeAt p s .level) _) (λ e. omega (arith, h .inner))
+
+-- ---- the parent, when its child came back
+
+module _ (w : List ℤ) (s : SlotNumber) (i : ℕ) where
+  pub back-one : (f : FreeSlots) → Back w s i (One f) → (v : List ℤ) → Fit v → read v ≡ tighten (read w) s i
+      → Grows (adjust ours s i (Kept (read w))) (One f) v
+  back-one f b v fit is =
+      subst⁻¹ (λ (o : Grown). Grows o (One f) v) (adjust-kept ours s i (read w))
+      (record { fit = fit; is = is; known = tighten-known (read w) s i f (b .0 .known) (b .1) })
+
+  module _ (x : Entry) (f : FreeSlots) (b : Back w s i (Two x f)) (v : List ℤ) (fit : Fit v) (is : read v ≡ tighten (read w) s i) where
+    pub two-ready : Ready v f
+    two-ready = record { fit = fit; known = subst⁻¹ (λ (p : Pool). Known p f) is (tighten-known (read w) s i f (b .0 .known) (b .1)) }
+
+    pub two-here : Here (read v) s x
+    two-here = subst⁻¹ (λ (p : Pool). Here p s x) is (b .2)
+
+    pub back-two : (r : Growth) (u : List ℤ) → Grows (install ours (read v) s x) r u → Grows (adjust ours s i (Split (read w) x)) r u
+    back-two r u h =
+        subst⁻¹ (λ (o : Grown). Grows o r u) (adjust-split ours s i (read w) x) (subst (λ (p : Pool). Grows (install ours p s x) r u) is h)
+
+  pub back-stuck : (v : List ℤ) → Grows (adjust ours s i Full) Stuck v
+  back-stuck v = subst⁻¹ (λ (o : Grown). Grows o Stuck v) (adjust-full ours s i) tt
+
+-- ---- down
+
+module _ {p : Pool} {n : ℕ} {s : SlotNumber} {e : Entry} (h : Way p n s e) where
+  pub way-node : NodeIn p (n + h .level) s
+  way-node = tree-node p (n + h .level) s (h .tree)
+
+  pub way-end : n ≡ 0 → Here p s e
+  way-end z = record { level = h .level; tree = subst (λ (k : ℕ). Tree p k s) (omega arith) (h .tree); fits = h .fits; few = omega (arith, h .few) }
+
+  pub way-valid : valid (e .rect) ≡ true
+  way-valid = fits-valid p (h .level) e (h .fits)
+
+  pub way-ends : n ≡ 0 → insertBelow ours n p s e ≡ install ours p s e
+  way-ends z = ap (λ (k : ℕ). insertBelow ours k p s e) z ∙ below-here ours p s e
+
+  pub run-here : n ≡ 0 → leading (isFull p) (wayUp ours n p s e) ≡ leading (isFull p) (s ∷ [])
+  run-here z = ap (λ (k : ℕ). leading (isFull p) (wayUp ours k p s e)) z ∙ ap (leading (isFull p)) (way-here ours p s e)
+
+  module _ (more : 1 ≤ n) where
+    pub way-choosable : Choosable (rects (entriesAt p s))
+    way-choosable = record {
+      some = omega (arith, length-rects (entriesAt p s), h .some more);
+      ok = λ i k. rw (rect-entry (entriesAt p s) i)
+          (tree-valid p (n + h .level) s (h .tree) _ (at-place (entriesAt p s) i noEntry (omega (arith, length-rects (entriesAt p s)))));
+    }
+
+    -- the levels below the child's
+    abbrev below : ℕ
+    below = n + h .level - 2
+
+    levels : n + h .level ≡ suc (suc below)
+    levels = omega (arith, fits-level p (h .level) e (h .fits))
+
+    pub way-inner : isLeaf (nodeAt p s) ≡ false
+    way-inner = inner-no-leaf (nodeAt p s) (omega (arith, way-node .level, levels))
+
+    tree : Tree p (suc (suc below)) s
+    tree = subst (λ (k : ℕ). Tree p k s) levels (h .tree)
+
+    once : Once (slotsIn p (suc (suc below)) s)
+    once = subst (λ (k : ℕ). Once (slotsIn p k s)) levels (h .once)
+
+    abbrev at : ℕ
+    at = way ours p s e
+
+    abbrev child : SlotNumber
+    child = childOf (entryAt p s at)
+
+    there : at < length (entriesAt p s)
+    there = way-there ours ours-lawful p s e (h .some more)
+
+    inner : InnerEntry p (Tree p (suc below)) (entryAt p s at)
+    inner = child-entry p below s tree at there
+
+    child-once : Once (slotsIn p (suc below) child)
+    child-once = once-child p below s once (entryAt p s at) (among-here p below s tree at there at there)
+
+    down : Way p (n - 1) child e
+    down = record {
+      level = h .level;
+      tree = subst (λ (k : ℕ). Tree p k child) (omega (arith, levels)) (inner .child);
+      once = subst (λ (k : ℕ). Once (slotsIn p k child)) (omega (arith, levels)) child-once;
+      some = λ _. omega (arith, inner .enough);
+      fits = h .fits;
+      few = omega (arith, h .few);
+    }
+
+    -- ---- and back
+
+    grew : G.Grows p (suc below) child (h .level) e (slotsIn p (suc below) child) (insertBelow ours (n - 1) p child e)
+    grew =
+        below-grows ours ours-lawful p (h .level) e (h .fits) (n - 1) (suc below) child (omega (arith, levels)) (inner .child) child-once
+        (λ _. omega (arith, inner .enough))
+
+    -- the node has not changed, and its entry leads to the child, which has entries
+    module _ (q : Pool) {come left : Node} {taken : List SlotNumber}
+        (g : G.Grew (G.spot p (suc below) child) (G.spot q (suc below) child) come left taken (slotsIn p (suc below) child))
+        (low : left .level ≤ suc (suc below)) (enough : least ≤ length (entriesAt q child)) where
+      same : nodeAt p s ≡ nodeAt q s
+      same = top-same p below s tree at there once q g low enough
+
+      same-entry : entryAt q s at ≡ entryAt p s at
+      unfolding entryAt
+      same-entry = ap (λ (es : List Entry). entryFrom es at) (sym (entries-same p q s same))
+
+      leads : Leads q s at
+      leads = record {
+        slot = record { low = way-node .slot .low; high = omega (arith, way-node .slot .high, g .long) };
+        inner = omega (arith, ap (λ (m : Node). m .level) same, way-node .level, levels);
+        there = omega (arith, there, ap length (entries-same p q s same));
+        child = subst⁻¹ (λ (x : Entry). Slot q (childOf x)) same-entry (tree-node q (suc below) child (g .tree) .slot);
+        some = subst⁻¹ (λ (x : Entry). 0 < length (entriesAt q (childOf x))) same-entry (omega (arith, enough));
+      }
+
+    kept-back : (q : Pool) (f : FreeSlots) (v : List ℤ) → G.Grows p (suc below) child (h .level) e (slotsIn p (suc below) child) (Kept q)
+        → Holds q f v → Back v s at (One f)
+    kept-back q f v a b =
+        (holds-ready b, subst⁻¹ (λ (x : Pool). Leads x s at) (b .is) (leads q (a .1) (omega arith) (omega (arith, inner .enough, a .3))))
+
+    split-back : (q : Pool) (x y : Entry) (f : FreeSlots) (v : List ℤ)
+        → G.Grows p (suc below) child (h .level) e (slotsIn p (suc below) child) (Split q x) → y ≡ x → Holds q f v → Back v s at (Two y f)
+    split-back q x y f v a z b =
+        let t = tighten-grew p below s tree at there once q (a .1) (omega arith) (a .3) in (
+          holds-ready b,
+          subst⁻¹ (λ (u : Pool). Leads u s at) (b .is) (leads q (a .1) (omega arith) (a .3)),
+          subst⁻¹ (λ (u : Pool). Here (tighten u s at) s y) (b .is) (subst⁻¹ (Here (tighten q s at) s) z (record {
+            level = suc (suc below);
+            tree = t .tree;
+            fits = t .fit x (List·Memᴰ·head refl);
+            few = omega (arith, h .few, levels);
+          })),
+        )
+
+    on-back : (o : Grown) (g : Growth) (v : List ℤ) → G.Grows p (suc below) child (h .level) e (slotsIn p (suc below) child) o → Grows o g v → Back v s at g
+    on-back (Kept q) (One f) v a b = kept-back q f v a b
+    on-back (Kept q) (Two y f) v a b = absurd b
+    on-back (Kept q) Stuck v a b = absurd b
+    on-back (Split q x) (One f) v a b = absurd b
+    on-back (Split q x) (Two y f) v a b = split-back q x y f v a (b .0) (b .1)
+    on-back (Split q x) Stuck v a b = absurd b
+    on-back Full (One f) v a b = absurd b
+    on-back Full (Two y f) v a b = absurd b
+    on-back Full Stuck v a b = tt
+
+    -- as the code has it: a place, and the child of the entry there
+    module _ (i : ℕ) (c : SlotNumber) (place : i ≡ at) (leads-to : c ≡ childOf (entryAt p s i)) where
+      child-is : c ≡ child
+      child-is = leads-to ∙ ap (λ (k : ℕ). childOf (entryAt p s k)) place
+
+      pub way-down : Way p (n - 1) c e
+      way-down = subst⁻¹ (λ (t : SlotNumber). Way p (n - 1) t e) child-is down
+
+      pub way-back : (g : Growth) (v : List ℤ) → Grows (insertBelow ours (n - 1) p c e) g v → Back v s i g
+      way-back g v b =
+          subst⁻¹ (λ (k : ℕ). Back v s k g) place
+          (on-back (insertBelow ours (n - 1) p child e) g v grew (subst (λ (t : SlotNumber). Grows (insertBelow ours (n - 1) p t e) g v) child-is b))
+
+      pub way-up : (g : Growth) (v : List ℤ) → Grows (insertBelow ours (n - 1) p c e) g v → (r : Growth) (u : List ℤ)
+          → Grows (adjust ours s i (grownOf (read v) g)) r u → Grows (insertBelow ours n p s e) r u
+      way-up g v b r u a =
+          let k : n ≡ suc (n - 1) = omega arith in
+          subst⁻¹ (λ (o : Grown). Grows o r u)
+          (ap (λ (m : ℕ). insertBelow ours m p s e) k ∙ below-down ours (n - 1) p s e
+          ∙ ap (λ (t : SlotNumber). adjust ours s at (insertBelow ours (n - 1) p t e)) (sym child-is)
+          ∙ ap (adjust ours s at) (grown-is (insertBelow ours (n - 1) p c e) g v b)
+          ∙ ap (λ (j : ℕ). adjust ours s j (grownOf (read v) g)) (sym place)) a
+
+      -- the run of full nodes
+      abbrev runTo : ℕ → SlotNumber → ℕ
+      runTo m t = leading (isFull p) (wayUp ours m p t e)
+
+      pub run-shorter : (r : ℕ) → r ≡ runTo (n - 1) c → r < n → r ≡ runTo n s
+      unfolding run
+      run-shorter r q less =
+          let k : suc (n - 1) ≡ n = omega arith in
+          let z = q ∙ ap (runTo (n - 1)) child-is in
+          z ∙ sym (run-ends ours (n - 1) p s e (omega (arith, z))) ∙ ap (λ (m : ℕ). runTo m s) k
+
+      pub run-longer : (r : ℕ) → r ≡ runTo (n - 1) c → r ≡ n → (one : ℕ) → one ≡ leading (isFull p) (s ∷ []) → n + one ≡ runTo n s
+      unfolding run
+      run-longer r q all one f =
+          let k : suc (n - 1) ≡ n = omega arith in
+          let z = q ∙ ap (runTo (n - 1)) child-is in
+          let g = run-goes-on ours (n - 1) p s e (omega (arith, z)) in
+          let m : n + one ≡ suc (n - 1) + leading (isFull p) (s ∷ []) = omega arith in
+          m ∙ sym g ∙ ap (λ (j : ℕ). runTo j s) k

@@ -1,0 +1,48 @@
+-- How what the code leaves stands for what the definitions give, and what a tree must be that an entry goes into.
+use mathlib.Core.Path.{_≡_}
+use mathlib.Core.List.{List}
+use Prim.Native.Nat.{_≤_, _<_}
+use lib.ListN.{length}
+use lib.IntN.{ℤ}
+use Rattle.rules.specs.Pool.{Pool, entriesAt}
+use Rattle.rules.specs.Layout.{read}
+use Rattle.rules.specs.Insert as I
+use Rattle.pool.specs.Slots.{Fit}
+use Rattle.free_slots.specs.declared.FreeSlots.{FreeSlots}
+use Rattle.free_slots.specs.Known.{Known}
+use Rattle.sound_laws.specs.Tree.{treeSlots, Once, Tree}
+use Rattle.insert.specs.declared.Growth.{Growth}
+use Rattle.insert.specs.declared.Growth.the-variants.{One, Two, Stuck}
+use Rattle.insert.specs.declared.Outcome.{Outcome}
+use Rattle.insert.specs.declared.Outcome.the-variants.{Made, Refused}
+
+-- the words hold the pool q, and f is what is known of its free slots
+pub record Holds (q : Pool) (f : FreeSlots) (w : List ℤ) : Type 0 where
+  pub fit : Fit w
+  pub is : read w ≡ q
+  pub known : Known q f
+
+-- the node that an entry came to is one node still, or two
+abbrev pub Grows : I.Grown → Growth → List ℤ → Type 0
+Grows (I.Kept q) (One f) w = Holds q f w
+Grows (I.Kept q) (Two y f) w = ⊥
+Grows (I.Kept q) Stuck w = ⊥
+Grows (I.Split q x) (One f) w = ⊥
+Grows (I.Split q x) (Two y f) w = (y ≡ x) × Holds q f w
+Grows (I.Split q x) Stuck w = ⊥
+Grows I.Full (One f) w = ⊥
+Grows I.Full (Two y f) w = ⊥
+Grows I.Full Stuck w = Unit {0}
+
+-- a change is made as the definition has it; where no slot is free, nothing is written
+abbrev pub Leaves : List ℤ → I.Change → Outcome → List ℤ → Type 0
+Leaves before (I.Done q) (Made f) w = Holds q f w
+Leaves before (I.Done q) Refused w = ⊥
+Leaves before I.NoneFree (Made f) w = ⊥
+Leaves before I.NoneFree Refused w = w ≡ before
+
+-- a tree from the root on, no slot in it twice
+pub record Upright (p : Pool) : Type 0 where
+  pub tree : Tree p (p .height) (p .root)
+  pub once : Once (treeSlots p)
+  pub some : 2 ≤ p .height → 0 < length (entriesAt p (p .root))

@@ -1,0 +1,78 @@
+-- What the functions of a walk ask of the pool between them. A reader of `insertAt` and `insertRecord` needs none of this.
+use mathlib.Core.Path.{_≡_}
+use mathlib.Core.List.{List}
+use Prim.Native.Nat.{ℕ, suc, _+_, _≤_, _<_}
+use lib.ListN.{length, getD}
+use lib.IntN.{ℤ}
+use Rattle.rules.specs.declared.SlotNumber.{SlotNumber}
+use Rattle.rules.specs.declared.Entry.{Entry}
+use Rattle.rules.specs.Pool.{Pool, nodeAt, entriesAt, entryAt, childOf, tighten}
+use Rattle.rules.specs.Layout.{read}
+use Rattle.rules.specs.Insert as I
+use Rattle.pool.specs.Slots.{Fit}
+use Rattle.free_slots.specs.declared.FreeSlots.{FreeSlots}
+use Rattle.free_slots.specs.Known.{Known}
+use Rattle.sound_laws.specs.Tree.{slotsIn, Once, Slot, Tree}
+use Rattle.insert_laws.specs.Grown.{Fits}
+use Rattle.insert.specs.declared.Growth.{Growth}
+use Rattle.insert.specs.declared.Growth.the-variants.{One, Two, Stuck}
+
+-- nine places, of which the first n are places of nine
+pub record Inside (places : List ℕ) (n : ℕ) : Type 0 where
+  pub nine : length places ≡ 9
+  pub inside : (k : ℕ) → k < n → getD places k 0 < 9
+
+-- the node at s is the top of a tree, and the entry may stand in it
+pub record Here (p : Pool) (s : SlotNumber) (e : Entry) : Type 0 where
+  pub level : ℕ
+  pub tree : Tree p level s
+  pub fits : Fits p level e
+  pub few : level ≤ 64
+
+-- .. and the entry goes into a node n levels below
+pub record Way (p : Pool) (n : ℕ) (s : SlotNumber) (e : Entry) : Type 0 where
+  pub level : ℕ
+  pub tree : Tree p (n + level) s
+  pub once : Once (slotsIn p (n + level) s)
+  pub some : 0 < n → 0 < length (entriesAt p s)
+  pub fits : Fits p level e
+  pub few : n + level ≤ 64
+
+-- entry i of the node at s leads to a node with entries
+pub record Leads (p : Pool) (s : SlotNumber) (i : ℕ) : Type 0 where
+  pub slot : Slot p s
+  pub inner : 2 ≤ nodeAt p s .level
+  pub there : i < length (entriesAt p s)
+  pub child : Slot p (childOf (entryAt p s i))
+  pub some : 0 < length (entriesAt p (childOf (entryAt p s i)))
+
+-- the root has entries, and the other entry may stand beside its own in a new root
+pub record Beside (p : Pool) (x : Entry) : Type 0 where
+  pub slot : Slot p (p .root)
+  pub some : 0 < length (entriesAt p (p .root))
+  pub few : p .height ≤ 64
+  pub high : 1 ≤ p .height
+  pub fits : Fits p (suc (p .height)) x
+
+-- words that are a pool's, with what is known of its free slots
+pub record Ready (w : List ℤ) (f : FreeSlots) : Type 0 where
+  pub fit : Fit w
+  pub known : Known (read w) f
+
+-- what the definitions call it, when the words hold p
+abbrev pub grownOf : Pool → Growth → I.Grown
+grownOf p (One f) = I.Kept p
+grownOf p (Two x f) = I.Split p x
+grownOf p Stuck = I.Full
+
+-- the child of entry i of the node at s has become one node or two
+abbrev pub Back : List ℤ → SlotNumber → ℕ → Growth → Type 0
+Back w s i (One f) = Ready w f × Leads (read w) s i
+Back w s i (Two x f) = Ready w f × Leads (read w) s i × Here (tighten (read w) s i) s x
+Back w s i Stuck = Unit {0}
+
+-- the root has become one node or two
+abbrev pub Risen : List ℤ → Growth → Type 0
+Risen w (One f) = Ready w f
+Risen w (Two x f) = Ready w f × Beside (read w) x
+Risen w Stuck = Unit {0}

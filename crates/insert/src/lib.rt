@@ -1,0 +1,360 @@
+// Insert: ChooseLeaf down, SplitNode and AdjustTree up. Deletes put entries back by the same rules, each at its own level.
+ghost use mathlib.Core.Path.{_≡_};
+ghost use mathlib.Core.Bool.{true};
+ghost use mathlib.Core.List.{[], _∷_, _++_, map};
+ghost use Prim.Native.Nat.{suc, _-_, _≤_};
+ghost use lib.Dec.{ltb};
+ghost use lib.ListN.{length, take};
+ghost use Rattle.rules.specs.declared.FreeSlot.the-variants.{At};
+ghost use Rattle.rules.specs.Numbers.{goodNumber};
+ghost use Rattle.rules.specs.Geometry.{valid};
+ghost use Rattle.rules.specs.Layout as L;
+ghost use Rattle.rules.specs.Pool as P;
+ghost use Rattle.rules.specs.Insert as I;
+ghost use Rattle.pool.specs.Slots.{Fit, InPool, SmallAll, KindAll};
+ghost use Rattle.free_slots.specs.Known.{Known};
+ghost use Rattle.sound_laws.specs.Tree.{Whole};
+ghost use Rattle.insert_laws.specs.Grown.{Fits};
+ghost use Rattle.insert_laws.specs.Slots.{leading, isFull, wayUp, slotsNeeded};
+ghost use Rattle.insert.specs.Left.{Grows, Leaves, Upright};
+ghost use Rattle.insert.specs.State.{Inside, Here, Way, Leads, Beside, Ready, grownOf, Back, Risen};
+use rules::Entry;
+use rules::FreeSlot;
+use rules::Pointer;
+use rules::Record;
+use rules::Rect;
+use rules::SlotNumber;
+use free_slots::FreeSlots;
+
+// What became of a node that an entry came to: it is one node still; it is two, and the partner's entry is for the parent; or there was no
+// free slot.
+pub enum Growth {
+    One(FreeSlots),
+    Two(Entry, FreeSlots),
+    Stuck,
+}
+
+// What became of a change: it was made, with what is known of the free slots now; or "the rules call for a slot at a moment when none is
+// free".
+pub enum Outcome {
+    Made(FreeSlots),
+    Refused,
+}
+
+// ---- SplitNode
+
+// "A full node splits over nine entries, the eight in stored order and the new one ninth."
+fn nine_entries(pool: &[i32], s: SlotNumber, e: Entry) -> [Entry; 9]
+    requires { ⌜ InPool (now pool) s ⌝ }
+    requires { ⌜ length (P.entriesAt (L.read (now pool)) s) ≡ 8 ⌝ }
+    ensures { λ r. ⌜ r ≡ P.entriesAt (L.read (now (pool .entry))) s ++ e ∷ [] ⌝ }
+{
+    let mut es = pool::entries_of(pool, s);
+    es[8] = e;
+    es
+}
+
+// Their rectangles. The array needs something in it before the loop: the first will do.
+fn rects_of(es: [Entry; 9]) -> [Rect; 9]
+    requires { ⌜ length es ≡ 9 ⌝ }
+    ensures { λ r. ⌜ r ≡ P.rects es ⌝ }
+{
+    let first = es[0];
+    let rect = first.rect;
+    let mut rects = [rect; 9];
+    let mut i: usize = 0;
+    while i < 9 {
+        let e = es[i];
+        let r = e.rect;
+        rects[i] = r;
+        i += 1;
+    }
+    rects
+}
+
+// The entries at the first n of the places.
+fn group_of(es: [Entry; 9], places: [usize; 9], n: usize) -> [Entry; 9]
+    requires { ⌜ length es ≡ 9 ⌝ }
+    requires { ⌜ n ≤ 9 ⌝ }
+    requires { ⌜ Inside places n ⌝ }
+    ensures { λ r. ⌜ take n r ≡ map (P.entryFrom es) (take n places) ⌝ }
+{
+    let mut group = es;
+    let mut i: usize = 0;
+    while i < n {
+        let at = places[i];
+        group[i] = es[at];
+        i += 1;
+    }
+    group
+}
+
+// A group of the nine becomes the node of a slot.
+fn put_group(
+    pool: &mut [i32],
+    s: SlotNumber,
+    level: usize,
+    es: [Entry; 9],
+    places: [usize; 9],
+    n: usize,
+)
+    requires { ⌜ Fit (now pool) ⌝ }
+    requires { ⌜ InPool (now pool) s ⌝ }
+    requires { ⌜ level ≤ 4096 ⌝ }
+    requires { ⌜ n ≤ 8 ⌝ }
+    requires { ⌜ length es ≡ 9 ⌝ }
+    requires { ⌜ Inside places n ⌝ }
+    requires { ⌜ SmallAll es 9 ⌝ }
+    requires { ⌜ KindAll level es 9 ⌝ }
+    ensures is { λ _. ⌜ L.read (now (pool .exit)) ≡ P.putNode (L.read (now (pool .entry))) s (P.node level (map (P.entryFrom es) (take n places))) ⌝ }
+    ensures fit { λ _. ⌜ Fit (now (pool .exit)) ⌝ }
+{
+    let group = group_of(es, places, n);
+    pool::put_node(pool, s, level, group, n);
+}
+
+// "Group 1 stays in the old slot. Group 2 takes the lowest free slot", t. What is left is the partner's entry, for the parent.
+fn split_node(pool: &mut [i32], s: SlotNumber, e: Entry, t: SlotNumber) -> Entry
+    requires { ⌜ Fit (now pool) ⌝ }
+    requires { ⌜ Here (L.read (now pool)) s e ⌝ }
+    requires { ⌜ 8 ≤ length (P.entriesAt (L.read (now pool)) s) ⌝ }
+    requires { ⌜ P.lowestFree (L.read (now pool)) ≡ At t ⌝ }
+    ensures is { λ r. ⌜ I.install I.ours (L.read (now (pool .entry))) s e ≡ I.Split (L.read (now (pool .exit))) r ⌝ }
+    ensures fit { λ r. ⌜ Fit (now (pool .exit)) ⌝ }
+{
+    let level = pool::level_of(pool, s);
+    let nine = nine_entries(pool, s, e);
+    let g = split::split_nine(rects_of(nine));
+    let one = g.one;
+    let ones = g.ones;
+    let two = g.two;
+    let twos = g.twos;
+    put_group(pool, s, level, nine, one, ones);
+    put_group(pool, t, level, nine, two, twos);
+    let rect = free_slots::cover_of(pool, t);
+    Entry {
+        rect,
+        pointer: Pointer::Child(t),
+    }
+}
+
+// ---- down and up
+
+// I2 and AT4: "A new entry goes last." A full node is split.
+fn install(pool: &mut [i32], s: SlotNumber, e: Entry, free: FreeSlots) -> Growth
+    requires { ⌜ Ready (now pool) free ⌝ }
+    requires { ⌜ Here (L.read (now pool)) s e ⌝ }
+    ensures { λ r. ⌜ Grows (I.install I.ours (L.read (now (pool .entry))) s e) r (now (pool .exit)) ⌝ }
+{
+    if pool::count_of(pool, s) < 8 {
+        pool::add_entry(pool, s, e);
+        return Growth::One(free);
+    }
+    let lowest = free_slots::lowest(pool, free);
+    match lowest {
+        FreeSlot::At(t) => {
+            let partner = split_node(pool, s, e, t);
+            let left = free_slots::less_slot(free, t);
+            Growth::Two(partner, left)
+        }
+        FreeSlot::Nowhere => Growth::Stuck,
+    }
+}
+
+// AT3: entry i of the node at s gets the smallest rectangle that holds its child's entries.
+fn tighten(pool: &mut [i32], s: SlotNumber, i: usize)
+    requires { ⌜ Fit (now pool) ⌝ }
+    requires { ⌜ Leads (L.read (now pool)) s i ⌝ }
+    ensures is { λ _. ⌜ L.read (now (pool .exit)) ≡ P.tighten (L.read (now (pool .entry))) s i ⌝ }
+    ensures fit { λ _. ⌜ Fit (now (pool .exit)) ⌝ }
+{
+    let c = pool::child_of(pool, s, i);
+    let rect = free_slots::cover_of(pool, c);
+    let tight = Entry {
+        rect,
+        pointer: Pointer::Child(c),
+    };
+    pool::put_entry_of(pool, s, i, tight);
+}
+
+// "AdjustTree sets each path cover tight and adds the partner last in the parent.": at the parent s, whose entry i leads to the child.
+fn adjust(pool: &mut [i32], s: SlotNumber, i: usize, grown: Growth) -> Growth
+    requires { ⌜ Back (now pool) s i grown ⌝ }
+    ensures { λ r. ⌜ Grows (I.adjust I.ours s i (grownOf (L.read (now (pool .entry))) grown)) r (now (pool .exit)) ⌝ }
+{
+    match grown {
+        Growth::One(free) => {
+            tighten(pool, s, i);
+            Growth::One(free)
+        }
+        Growth::Two(partner, free) => {
+            tighten(pool, s, i);
+            install(pool, s, partner, free)
+        }
+        Growth::Stuck => Growth::Stuck,
+    }
+}
+
+// CL2 to CL4, then AT1 to AT5 on the way back: e goes into a node n levels below the node at s.
+fn insert_below(pool: &mut [i32], n: usize, s: SlotNumber, e: Entry, free: FreeSlots) -> Growth
+    requires { ⌜ Ready (now pool) free ⌝ }
+    requires { ⌜ Way (L.read (now pool)) n s e ⌝ }
+    ensures { λ r. ⌜ Grows (I.insertBelow I.ours n (L.read (now (pool .entry))) s e) r (now (pool .exit)) ⌝ }
+{
+    if n == 0 {
+        return install(pool, s, e, free);
+    }
+    let rect = e.rect;
+    let i = choose::choose_child(pool, s, rect);
+    let c = pool::child_of(pool, s, i);
+    let grown = insert_below(pool, n - 1, c, e, free);
+    adjust(pool, s, i, grown)
+}
+
+// ---- at the root
+
+// I4: "If the root splits, a new root takes the lowest free slot then left, with entries for old root and partner in that order."
+fn new_root(pool: &mut [i32], partner: Entry, free: FreeSlots) -> Outcome
+    requires { ⌜ Ready (now pool) free ⌝ }
+    requires { ⌜ Beside (L.read (now pool)) partner ⌝ }
+    ensures { λ r. ⌜ Leaves (now (pool .entry)) (I.growTree (I.Split (L.read (now (pool .entry))) partner)) r (now (pool .exit)) ⌝ }
+{
+    let lowest = free_slots::lowest(pool, free);
+    match lowest {
+        FreeSlot::At(t) => {
+            let root = pool::root_of(pool);
+            let height = pool::height_of(pool);
+            let rect = free_slots::cover_of(pool, root);
+            let old = Entry {
+                rect,
+                pointer: Pointer::Child(root),
+            };
+            let mut two = [old; 9];
+            two[1] = partner;
+            pool::put_node(pool, t, height + 1, two, 2);
+            pool::put_root(pool, t, height + 1);
+            let left = free_slots::less_slot(free, t);
+            Outcome::Made(left)
+        }
+        FreeSlot::Nowhere => Outcome::Refused,
+    }
+}
+
+// What became of the root becomes of the pool.
+fn grow_tree(pool: &mut [i32], grown: Growth) -> Outcome
+    requires { ⌜ Risen (now pool) grown ⌝ }
+    ensures { λ r. ⌜ Leaves (now (pool .entry)) (I.growTree (grownOf (L.read (now (pool .entry))) grown)) r (now (pool .exit)) ⌝ }
+{
+    match grown {
+        Growth::One(free) => Outcome::Made(free),
+        Growth::Two(partner, free) => new_root(pool, partner, free),
+        Growth::Stuck => Outcome::Refused,
+    }
+}
+
+// ---- how many slots it takes
+
+// 1 for a full node, 0 for one with room.
+fn one_if_full(pool: &[i32], s: SlotNumber) -> usize
+    requires { ⌜ InPool (now pool) s ⌝ }
+    ensures is { λ r. ⌜ r ≡ leading (isFull (L.read (now (pool .entry)))) (s ∷ []) ⌝ }
+    ensures most { λ r. ⌜ r ≤ 1 ⌝ }
+{
+    if pool::count_of(pool, s) < 8 { 0 } else { 1 }
+}
+
+// With how many full nodes the way up begins: from the node that the entry goes into, n levels below the node at s, up to that.
+fn full_run(pool: &[i32], n: usize, s: SlotNumber, e: Entry) -> usize
+    requires { ⌜ L.rightLength (now pool) ≡ true ⌝ }
+    requires { ⌜ Way (L.read (now pool)) n s e ⌝ }
+    ensures is { λ r. ⌜ r ≡ leading (isFull (L.read (now (pool .entry)))) (wayUp I.ours n (L.read (now (pool .entry))) s e) ⌝ }
+    ensures most { λ r. ⌜ r ≤ suc n ⌝ }
+{
+    if n == 0 {
+        return one_if_full(pool, s);
+    }
+    let rect = e.rect;
+    let i = choose::choose_child(pool, s, rect);
+    let c = pool::child_of(pool, s, i);
+    let r = full_run(pool, n - 1, c, e);
+    if r < n {
+        return r;
+    }
+    n + one_if_full(pool, s)
+}
+
+// "the run of full nodes from the chosen leaf upward, plus one if the run includes the root"
+fn needed(pool: &[i32], level: usize, e: Entry) -> usize
+    requires { ⌜ L.rightLength (now pool) ≡ true ⌝ }
+    requires { ⌜ level ≤ L.read (now pool) .height ⌝ }
+    requires { ⌜ Way (L.read (now pool)) (L.read (now pool) .height - level) (L.read (now pool) .root) e ⌝ }
+    ensures { λ r. ⌜ r ≡ slotsNeeded I.ours level (L.read (now (pool .entry))) e ⌝ }
+{
+    let n = pool::height_of(pool) - level;
+    let root = pool::root_of(pool);
+    let r = full_run(pool, n, root, e);
+    if r <= n { r } else { r + 1 }
+}
+
+// Whether the free slots are fewer than it takes. No entry takes more than one for each level and one more, so where there are as many the
+// way is not looked at.
+fn too_few(pool: &[i32], level: usize, e: Entry, free: FreeSlots) -> bool
+    requires { ⌜ L.rightLength (now pool) ≡ true ⌝ }
+    requires { ⌜ Upright (L.read (now pool)) ⌝ }
+    requires { ⌜ (level ≤ L.read (now pool) .height) × (L.read (now pool) .height ≤ 64) ⌝ }
+    requires { ⌜ Fits (L.read (now pool)) level e ⌝ }
+    ensures { λ r. ⌜ r ≡ ltb (free .count) (slotsNeeded I.ours level (L.read (now (pool .entry))) e) ⌝ }
+{
+    let count = free.count;
+    if pool::height_of(pool) < count {
+        return false;
+    }
+    count < needed(pool, level, e)
+}
+
+// ---- insert
+
+// An entry goes in at a level; where the slots do not suffice, nothing is written.
+pub fn insert_at(pool: &mut [i32], level: usize, e: Entry, free: FreeSlots) -> Outcome
+    requires { ⌜ Fit (now pool) ⌝ }
+    requires { ⌜ Upright (L.read (now pool)) ⌝ }
+    requires { ⌜ (level ≤ L.read (now pool) .height) × (L.read (now pool) .height ≤ 64) ⌝ }
+    requires { ⌜ Fits (L.read (now pool)) level e ⌝ }
+    requires { ⌜ Known (L.read (now pool)) free ⌝ }
+    ensures { λ r. ⌜ Leaves (now (pool .entry)) (I.insertAt I.ours level (L.read (now (pool .entry))) e) r (now (pool .exit)) ⌝ }
+{
+    if too_few(pool, level, e, free) {
+        return Outcome::Refused;
+    }
+    let n = pool::height_of(pool) - level;
+    let root = pool::root_of(pool);
+    let grown = insert_below(pool, n, root, e, free);
+    grow_tree(pool, grown)
+}
+
+// A record goes in, and is counted; where the slots do not suffice, nothing is written.
+pub fn insert_record(pool: &mut [i32], r: Record, free: FreeSlots) -> Outcome
+    requires { ⌜ Fit (now pool) ⌝ }
+    requires { ⌜ Whole (L.read (now pool)) ⌝ }
+    requires { ⌜ (valid (r .rect) ≡ true) × (goodNumber (r .number) ≡ true) ⌝ }
+    requires { ⌜ Known (L.read (now pool)) free ⌝ }
+    ensures { λ o. ⌜ Leaves (now (pool .entry)) (I.insertRecord I.ours (L.read (now (pool .entry))) r) o (now (pool .exit)) ⌝ }
+{
+    let n = pool::records_of(pool);
+    let counted = n + 1;
+    pool::put_records(pool, counted);
+    let rect = r.rect;
+    let number = r.number;
+    let e = Entry {
+        rect,
+        pointer: Pointer::Number(number),
+    };
+    let outcome = insert_at(pool, 1, e, free);
+    match outcome {
+        Outcome::Made(left) => Outcome::Made(left),
+        Outcome::Refused => {
+            pool::put_records(pool, n);
+            Outcome::Refused
+        }
+    }
+}

@@ -1,0 +1,59 @@
+-- The tests of sameness say that two things are equal: each at most the other is the same number, and a thing is its parts.
+use mathlib.Core.Path.{_≡_, refl, ap}
+use mathlib.Core.Logic.{_↔_}
+use mathlib.Core.Bool.{true}
+use native.Mathlib.Omega.{arith}
+use lib.IntN.{ℤ, pos, negsuc}
+use lib.Signed.{leZ}
+use borrow.Author.Tests.{le-leb, eqb-true, eq-eqb}
+use Rattle.rules.specs.declared.Rect.{Rect}
+use Rattle.rules.specs.declared.SlotNumber.{SlotNumber}
+use Rattle.rules.specs.declared.Record.{Record}
+use Rattle.rules.specs.Lists.{same}
+use Rattle.rules.specs.Geometry.{sameRect, samePair}
+use Rattle.rules.specs.Pool.{sameSlot}
+use Rattle.rules_laws.proofs.Bools.{and-both, both-and}
+use Rattle.rules_laws.proofs.Orders.{both-at-most}
+
+leZ-self : (a : ℤ) → leZ a a ≡ true
+leZ-self (pos a) = le-leb a a (omega arith)
+leZ-self (negsuc a) = le-leb a a (omega arith)
+
+pub same-is : (a b : ℤ) → (same a b ≡ true) ↔ (a ≡ b)
+unfolding same
+same-is a b = (
+  λ h. let q = and-both (leZ a b) (leZ b a) h in both-at-most a b (q .0) (q .1),
+  λ e. rw e (both-and (leZ b b) (leZ b b) (leZ-self b) (leZ-self b)),
+)
+
+pub same-rect : (a b : Rect) → (sameRect a b ≡ true) ↔ (a ≡ b)
+unfolding sameRect
+same-rect a b = (to, λ e. rw (e, itself (b .lowX), itself (b .lowY), itself (b .highX), itself (b .highY)))
+  where
+    itself : (z : ℤ) → same z z ≡ true
+    itself z = same-is z z .1 refl
+
+    to : sameRect a b ≡ true → a ≡ b
+    to h =
+        let q = and-both _ (same (a .highY) (b .highY)) h in
+        let r = and-both _ (same (a .highX) (b .highX)) (q .0) in
+        let s = and-both (same (a .lowX) (b .lowX)) (same (a .lowY) (b .lowY)) (r .0) in
+        λ i. record {
+          lowX = same-is (a .lowX) (b .lowX) .0 (s .0) i;
+          lowY = same-is (a .lowY) (b .lowY) .0 (s .1) i;
+          highX = same-is (a .highX) (b .highX) .0 (r .1) i;
+          highY = same-is (a .highY) (b .highY) .0 (q .1) i;
+        }
+
+pub same-pair : (a b : Record) → (samePair a b ≡ true) ↔ (a ≡ b)
+unfolding samePair
+same-pair a b = (to, λ e. rw (e, same-is (b .number .0) (b .number .0) .1 refl, same-rect (b .rect) (b .rect) .1 refl))
+  where
+    to : samePair a b ≡ true → a ≡ b
+    to h =
+        let q = and-both (same (a .number .0) (b .number .0)) (sameRect (a .rect) (b .rect)) h in
+        λ i. record { number = record { 0 = same-is (a .number .0) (b .number .0) .0 (q .0) i }; rect = same-rect (a .rect) (b .rect) .0 (q .1) i }
+
+pub same-slot : (s t : SlotNumber) → (sameSlot s t ≡ true) ↔ (s ≡ t)
+unfolding sameSlot
+same-slot s t = (λ h. λ i. record { 0 = eqb-true (s .0) (t .0) h i }, λ e. eq-eqb (s .0) (t .0) (ap (λ (u : SlotNumber). u .0) e))

@@ -1,0 +1,33 @@
+use native.Mathlib.Omega.{arith}
+use borrow.Author.Tests.{le-leb, lt-leb, ne-eqb}
+use Rattle.rules.specs.Pool.{nodeAt, entriesAt, isLeaf}
+use Rattle.rules.specs.Layout.{read}
+use Rattle.sound_shape.proofs.Counts.{counting-none, inner-yes, inner-no}
+use borrow.Author.Needs.{needs}
+use Rattle.sound_shape.proofs.count_slot.Statement.{statement}
+use Rattle.sound_shape.proofs.count_slot.Tie as tie
+use Rattle.sound_shape.proofs.count_slot.Reads as reads
+use Rattle.sound_shape.proofs.count_slot.Lts as lts
+use Rattle.pool.proofs.level_of.Reads as level-of-reads
+use Rattle.sound_shape.proofs.count_children.Reads as count-children-reads
+
+-- src/lib.rt:240:8
+level-of-requires : tie.Need-level-of-requires
+level-of-requires c κs = search needs
+
+-- src/lib.rt:241:9
+returns : tie.Need-returns
+returns c = rw (inner-no (nodeAt (read (c .before .before .args .pool .now)) (c .before .before .args .s)) (lt-leb 2 ((nodeAt (read (c .before .before .args .pool .now)) (c .before .before .args .s)) .level) (omega (arith, c .before .level-of .ensures, c .if1 .taken)))) (counting-none (c .before .before .args .counts .now))
+
+-- src/lib.rt:243:5
+count-children-requires : tie.Need-count-children-requires
+unfolding isLeaf
+count-children-requires c κs = (c .before .before .before .pre .0, (ne-eqb ((nodeAt (read (c .before .before .before .args .pool .now)) (c .before .before .before .args .s)) .level) 1 (λ e. omega (arith, c .before .before .level-of .ensures, c .before .if1 .left)), c .before .before .before .pre .1))
+
+-- src/lib.rt:235:1
+returns-2 : tie.Need-returns-2
+unfolding entriesAt
+returns-2 c = rw (inner-yes (nodeAt (read (c .before .before .before .before .args .pool .now)) (c .before .before .before .before .args .s)) (le-leb 2 ((nodeAt (read (c .before .before .before .before .args .pool .now)) (c .before .before .before .before .args .s)) .level) (omega (arith, c .before .before .before .level-of .ensures, c .before .before .if1 .left)))) (c .count-children .ensures)
+
+pub count-slot-spec : {M : Type 1} → statement M
+count-slot-spec = tie.close (tie.spec level-of-requires returns count-children-requires returns-2)

@@ -1,0 +1,21 @@
+use mathlib.Core.Path.{ap, _∙_}
+use lib.Dec.{leb}
+use Rattle.rules.specs.Layout.{read}
+use Rattle.sound_shape.proofs.Asked.{height-is}
+use borrow.Author.Needs.{needs}
+use Rattle.sound_shape.proofs.height_sound.Statement.{statement}
+use Rattle.sound_shape.proofs.height_sound.Tie as tie
+use Rattle.sound_shape.proofs.height_sound.Reads as reads
+use Rattle.sound_shape.proofs.height_sound.Lts as lts
+use Rattle.pool.proofs.height_of.Reads as height-of-reads
+
+-- src/lib.rt:373:10
+height-of-requires : tie.Need-height-of-requires
+height-of-requires c κs = search needs
+
+-- src/lib.rt:369:1
+returns : tie.Need-returns
+returns c = ap (leb 1) (c .height-of .ensures) ∙ height-is (read (c .before .args .pool .now))
+
+pub height-sound-spec : {M : Type 1} → statement M
+height-sound-spec = tie.close (tie.spec height-of-requires returns)

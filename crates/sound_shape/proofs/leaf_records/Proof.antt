@@ -1,0 +1,78 @@
+use mathlib.Core.Path.{_≡_, sym, _∙_}
+use native.Mathlib.Omega.{arith}
+use mathlib.Core.List.{List}
+use Prim.Native.Nat.{ℕ, _+_, _*_, _-_, _≤_}
+use lib.ListN.{length, drop}
+use Rattle.rules.specs.Pool.{Node}
+use Rattle.rules.specs.Layout.{read}
+use Rattle.pool.proofs.Parts.{few-slots}
+use Rattle.pool.proofs.Written.{read-slots}
+use Rattle.sound_shape.specs.Shapes.{recordsOf}
+use Rattle.sound_shape.proofs.Asked.{records-more, records-end}
+use Rattle.sound_shape.proofs.leaf_records.Statement.{statement}
+use Rattle.sound_shape.proofs.leaf_records.Tie as tie
+use Rattle.sound_shape.proofs.leaf_records.Reads as reads
+use Rattle.sound_shape.proofs.leaf_records.Lts as lts
+use Rattle.pool.proofs.slot_count.Reads as slot-count-reads
+use Rattle.sound_shape.proofs.records_in.Reads as records-in-reads
+
+-- the sum, and the records of the slots from s on, are all
+record Turn (ns : List Node) (n sum s : ℕ) : Type 0 where
+  size : n ≡ length ns
+  low : 1 ≤ s
+  most : s ≤ n + 1
+  few : sum ≤ 8 * (s - 1)
+  all : sum + recordsOf (drop (s - 1) ns) ≡ recordsOf ns
+
+abbrev Inv-loop : tie.InvT-loop
+Inv-loop pool n sum₀ s₀ sum s = Turn (read pool .slots) n sum s
+
+abbrev μ-loop : tie.MeasureT-loop
+μ-loop pool n sum₀ s₀ sum s = n + 1 - s
+
+-- src/lib.rt:408:9
+slot-count-requires : tie.Need-slot-count-requires Inv-loop μ-loop
+slot-count-requires c κs = tt
+
+-- src/lib.rt:411:5
+loop-holds : tie.Need-loop-holds Inv-loop μ-loop
+loop-holds c = record { size = c .slot-count .ensures ∙ sym (read-slots (c .before .args .pool .now)); low = omega arith; most = omega arith; few = omega arith; all = omega arith }
+
+-- src/lib.rt:412:16
+records-in-requires : tie.Need-records-in-requires Inv-loop μ-loop
+records-in-requires c κs = record { right = c .before .before .before .pre; low = c .before .loop .inv .low; high = omega (arith, c .loop-test .taken, c .before .loop .inv .size, read-slots (c .before .before .before .args .pool .now)) }
+
+-- src/lib.rt:412:9
+add-sum : tie.Need-add-sum Inv-loop μ-loop
+add-sum c = omega (arith, c .before .before .loop .inv .few, c .before .before .loop .inv .most, c .before .before .loop .inv .size, c .records-in .ensures .1, few-slots (c .before .before .before .before .args .pool .now) (c .before .before .before .before .pre), read-slots (c .before .before .before .before .args .pool .now))
+
+-- src/lib.rt:413:9
+add-s : tie.Need-add-s Inv-loop μ-loop
+add-s c = omega (arith, c .before .loop-test .taken, c .before .before .loop .inv .size, few-slots (c .before .before .before .before .args .pool .now) (c .before .before .before .before .pre), read-slots (c .before .before .before .before .args .pool .now))
+
+-- src/lib.rt:411:5
+loop-less : tie.Need-loop-less Inv-loop μ-loop
+loop-less c = omega (arith, c .before .loop-test .taken)
+
+-- src/lib.rt:411:5
+loop-again : tie.Need-loop-again Inv-loop μ-loop
+loop-again c = let t = c .before .before .loop .inv in let m = records-more (read (c .before .before .before .before .args .pool .now)) (c .before .before .loop .s) (c .before .before .loop .inv .low) (omega (arith, c .before .loop-test .taken, c .before .before .loop .inv .size)) in let r = c .records-in .ensures in record { size = t .size; low = omega arith; most = omega (arith, c .before .loop-test .taken); few = omega (arith, t .few, t .low, r .1); all = omega (arith, t .all, m, r .0) }
+
+-- src/lib.rt:404:1
+returns : tie.Need-returns Inv-loop μ-loop
+returns c = let t = c .before .loop .inv in let m = records-end (read (c .before .before .before .args .pool .now)) (c .before .loop .s) (omega (arith, c .loop-test .left, t .size)) in omega (arith, t .all, m)
+
+pub leaf-records-spec : {M : Type 1} → statement M
+leaf-records-spec =
+    tie.close
+    (tie.spec
+    Inv-loop
+    μ-loop
+    slot-count-requires
+    loop-holds
+    records-in-requires
+    add-sum
+    add-s
+    loop-less
+    loop-again
+    returns)

@@ -1,0 +1,34 @@
+use mathlib.Core.Path.{sym, _∙_}
+use Rattle.rules.specs.Layout.{read}
+use Rattle.sound_shape.proofs.Asked.{free-parent, root-parent, used-parent}
+use borrow.Author.Needs.{needs}
+use Rattle.sound_shape.proofs.one_parent.Statement.{statement}
+use Rattle.sound_shape.proofs.one_parent.Tie as tie
+use Rattle.sound_shape.proofs.one_parent.Reads as reads
+use Rattle.sound_shape.proofs.one_parent.Lts as lts
+use Rattle.pool.proofs.level_of.Reads as level-of-reads
+use Rattle.sound_shape.proofs.is_root.Reads as is-root-reads
+
+-- src/lib.rt:308:8
+level-of-requires : tie.Need-level-of-requires
+level-of-requires c κs = search needs
+
+-- src/lib.rt:309:9
+returns : tie.Need-returns
+returns c = free-parent (read (c .before .before .args .pool .now)) (c .before .before .args .s) (sym (c .before .level-of .ensures) ∙ c .if1 .taken)
+
+-- src/lib.rt:311:8
+is-root-requires : tie.Need-is-root-requires
+is-root-requires c κs = search needs
+
+-- src/lib.rt:312:9
+returns-2 : tie.Need-returns-2
+returns-2 c = root-parent (read (c .before .before .before .before .args .pool .now)) (c .before .before .before .before .args .s) (λ e. c .before .before .if1 .left (c .before .before .before .level-of .ensures ∙ e)) (sym (c .before .is-root .ensures) ∙ c .if2 .taken)
+
+-- src/lib.rt:303:1
+returns-3 : tie.Need-returns-3
+returns-3 c = used-parent (read (c .before .before .before .before .args .pool .now)) (c .before .before .before .before .args .s) (λ e. c .before .before .if1 .left (c .before .before .before .level-of .ensures ∙ e)) (c .before .before .before .before .args .parents) (sym (c .before .is-root .ensures) ∙ c .if2 .left) (c .before .before .before .before .pre .1)
+
+pub one-parent-spec : {M : Type 1} → statement M
+one-parent-spec =
+    tie.close (tie.spec level-of-requires returns is-root-requires returns-2 returns-3)

@@ -1,0 +1,26 @@
+use Prim.Native.Nat.{ℕ}
+use mathlib.Core.List.{[]}
+use lib.ListN.{length-replicate}
+use Rattle.sound_shape.proofs.Counts.{counted-none}
+use borrow.Author.Needs.{needs}
+use Rattle.sound_shape.proofs.shaped_nodes.Statement.{statement}
+use Rattle.sound_shape.proofs.shaped_nodes.Tie as tie
+use Rattle.sound_shape.proofs.shaped_nodes.Reads as reads
+use Rattle.sound_shape.proofs.shaped_nodes.Lts as lts
+use Rattle.sound_shape.proofs.count_parents.Reads as count-parents-reads
+use Rattle.sound_shape.proofs.shaped_slots.Reads as shaped-slots-reads
+
+-- src/lib.rt:366:5
+count-parents-requires : tie.Need-count-parents-requires
+count-parents-requires c κs = (c .before .pre, length-replicate {A = ℕ} 4096 0)
+
+-- src/lib.rt:367:5
+shaped-slots-requires : tie.Need-shaped-slots-requires
+shaped-slots-requires c κs = (c .before .before .before .pre, c .before .count-parents .ensures .on [] counted-none)
+
+-- src/lib.rt:361:1
+returns : tie.Need-returns
+returns c = search needs
+
+pub shaped-nodes-spec : {M : Type 1} → statement M
+shaped-nodes-spec = tie.close (tie.spec count-parents-requires shaped-slots-requires returns)
