@@ -16,12 +16,13 @@ use lib.ListN.{replicate}
 use Rattle.rules.specs.declared.Record.{Record}
 use Rattle.rules.specs.declared.Request.{Request}
 use Rattle.rules.specs.declared.Answer.{Answer}
-use Rattle.rules.specs.Pool.{number, rectangle}
+use Rattle.rules.specs.Pool.{number, rectangle, noRecord}
 use Rattle.rules.specs.Answers.{answer}
 use Rattle.rules.specs.Call.{Left}
 use Rattle.rules.specs.Frames.{dustmap}
 use Rattle.rules.specs.Computed.{document01}
-use Rattle.rules.specs.Histories.{minus, asking, noRecord, blankWords, history}
+use Rattle.rules.specs.Histories.{minus, asking, history}
+use Rattle.rules.specs.Layout.{blankWords}
 """
 
 

@@ -26,7 +26,7 @@ use Rattle.delete_laws.specs.Way.{Leads}
 use Rattle.delete_laws.specs.Shrunk.{Shrunk, condensed}
 use Rattle.delete_laws.proofs.Condense.{leads-from, condense-shrunk}
 use Rattle.find_leaf.specs.declared.Way.{Way}
-use Rattle.find_leaf.specs.Ways.{placesOf}
+use Rattle.find_leaf.specs.Ways.{pathOf}
 use Rattle.delete.specs.declared.Asides.{Asides}
 use Rattle.delete.specs.Aside.{asidesOf, Roomy, Has, Rewritable, ChildAt, ComesDown}
 use Rattle.delete.proofs.Nodes.{tree-rewritable}
@@ -46,14 +46,14 @@ pub climb : Condensed → List SlotNumber → List ℕ → ℕ → Condensed
 climb x ns is zero = x
 climb x ns is (suc m) = relieve (place (nodeOn ns (suc m)) (placeOn is (suc m))) (nodeOn ns m) (climb x ns is m)
 
-climb-is : (p : Pool) (way : Way) (m : ℕ) → condense p (placesOf (suc m) way) ≡ climb (condense p (placesOf 1 way)) (way .nodes) (way .places) m
-unfolding condense placesOf climb
+climb-is : (p : Pool) (way : Way) (m : ℕ) → condense p (pathOf (suc m) way) ≡ climb (condense p (pathOf 1 way)) (way .nodes) (way .places) m
+unfolding condense pathOf climb
 climb-is p way zero = refl
 climb-is p way (suc m) =
     ap (relieve (place (nodeOn (way .nodes) (suc m)) (placeOn (way .places) (suc m))) (nodeOn (way .nodes) m)) (climb-is p way m)
 
-leaf-is : (p : Pool) (way : Way) → condense p (placesOf 1 way) ≡ condensed (takeOut p (place (nodeOn (way .nodes) 0) (placeOn (way .places) 0))) []
-unfolding condense placesOf
+leaf-is : (p : Pool) (way : Way) → condense p (pathOf 1 way) ≡ condensed (takeOut p (place (nodeOn (way .nodes) 0) (placeOn (way .places) 0))) []
+unfolding condense pathOf
 leaf-is p way = refl
 
 -- ---- the tree at each level of the way
@@ -77,10 +77,10 @@ module _ (p : Pool) (r : Record) (way : Way) where
   record OnWay (l : ℕ) : Type 0 where
     tree : Tree p (suc l) (top l)
     once : Once (slotsIn p (suc l) (top l))
-    leads : Leads p r (suc l) (top l) (placesOf (suc l) way)
+    leads : Leads p r (suc l) (top l) (pathOf (suc l) way)
 
-  places-more : (l : ℕ) → placesOf (suc l) way ≡ place (top l) (at l) ∷ placesOf l way
-  unfolding placesOf
+  places-more : (l : ℕ) → pathOf (suc l) way ≡ place (top l) (at l) ∷ pathOf l way
+  unfolding pathOf
   places-more l = refl
 
   -- the entry that is passed is there
@@ -96,14 +96,14 @@ module _ (p : Pool) (r : Record) (way : Way) where
       omega (arith, o .leads .3, same)
 
   on-child : (l : ℕ) → OnWay (suc l) → (childOf (entryAt p (top (suc l)) (at (suc l))) ≡ top l)
-      × Leads p r (suc l) (childOf (entryAt p (top (suc l)) (at (suc l)))) (placesOf (suc l) way)
+      × Leads p r (suc l) (childOf (entryAt p (top (suc l)) (at (suc l)))) (pathOf (suc l) way)
   unfolding Leads
   on-child l o =
       let e = sym (places-more (suc l)) ∙ o .leads .2 in
       let same = head-at e in
-      let more : Leads p r (suc l) (childOf (entryAt p (top (suc l)) (at (suc l)))) (placesOf (suc l) way) =
+      let more : Leads p r (suc l) (childOf (entryAt p (top (suc l)) (at (suc l)))) (pathOf (suc l) way) =
       subst₂ (λ (i : ℕ) (z : Path). Leads p r (suc l) (childOf (entryAt p (top (suc l)) i)) z) (sym same) (sym (tail-is e)) (o .leads .4) in
-      let n = leads-from p r (suc l) (childOf (entryAt p (top (suc l)) (at (suc l)))) (placesOf (suc l) way) more in
+      let n = leads-from p r (suc l) (childOf (entryAt p (top (suc l)) (at (suc l)))) (pathOf (suc l) way) more in
       (sym (head-node (sym (places-more l) ∙ n .2)), more)
 
   on-down : (l : ℕ) → OnWay (suc l) → OnWay l
@@ -115,7 +115,7 @@ module _ (p : Pool) (r : Record) (way : Way) where
       record {
         tree = subst (Tree p (suc l)) (c .0) (child-entry p l (top (suc l)) (o .tree) (at (suc l)) there .child);
         once = subst (λ (t : SlotNumber). Once (slotsIn p (suc l) t)) (c .0) (once-child p l (top (suc l)) (o .once) x m);
-        leads = subst (λ (t : SlotNumber). Leads p r (suc l) t (placesOf (suc l) way)) (c .0) (c .1);
+        leads = subst (λ (t : SlotNumber). Leads p r (suc l) t (pathOf (suc l) way)) (c .0) (c .1);
       }
 
   on-way : (h : ℕ) → OnWay h → (l : ℕ) → l ≤ h → OnWay l
@@ -126,17 +126,17 @@ module _ (p : Pool) (r : Record) (way : Way) where
       go (yes k) f = f k
       go (no k) f = let z : suc h ≡ l = omega arith in subst OnWay z o
 
-  on-shrunk : (l : ℕ) → OnWay l → Shrunk p (suc l) (top l) r (condense p (placesOf (suc l) way))
-  on-shrunk l o = condense-shrunk p r (suc l) (top l) (placesOf (suc l) way) (o .tree) (o .once) (o .leads)
+  on-shrunk : (l : ℕ) → OnWay l → Shrunk p (suc l) (top l) r (condense p (pathOf (suc l) way))
+  on-shrunk l o = condense-shrunk p r (suc l) (top l) (pathOf (suc l) way) (o .tree) (o .once) (o .leads)
 
   -- where the tree below has shrunk, the node above is as it was, and can be written
   on-next : length (p .slots) ≤ mostSlots → (l : ℕ) → suc (suc l) ≤ mostSlots → OnWay (suc l)
-      → ChildAt (condense p (placesOf (suc l) way) .pool) (top (suc l)) (at (suc l)) (top l)
+      → ChildAt (condense p (pathOf (suc l) way) .pool) (top (suc l)) (at (suc l)) (top l)
   unfolding entryAt
   on-next few l low o =
       let s = top (suc l) in
       let t = top l in
-      let q = condense p (placesOf (suc l) way) .pool in
+      let q = condense p (pathOf (suc l) way) .pool in
       let below = on-down l o in
       let g = on-shrunk l below in
       let here = tree-node p (suc (suc l)) s (o .tree) in
@@ -160,7 +160,7 @@ module _ (p : Pool) (r : Record) (way : Way) where
         is = subst (λ (es : List Entry). childOf (entryFrom es (at (suc l))) ≡ t) entries (on-child l o .0);
       }
 
-  on-few : (l : ℕ) → OnWay l → length (condense p (placesOf (suc l) way) .setAside) ≤ 2 * l
+  on-few : (l : ℕ) → OnWay l → length (condense p (pathOf (suc l) way) .setAside) ≤ 2 * l
   on-few l o = let g = on-shrunk l o in omega (arith, g .two-each, g .fewer)
 
 -- ---- from what the code knows of the way
@@ -171,8 +171,8 @@ module _ (p : Pool) (way : Way) (h : ℕ) (d : ComesDown p h way) where
 
   top-is : (l : ℕ) → h ≡ suc l → p .root ≡ nodeOn (way .nodes) l
   top-is l e =
-      let k : Leads p (d .pair) (suc l) (p .root) (placesOf (suc l) way) = rw e at (d .leads) in
-      let n = leads-from p (d .pair) (suc l) (p .root) (placesOf (suc l) way) k in
+      let k : Leads p (d .pair) (suc l) (p .root) (pathOf (suc l) way) = rw e at (d .leads) in
+      let n = leads-from p (d .pair) (suc l) (p .root) (pathOf (suc l) way) k in
       sym (head-node (sym (places-more p (d .pair) way l) ∙ n .2))
 
   down-on : (l : ℕ) → l < h → OnWay p (d .pair) way l
@@ -187,7 +187,7 @@ module _ (p : Pool) (way : Way) (h : ℕ) (d : ComesDown p h way) where
           record {
             tree = subst₂ (λ (l : ℕ) (s : SlotNumber). Tree p l s) is root (d .tree);
             once = subst₂ (λ (l : ℕ) (s : SlotNumber). Once (slotsIn p l s)) is root (d .once);
-            leads = subst₂ (λ (l : ℕ) (s : SlotNumber). Leads p (d .pair) l s (placesOf l way)) is root (d .leads);
+            leads = subst₂ (λ (l : ℕ) (s : SlotNumber). Leads p (d .pair) l s (pathOf l way)) is root (d .leads);
           }
 
   -- the leaf's entry can go out
@@ -205,7 +205,7 @@ module _ (p : Pool) (way : Way) (h : ℕ) (d : ComesDown p h way) where
 -- ---- the turns
 
 -- what each level above the leaf asks
-pub record Ready (x : Condensed) (ns : List SlotNumber) (is : List ℕ) (h : ℕ) : Type 0 where
+pub record Climbable (x : Condensed) (ns : List SlotNumber) (is : List ℕ) (h : ℕ) : Type 0 where
   pub child : (l : ℕ) → 1 ≤ l → l < h → ChildAt (climb x ns is (l - 1) .pool) (nodeOn ns l) (placeOn is l) (nodeOn ns (l - 1))
   pub few : (l : ℕ) → 1 ≤ l → l < h → length (climb x ns is (l - 1) .setAside) ≤ 12
 
@@ -217,7 +217,7 @@ pub record Climbing (w₀ : List ℤ) (h : ℕ) (ns : List SlotNumber) (is : Lis
   pub nodes : length ns ≡ 8
   pub places : length is ≡ 8
   pub long : length w ≡ length w₀
-  pub ready : Ready (condensed (read w₀) []) ns is h
+  pub ready : Climbable (condensed (read w₀) []) ns is h
   pub has : Has (climb (condensed (read w₀) []) ns is (l - 1)) a w
 
 module _ {w₀ : List ℤ} {h : ℕ} {ns : List SlotNumber} {is : List ℕ} {w : List ℤ} {a : Asides} {l : ℕ} (t : Climbing w₀ h ns is w a l) where
@@ -270,10 +270,10 @@ module _ {w₀ : List ℤ} {h : ℕ} {ns : List SlotNumber} {is : List ℕ} {w :
 
 module _ (p : Pool) (way : Way) (h : ℕ) (d : ComesDown p h way) (w : List ℤ)
     (out : read w ≡ takeOut p (place (nodeOn (way .nodes) 0) (placeOn (way .places) 0))) where
-  first-is : condense p (placesOf 1 way) ≡ condensed (read w) []
+  first-is : condense p (pathOf 1 way) ≡ condensed (read w) []
   first-is = leaf-is p way ∙ ap (λ (q : Pool). condensed q []) (sym out)
 
-  climb-at : (l : ℕ) → 1 ≤ l → condense p (placesOf l way) ≡ climb (condensed (read w) []) (way .nodes) (way .places) (l - 1)
+  climb-at : (l : ℕ) → 1 ≤ l → condense p (pathOf l way) ≡ climb (condensed (read w) []) (way .nodes) (way .places) (l - 1)
   climb-at zero k = absurd (omega arith)
   climb-at (suc l) k =
       let e : l ≡ suc l - 1 = omega arith in
@@ -316,7 +316,7 @@ module _ (p : Pool) (way : Way) (h : ℕ) (d : ComesDown p h way) (w : List ℤ)
     };
   }
 
-  pub climbing-last : (v : List ℤ) (a : Asides) (l : ℕ) → Climbing w h (way .nodes) (way .places) v a l → h ≤ l → Has (condense p (placesOf h way)) a v
+  pub climbing-last : (v : List ℤ) (a : Asides) (l : ℕ) → Climbing w h (way .nodes) (way .places) v a l → h ≤ l → Has (condense p (pathOf h way)) a v
   climbing-last v a l t k =
       let e : l ≡ h = omega (arith, t .high) in
       let is = ap (λ (j : ℕ). climb (condensed (read w) []) (way .nodes) (way .places) (j - 1)) e ∙ sym (climb-at h (down-high p way h d)) in

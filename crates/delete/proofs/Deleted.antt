@@ -30,10 +30,10 @@ use Rattle.delete_laws.proofs.Held.{held-is, find-held}
 use Rattle.delete_laws.proofs.Again.{reinsert-puts}
 use Rattle.delete_laws.proofs.Delete.{short-done, short-none, back-is, stands, way-there, out, out-is, shrunk, waiting, delete-some}
 use Rattle.find_leaf.specs.declared.Way.{Way}
-use Rattle.find_leaf.specs.Ways.{placesOf, Long, Shows}
+use Rattle.find_leaf.specs.Ways.{pathOf, Long, Gives}
 use Rattle.insert.specs.declared.Outcome.{Outcome}
 use Rattle.insert.specs.declared.Outcome.the-variants.{Made, Refused}
-use Rattle.insert.specs.Left.{Holds}
+use Rattle.insert.specs.Left.{HoldsPool}
 use Rattle.insert.proofs.Records.{records-few}
 use Rattle.delete.specs.declared.Asides.{Asides}
 use Rattle.delete.specs.Removed.{Removes}
@@ -41,13 +41,13 @@ use Rattle.delete.specs.Aside.{asidesOf, Has, ComesDown}
 use Rattle.delete.proofs.Nodes.{few-read}
 use Rattle.delete.proofs.Listed.{listed-length}
 
-shows-some : (o : Option Path) (l : ℕ) (way : Way) → way .found ≡ true → Shows o l way → (o ≡ some (placesOf l way)) × Long way
+shows-some : (o : Option Path) (l : ℕ) (way : Way) → way .found ≡ true → Gives o l way → (o ≡ some (pathOf l way)) × Long way
 shows-some none l way t h = never-both t (h .0)
 shows-some (some path) l way t h = (ap some (sym (h .1)), h .2)
 
 -- a change that was made
 removes-made : (Good : Pool → Type 0) (v : List ℤ) (f : FreeSlots) (w : List ℤ) (c : Change) → EachPool Good c → Removes v c (Made f) w
-    → (q : Pool) × (c ≡ Done q) × Good q × Holds q f w
+    → (q : Pool) × (c ≡ Done q) × Good q × HoldsPool q f w
 removes-made Good v f w (Done q) g h = (q, refl, g, h)
 removes-made Good v f w NoneFree g h = absurd h
 
@@ -62,7 +62,7 @@ pub record Asked (w₀ : List ℤ) (r : Record) (way : Way) : Type 0 where
   pub fit : Fit w₀
   pub whole : Whole (read w₀)
   pub found : way .found ≡ true
-  pub shows : Shows (findLeaf (read w₀) r (read w₀ .height) (read w₀ .root)) (read w₀ .height) way
+  pub shows : Gives (findLeaf (read w₀) r (read w₀ .height) (read w₀ .root)) (read w₀ .height) way
 
 -- .. and w₁ is w₀ with a record counted off, h its height
 pub record CountedOff (w₀ : List ℤ) (h : ℕ) (w₁ : List ℤ) : Type 0 where
@@ -78,7 +78,7 @@ module _ {w₀ : List ℤ} {r : Record} {way : Way} (g : Asked w₀ r way) where
   p = read w₀
 
   abbrev path : Path
-  path = placesOf (p .height) way
+  path = pathOf (p .height) way
 
   abbrev less : Pool
   less = putRecords p (p .records - 1)
@@ -119,7 +119,7 @@ module _ {w₀ : List ℤ} {r : Record} {way : Way} (g : Asked w₀ r way) where
     down-known f k = subst (λ (q : Pool). Known q f) (sym (u .less)) (known-records p f k (p .records - 1))
 
     -- CondenseTree is done
-    module _ {a : Asides} {w₂ : List ℤ} (d : Has (condense (read w₁) (placesOf h way)) a w₂) where
+    module _ {a : Asides} {w₂ : List ℤ} (d : Has (condense (read w₁) (pathOf h way)) a w₂) where
       abbrev done : Condensed
       done = out ours ours-lawful p (g .whole) r path led
 
@@ -128,7 +128,7 @@ module _ {w₀ : List ℤ} {r : Record} {way : Way} (g : Asked w₀ r way) where
 
       has : Has done a w₂
       has =
-          subst (λ (x : Condensed). Has x a w₂) ((λ i. condense (u .less i) (placesOf (u .level i) way)) ∙ sym done-is) d
+          subst (λ (x : Condensed). Has x a w₂) ((λ i. condense (u .less i) (pathOf (u .level i) way)) ∙ sym done-is) d
 
       shrank : Shrunk less (less .height) (less .root) r done
       shrank = shrunk ours ours-lawful p (g .whole) r path led
@@ -171,7 +171,7 @@ module _ {w₀ : List ℤ} {r : Record} {way : Way} (g : Asked w₀ r way) where
 
         -- all are back
         module _ (f : FreeSlots) (e : o ≡ Made f) where
-          made : (q : Pool) × (reinsert ours (read w₂) (asidesOf a) ≡ Done q) × PutBack (read w₂) (asidesOf a) q × Holds q f w₃
+          made : (q : Pool) × (reinsert ours (read w₂) (asidesOf a) ≡ Done q) × PutBack (read w₂) (asidesOf a) q × HoldsPool q f w₃
           made =
               removes-made (PutBack (read w₂) (asidesOf a)) w₂ f w₃ (reinsert ours (read w₂) (asidesOf a))
               (reinsert-puts ours ours-lawful (asidesOf a) (read w₂) back-waits)
@@ -186,7 +186,7 @@ module _ {w₀ : List ℤ} {r : Record} {way : Way} (g : Asked w₀ r way) where
           pub made-known : Known (read w₃) f
           made-known = subst (λ (q : Pool). Known q f) (sym (made .3 .is)) (made .3 .known)
 
-          pub delete-made : (v : FreeSlots) (w₄ : List ℤ) → Holds (shorten (read w₃)) v w₄ → Removes w₀ (deleteRecord ours p r) (Made v) w₄
+          pub delete-made : (v : FreeSlots) (w₄ : List ℤ) → HoldsPool (shorten (read w₃)) v w₄ → Removes w₀ (deleteRecord ours p r) (Made v) w₄
           delete-made v w₄ k =
               let is = delete-is ∙ ap shortened (made .1) ∙ short-done ours (made .0) ∙ ap (λ (q : Pool). Done (shorten q)) (sym (made .3 .is)) in
               subst (λ (c : Change). Removes w₀ c (Made v) w₄) (sym is) k

@@ -21,7 +21,7 @@ use Rattle.sound_laws.proofs.Tests.{leaf-is}
 use Rattle.sound_laws.proofs.Walk.{tree-node, tree-positive}
 use Rattle.insert_laws.specs.Standing.{Standing}
 use Rattle.insert_laws.proofs.Tighten.{child-entry}
-use Rattle.insert.specs.Left.{Holds}
+use Rattle.insert.specs.Left.{HoldsPool}
 use Rattle.delete_laws.proofs.Short.{shorten-leaf, shorten-one, shorten-more}
 
 module _ (p : Pool) (w : Standing p []) where
@@ -67,14 +67,14 @@ module _ (p : Pool) (w : Standing p []) where
 
 module _ (w : List ℤ) (f : FreeSlots) (k : Known (read w) f) where
   -- the root stays
-  pub holds-same : Fit w → shorten (read w) ≡ read w → Holds (shorten (read w)) f w
+  pub holds-same : Fit w → shorten (read w) ≡ read w → HoldsPool (shorten (read w)) f w
   holds-same fit e = record { fit = fit; is = sym e; known = subst (λ (q : Pool). Known q f) (sym e) k }
 
   -- its only child is root
   module _ (st : Standing (read w) []) (high : read w .height ≢ 1) (one : length (entriesAt (read w) (read w .root)) ≡ 1) where
     pub holds-lower : (s : SlotNumber) → s ≡ read w .root → (t : SlotNumber) → t ≡ childOf (entryAt (read w) s 0) → (h : ℕ) → h ≡ read w .height
         → (q : Pool) → q ≡ zeroSlot (read w) s → (v : List ℤ) → read v ≡ putRoot q t (h - 1) → Fit v → (g : FreeSlots) → g ≡ moreSlot f s
-        → Holds (shorten (read w)) g v
+        → HoldsPool (shorten (read w)) g v
     holds-lower s es t et h eh q eq v ev fit g eg =
         let p = read w in
         let child : t ≡ childOf (entryAt p (p .root) 0) = et ∙ ap (λ (x : SlotNumber). childOf (entryAt p x 0)) es in

@@ -16,8 +16,8 @@ use Rattle.free_slots.specs.Known.{moreSlot}
 use Rattle.sound_laws.specs.Tree.{slotsIn, Once, Slot, Tree}
 use Rattle.delete_laws.specs.Way.{Leads}
 use Rattle.find_leaf.specs.declared.Way.{Way}
-use Rattle.find_leaf.specs.Ways.{placesOf, Long}
-use Rattle.insert.specs.Left.{Holds}
+use Rattle.find_leaf.specs.Ways.{pathOf, Long}
+use Rattle.insert.specs.Left.{HoldsPool}
 use Rattle.delete.specs.declared.Asides.{Asides}
 
 -- n of the entries set aside, from place k on, each with its level
@@ -40,7 +40,7 @@ pub record Roomy (a : Asides) : Type 0 where
 
 -- the words hold the pool of d, and a has what d has set aside
 pub record Has (d : Condensed) (a : Asides) (w : List ℤ) : Type 0 where
-  pub pool : Holds (d .pool) (a .free) w
+  pub pool : HoldsPool (d .pool) (a .free) w
   pub list : asidesOf a ≡ d .setAside
   pub roomy : Roomy a
 
@@ -65,6 +65,6 @@ pub record ComesDown (p : Pool) (h : ℕ) (way : Way) : Type 0 where
   pub pair : Record
   pub tree : Tree p h (p .root)
   pub once : Once (slotsIn p h (p .root))
-  pub leads : Leads p pair h (p .root) (placesOf h way)
+  pub leads : Leads p pair h (p .root) (pathOf h way)
   pub long : Long way
   pub high : h ≤ 8

@@ -7,10 +7,10 @@ use lib.IntN.{ℤ}
 use Rattle.rules.specs.Insert as I
 use Rattle.insert.specs.declared.Outcome.{Outcome}
 use Rattle.insert.specs.declared.Outcome.the-variants.{Made, Refused}
-use Rattle.insert.specs.Left.{Holds}
+use Rattle.insert.specs.Left.{HoldsPool}
 
 abbrev pub Removes : List ℤ → I.Change → Outcome → List ℤ → Type 0
-Removes before (I.Done q) (Made f) w = Holds q f w
+Removes before (I.Done q) (Made f) w = HoldsPool q f w
 Removes before I.NoneFree Refused w = length w ≡ length before
 Removes before (I.Done q) Refused w = ⊥
 Removes before I.NoneFree (Made f) w = ⊥

@@ -14,18 +14,18 @@ ghost use Rattle.free_slots.specs.Known.{Known};
 ghost use Rattle.sound_laws.specs.Tree.{Whole};
 ghost use Rattle.insert_laws.specs.Standing.{Standing};
 ghost use Rattle.delete_laws.specs.Shrunk.{Waiting, condensed};
-ghost use Rattle.find_leaf.specs.Ways.{Shows, placesOf};
-ghost use Rattle.insert.specs.Left.{Holds};
+ghost use Rattle.find_leaf.specs.Ways.{Gives, pathOf};
+ghost use Rattle.insert.specs.Left.{HoldsPool};
 ghost use Rattle.delete.specs.Removed.{Removes};
 ghost use Rattle.delete.specs.Aside.{asidesOf, Roomy, Has, Rewritable, ChildAt, ComesDown, withFree};
-use insert::Outcome;
 use find_leaf::Way;
+use free_slots::FreeSlots;
+use insert::Outcome;
 use rules::Entry;
 use rules::Pointer;
 use rules::Record;
 use rules::Rect;
 use rules::SlotNumber;
-use free_slots::FreeSlots;
 
 // What CondenseTree has in hand on its way up: the entries set aside, each with the level of the node that it was in, and what is known of
 // the free slots. A node that leaves has two entries at most, and 7 levels at most lie below the root.
@@ -198,7 +198,7 @@ fn condense(pool: &mut [i32], way: Way, height: usize, free: FreeSlots) -> Aside
     requires { ⌜ Fit (now pool) ⌝ }
     requires { ⌜ ComesDown (L.read (now pool)) height way ⌝ }
     requires { ⌜ Known (L.read (now pool)) free ⌝ }
-    ensures { λ r. ⌜ Has (D.condense (L.read (now (pool .entry))) (placesOf height way)) r (now (pool .exit)) ⌝ }
+    ensures { λ r. ⌜ Has (D.condense (L.read (now (pool .entry))) (pathOf height way)) r (now (pool .exit)) ⌝ }
 {
     let nodes = way.nodes;
     let places = way.places;
@@ -246,7 +246,7 @@ fn shorten(pool: &mut [i32], free: FreeSlots) -> FreeSlots
     requires { ⌜ Standing (L.read (now pool)) [] ⌝ }
     requires { ⌜ L.read (now pool) .height ≤ 64 ⌝ }
     requires { ⌜ Known (L.read (now pool)) free ⌝ }
-    ensures { λ r. ⌜ Holds (D.shorten (L.read (now (pool .entry)))) r (now (pool .exit)) ⌝ }
+    ensures { λ r. ⌜ HoldsPool (D.shorten (L.read (now (pool .entry)))) r (now (pool .exit)) ⌝ }
 {
     let s = pool::root_of(pool);
     let height = pool::height_of(pool);
@@ -269,7 +269,7 @@ pub fn delete_record(pool: &mut [i32], r: Record, way: Way, free: FreeSlots) -> 
     requires { ⌜ Whole (L.read (now pool)) ⌝ }
     requires { ⌜ Known (L.read (now pool)) free ⌝ }
     requires { ⌜ way .found ≡ true ⌝ }
-    requires { ⌜ Shows (D.findLeaf (L.read (now pool)) r (L.read (now pool) .height) (L.read (now pool) .root)) (L.read (now pool) .height) way ⌝ }
+    requires { ⌜ Gives (D.pathTo (L.read (now pool)) r) (L.read (now pool) .height) way ⌝ }
     ensures { λ o. ⌜ Removes (now (pool .entry)) (D.deleteRecord I.ours (L.read (now (pool .entry))) r) o (now (pool .exit)) ⌝ }
 {
     let n = pool::records_of(pool);

@@ -25,7 +25,7 @@ use Rattle.insert_laws.specs.Standing.{Standing}
 use Rattle.insert_laws.proofs.Standing.{standing-once}
 use Rattle.insert_laws.proofs.Whole.{head-standing, whole-standing, standing-whole, standing-stored}
 use Rattle.delete_laws.specs.Way.{Leads, EachWay, Found}
-use Rattle.delete_laws.specs.Shrunk.{Shrunk, Waiting, PutBack, Shortened, Deleted, EachPool, Sure, roomFor, Room, deleteRoom}
+use Rattle.delete_laws.specs.Shrunk.{Shrunk, Waiting, PutBack, Shortened, Deleted, EachPool, Sure, roomFor, SlotRoom, deleteRoom}
 use Rattle.delete_laws.proofs.Finds.{find-leads}
 use Rattle.delete_laws.proofs.Held.{find-held}
 use Rattle.delete_laws.proofs.Condense.{condense-shrunk, shrunk-count, shrunk-waiting}
@@ -144,8 +144,8 @@ module _ (c : Choice) where
         (reinsert-puts c lawful (out .setAside) (out .pool) waiting))
 
     -- .. and is sure to be, with slots enough
-    room-short : (q : Pool) → PutBack (out .pool) (out .setAside) q → Room (out .pool) (length (out .setAside)) q
-        → Room p (2 * (p .height - 1)) (shorten q)
+    room-short : (q : Pool) → PutBack (out .pool) (out .setAside) q → SlotRoom (out .pool) (length (out .setAside)) q
+        → SlotRoom p (2 * (p .height - 1)) (shorten q)
     unfolding putRecords
     room-short q g k =
         let s = shorten-stands q (g .stands) in
@@ -163,7 +163,7 @@ module _ (c : Choice) where
           );
         }
 
-    back-room : deleteRoom (p .height) ≤ freeCount p → Sure (Room p (2 * (p .height - 1))) (putBack c (condense less way))
+    back-room : deleteRoom (p .height) ≤ freeCount p → Sure (SlotRoom p (2 * (p .height - 1))) (putBack c (condense less way))
     unfolding putRecords deleteRoom
     back-room room =
         let few : length (out .setAside) ≤ 2 * (p .height - 1) = omega (arith, shrunk .two-each, shrunk .fewer) in
@@ -177,7 +177,7 @@ module _ (c : Choice) where
           room-least (length (out .setAside)) (2 * (p .height - 1)) (p .height) (out .pool .height) few (omega (arith, same)),
         ) in
         rw (← out-is, back-is out)
-        (sure-short (PutBack (out .pool) (out .setAside)) (Room (out .pool) (length (out .setAside))) (Room p (2 * (p .height - 1))) room-short
+        (sure-short (PutBack (out .pool) (out .setAside)) (SlotRoom (out .pool) (length (out .setAside))) (SlotRoom p (2 * (p .height - 1))) room-short
         (reinsert c (out .pool) (out .setAside)) (reinsert-puts c lawful (out .setAside) (out .pool) waiting)
         (reinsert-room c lawful (out .setAside) (out .pool) waiting enough))
 
@@ -212,17 +212,17 @@ module _ (c : Choice) where
               (back-deleted lawful p w r way (subst (EachWay (Leads p r (p .height) (p .root))) h (find-leads p r (p .height) (p .root))))
 
       -- with slots enough a delete is done, and leaves as many
-      pub delete-room : Lawful c → deleteRoom (p .height) ≤ freeCount p → Sure (Room p (2 * (p .height - 1))) (deleteRecord c p r)
+      pub delete-room : Lawful c → deleteRoom (p .height) ≤ freeCount p → Sure (SlotRoom p (2 * (p .height - 1))) (deleteRecord c p r)
       delete-room lawful room = go (findLeaf p r (p .height) (p .root)) refl
         where
-          go : (o : Option Path) → findLeaf p r (p .height) (p .root) ≡ o → Sure (Room p (2 * (p .height - 1))) (deleteRecord c p r)
+          go : (o : Option Path) → findLeaf p r (p .height) (p .root) ≡ o → Sure (SlotRoom p (2 * (p .height - 1))) (deleteRecord c p r)
           go none h = rw (delete-none h) (record { high = omega arith; left = omega arith })
           go (some way) h =
               rw (delete-some way h)
               (back-room lawful p w r way (subst (EachWay (Leads p r (p .height) (p .root))) h (find-leads p r (p .height) (p .root))) room)
 
       pub delete-fits : Lawful c → deleteRoom (p .height) ≤ freeCount p → deleteRecord c p r ≢ NoneFree
-      delete-fits lawful room e = subst (Sure (Room p (2 * (p .height - 1)))) e (delete-room lawful room)
+      delete-fits lawful room e = subst (Sure (SlotRoom p (2 * (p .height - 1)))) e (delete-room lawful room)
 
 done-in : (P : Pool → Type 0) (p q : Pool) → Done p ≡ Done q → P p → P q
 done-in P p q h x = subst (EachPool P) h x

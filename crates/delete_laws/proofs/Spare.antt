@@ -13,7 +13,7 @@ use Rattle.rules.specs.Delete.{Aside, reinsert}
 use Rattle.insert_laws.specs.Slots.{slotsNeeded}
 use Rattle.insert_laws.proofs.Standing.{standing-once}
 use Rattle.insert_laws.proofs.Slots.{level-slots, level-takes, level-needs-few}
-use Rattle.delete_laws.specs.Shrunk.{slotsAside, Waiting, Sure, roomFor, Room}
+use Rattle.delete_laws.specs.Shrunk.{slotsAside, Waiting, Sure, roomFor, SlotRoom}
 use Rattle.delete_laws.proofs.Again.{reinsert-none, reinsert-done, first-put, still-waiting}
 
 pub sure-also : (Good Fine : Pool → Type 0) → ((q : Pool) → Good q → Fine q) → (o : Change) → Sure Good o → Sure Fine o
@@ -57,20 +57,20 @@ module _ (c : Choice) (lawful : Lawful c) where
     higher q h = ⊎-elim (λ o. omega (arith, o .1)) (λ o. omega (arith, o .1)) (first-put c lawful p a rest w q h .head)
 
   pub reinsert-room : (xs : List Aside) (p : Pool) → Waiting p xs → roomFor (length xs) (p .height) ≤ freeCount p
-      → Sure (Room p (length xs)) (reinsert c p xs)
+      → Sure (SlotRoom p (length xs)) (reinsert c p xs)
   reinsert-room [] p w room = rw (reinsert-none c p) (record { high = omega arith; left = omega arith })
   reinsert-room (a ∷ rest) p w room = go (insertAt c (a .level) p (a .entry)) refl (reinsert-room rest)
     where
       go : (o : Change) → insertAt c (a .level) p (a .entry) ≡ o
-          → ((q : Pool) → Waiting q rest → roomFor (length rest) (q .height) ≤ freeCount q → Sure (Room q (length rest)) (reinsert c q rest))
-          → Sure (Room p (suc (length rest))) (reinsert c p (a ∷ rest))
+          → ((q : Pool) → Waiting q rest → roomFor (length rest) (q .height) ≤ freeCount q → Sure (SlotRoom q (length rest)) (reinsert c q rest))
+          → Sure (SlotRoom p (suc (length rest))) (reinsert c p (a ∷ rest))
       go (Done q) h later =
           let k = higher p a rest w q h in
           let more = room-more (length rest) (p .height) (q .height) k in
           let t = takes p a rest w q h in
           let few = needs-few p a rest w in
           rw (reinsert-done c p a rest q h)
-          (sure-also (Room q (length rest)) (Room p (suc (length rest)))
+          (sure-also (SlotRoom q (length rest)) (SlotRoom p (suc (length rest)))
           (λ z g. record { high = omega (arith, g .high, k); left = omega (arith, g .left, more, t, few) })
           (reinsert c q rest) (later q (still-waiting c lawful p a rest w q h) (omega (arith, room, more, t, few))))
       go NoneFree h later =

@@ -20,16 +20,16 @@ use Rattle.sound_laws.specs.Tree.{Whole}
 use Rattle.sound_laws.proofs.Sound.{whole-sound}
 use Rattle.insert_laws.proofs.Whole.{insert-whole, insert-stored}
 use Rattle.insert_laws.proofs.Slots.{insert-fits}
-use Rattle.delete_laws.specs.Shrunk.{EachPool, Sure, Room, deleteRoom}
+use Rattle.delete_laws.specs.Shrunk.{EachPool, Sure, SlotRoom, deleteRoom}
 use Rattle.delete_laws.proofs.Held.{held-number}
 use Rattle.delete_laws.proofs.Delete.{delete-room, delete-whole, delete-stored}
 
 -- "inserts the new rectangle under the same number"
-abbrev pub moved : Record → Rect → Record
-moved old new = record { number = old .number; rect = new }
+abbrev pub renewed : Record → Rect → Record
+renewed old new = record { number = old .number; rect = new }
 
 module _ (c : Choice) (p : Pool) (old : Record) (new : Rect) where
-  pub update-done : (q : Pool) → deleteRecord c p old ≡ Done q → updateRecord c p old new ≡ insertRecord c q (moved old new)
+  pub update-done : (q : Pool) → deleteRecord c p old ≡ Done q → updateRecord c p old new ≡ insertRecord c q (renewed old new)
   unfolding updateRecord
   update-done q h = rw (h, updateRecord)
 
@@ -40,7 +40,7 @@ module _ (c : Choice) (p : Pool) (old : Record) (new : Rect) where
   module _ (lawful : Lawful c) (w : Whole p) (y : held p old ≡ true) (v : valid new ≡ true) (z : Pool) (u : updateRecord c p old new ≡ Done z) where
     abbrev Updated : Type 0
     Updated = Whole z × ((f : Record → Bool)
-        → length (those f (stored z)) + length (those f (old ∷ [])) ≡ length (those f (stored p)) + length (those f (moved old new ∷ [])))
+        → length (those f (stored z)) + length (those f (old ∷ [])) ≡ length (those f (stored p)) + length (those f (renewed old new ∷ [])))
 
     updated : Updated
     updated = go (deleteRecord c p old) refl
@@ -52,8 +52,8 @@ module _ (c : Choice) (p : Pool) (old : Record) (new : Rect) where
         go (Done q) h =
             let whole = delete-whole c lawful p w old q h in
             let is = sym (update-done q h) ∙ u in (
-              insert-whole c lawful q whole (moved old new) v number z is,
-              λ f. omega (arith, delete-stored c lawful p w old q h y f, insert-stored c lawful q whole (moved old new) v number z is f),
+              insert-whole c lawful q whole (renewed old new) v number z is,
+              λ f. omega (arith, delete-stored c lawful p w old q h y f, insert-stored c lawful q whole (renewed old new) v number z is f),
             )
         go NoneFree h = absurd (subst (EachPool (λ x. ⊥)) (sym (update-none h) ∙ u) tt)
 
@@ -61,7 +61,7 @@ module _ (c : Choice) (p : Pool) (old : Record) (new : Rect) where
     update-whole = updated .0
 
     pub update-stored : (f : Record → Bool)
-        → length (those f (stored z)) + length (those f (old ∷ [])) ≡ length (those f (stored p)) + length (those f (moved old new ∷ []))
+        → length (those f (stored z)) + length (those f (old ∷ [])) ≡ length (those f (stored p)) + length (those f (renewed old new ∷ []))
     update-stored = updated .1
 
     pub update-sound : soundPool z ≡ true
@@ -73,12 +73,12 @@ module _ (c : Choice) (p : Pool) (old : Record) (new : Rect) where
     unfolding deleteRoom
     update-fits room u = go (deleteRecord c p old) refl
       where
-        sure : Sure (Room p (2 * (p .height - 1))) (deleteRecord c p old)
+        sure : Sure (SlotRoom p (2 * (p .height - 1))) (deleteRecord c p old)
         sure = delete-room c p old w lawful (omega (arith, room))
 
         go : (o : Change) → deleteRecord c p old ≡ o → ⊥
         go (Done q) h =
-            let k = subst (Sure (Room p (2 * (p .height - 1)))) h sure in
-            insert-fits c lawful q (delete-whole c lawful p w old q h) (moved old new) v (held-number p w old y)
+            let k = subst (Sure (SlotRoom p (2 * (p .height - 1)))) h sure in
+            insert-fits c lawful q (delete-whole c lawful p w old q h) (renewed old new) v (held-number p w old y)
             (omega (arith, room, k .high, k .left)) (sym (update-done q h) ∙ u)
-        go NoneFree h = subst (Sure (Room p (2 * (p .height - 1)))) h sure
+        go NoneFree h = subst (Sure (SlotRoom p (2 * (p .height - 1)))) h sure

@@ -88,7 +88,7 @@ unfoldable pub roomFor : ℕ → ℕ → ℕ
 roomFor n h = n * (h + n)
 
 -- after them the tree is so high at most, and so many slots are left at least
-pub record Room (p : Pool) (n : ℕ) (q : Pool) : Type 0 where
+pub record SlotRoom (p : Pool) (n : ℕ) (q : Pool) : Type 0 where
   pub high : q .height ≤ p .height + n
   pub left : freeCount p ≤ freeCount q + roomFor n (p .height)
 

@@ -7,15 +7,15 @@ use native.Mathlib.Omega.{arith}
 use lib.ListN.{length, replicate}
 use lib.IntN.{ℤ, pos}
 use Rattle.rules.specs.declared.Request.{Request}
-use Rattle.rules.specs.Pool.{blankPool}
+use Rattle.rules.specs.Pool.{blankPool, noRecord}
 use Rattle.rules.specs.Layout.{Blanked, words, blank}
 use Rattle.rules.specs.Insert.{ours}
 use Rattle.rules.specs.Answers.{answer}
 use Rattle.rules.specs.Call.{Lent, call, starting, doRequests}
 use Rattle.rules.specs.Computed.{document01}
-use Rattle.rules.specs.Histories.{box, insert, delete, update, search, noRecord, shown}
-use Rattle.in_force_laws.specs.Force.{lessPair, change, inForce, forceBy, forceAfter, placesOf, filledBy, filledAfter}
-use Rattle.in_force_laws.specs.Batch.{meeting, Told}
+use Rattle.rules.specs.Histories.{box, insert, delete, update, search, shown}
+use Rattle.in_force_laws.specs.Force.{lessPair, change, inForce, forceBy, forceAfter, placesFilled, filledBy, filledAfter}
+use Rattle.in_force_laws.specs.Batch.{howManyMeet, Told}
 use Rattle.demands.specs.Steps.{Step, Blank, Call, poolAfter, History, inForceAfter}
 use Rattle.demands.proofs.Demands.{demand-3}
 
@@ -76,15 +76,15 @@ closed-then : forceAfter (inForceAfter before-last) 0 (update 7 (box 0 0 10 10) 
 unfolding document01 inForceAfter forceAfter forceBy inForce change lessPair before-last last second first start
 closed-then = refl
 
-closed-room : meeting (box 20 20 30 30) (forceAfter (inForceAfter before-last) 0 (update 7 (box 0 0 10 10) (box 5 5 20 20) ∷ []) (call last .answers))
+closed-room : howManyMeet (box 20 20 30 30) (forceAfter (inForceAfter before-last) 0 (update 7 (box 0 0 10 10) (box 5 5 20 20) ∷ []) (call last .answers))
     ≤ length (last .found) - filledAfter 0 0 (update 7 (box 0 0 10 10) (box 5 5 20 20) ∷ []) (call last .answers)
-unfolding document01 inForceAfter forceAfter forceBy inForce change lessPair filledAfter filledBy placesOf before-last last second first start
+unfolding document01 inForceAfter forceAfter forceBy inForce change lessPair filledAfter filledBy placesFilled before-last last second first start
 closed-room = omega arith
 
 -- every hypothesis of the third demand is met, and this is what it says: record 7, which only touches the window, where it is now
 pub closed-shows : Told (doRequests ours 0 (update 7 (box 0 0 10 10) (box 5 5 20 20) ∷ []) (starting last) .pool)
     (shown 7 (box 5 5 20 20) ∷ shown 8 (box 40 0 50 9) ∷ []) 0 (box 20 20 30 30) 1 (call last .answers) (shown 7 (box 5 5 20 20) ∷ noRecord ∷ [])
-unfolding document01 inForceAfter forceAfter forceBy inForce change lessPair filledAfter filledBy placesOf before-last last second first start
+unfolding document01 inForceAfter forceAfter forceBy inForce change lessPair filledAfter filledBy placesFilled before-last last second first start
 closed-shows =
     demand-3 0 before-last last (call last) closed-history closed-served .each (update 7 (box 0 0 10 10) (box 5 5 20 20) ∷ [])
     (search (box 20 20 30 30)) [] refl (box 20 20 30 30) refl refl closed-room

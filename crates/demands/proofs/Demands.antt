@@ -18,7 +18,7 @@ use Rattle.rules.specs.declared.Verdict.{Verdict}
 use Rattle.rules.specs.declared.Verdict.the-variants.{BadLists, BadLength, NotSound}
 use Rattle.rules.specs.Numbers.{mostRequests}
 use Rattle.rules.specs.Pool.{Pool}
-use Rattle.rules.specs.Layout.{rightLength, read}
+use Rattle.rules.specs.Layout.{validLength, read}
 use Rattle.rules.specs.Sound.{sound, soundPool, nothingElse}
 use Rattle.rules.specs.Insert.{ours}
 use Rattle.rules.specs.Answers.{answerOf, verdictNumber}
@@ -55,7 +55,7 @@ module _ (l : Lent) where
   unfolding callFault starting sound
   first-whole h =
       let a = no-row (ltb mostRequests (length (l .requests)) || not (eqb (length (l .answers)) (length (l .requests)))) BadLists _ h in
-      let b = no-row (not (rightLength (l .pool)) || not (eqb (length (l .workspace)) (length (l .pool)))) BadLength _ (a .1) in
+      let b = no-row (not (validLength (l .pool)) || not (eqb (length (l .workspace)) (length (l .pool)))) BadLength _ (a .1) in
       let d = no-row (not (sound (l .pool))) NotSound _ (b .1) in
       sound-whole (read (l .pool)) (and-both (nothingElse (l .pool)) (soundPool (read (l .pool))) (not-false _ (d .0)) .1)
 

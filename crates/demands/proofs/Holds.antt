@@ -10,14 +10,14 @@ use lib.IntN.{ℤ, pos}
 use Rattle.rules.specs.declared.Verdict.{Verdict}
 use Rattle.rules.specs.Lists.{same}
 use Rattle.rules.specs.Pool.{Pool, blankPool}
-use Rattle.rules.specs.Layout.{Blanked, rightLength, slotCount, words, read, blank}
+use Rattle.rules.specs.Layout.{Blanked, validLength, slotCount, words, read, blank}
 use Rattle.rules.specs.Insert.{ours}
 use Rattle.rules.specs.Answers.{verdictNumber}
 use Rattle.rules.specs.Call.{Lent, Left, callFault, refused, served, callBy, call}
 use Rattle.rules_laws.proofs.Orders.{never-both}
 use Rattle.sound_laws.proofs.Same.{same-is}
 use Rattle.in_force_laws.specs.Force.{forceAfter}
-use Rattle.in_force_laws.specs.Shows.{Holds}
+use Rattle.in_force_laws.specs.Shows.{HoldsRecords}
 use Rattle.demands.specs.Steps.{Blanks, Step, Blank, Call, poolAfter, History, inForceAfter}
 use Rattle.map.specs.Asking.{Allowed}
 use Rattle.rules_laws.proofs.Splits.{ours-lawful}
@@ -28,19 +28,19 @@ use Rattle.in_force_laws.proofs.Call.{left-refused, left-served, no-fault, call
 -- ---- what blanking leaves
 
 module _ (w : List ℤ) where
-  blank-done : rightLength w ≡ true → blank w ≡ record { number = 0; pool = words (blankPool (slotCount w - 1)) }
+  blank-done : validLength w ≡ true → blank w ≡ record { number = 0; pool = words (blankPool (slotCount w - 1)) }
   unfolding blank
   blank-done h = rw (h, blank)
 
-  blank-left : rightLength w ≡ false → blank w ≡ record { number = 1; pool = w }
+  blank-left : validLength w ≡ false → blank w ≡ record { number = 1; pool = w }
   unfolding blank
   blank-left h = rw (h, blank)
 
   -- a blank pool where it is accepted, and else the words as they were
   pub blank-cases : (P : Blanked → Type 0) → P (record { number = 0; pool = words (blankPool (slotCount w - 1)) }) → P (record { number = 1; pool = w }) → P (blank w)
-  blank-cases P done left = go (rightLength w) refl
+  blank-cases P done left = go (validLength w) refl
     where
-      go : (t : Bool) → rightLength w ≡ t → P (blank w)
+      go : (t : Bool) → validLength w ≡ t → P (blank w)
       go true h = subst P (sym (blank-done h)) done
       go false h = subst P (sym (blank-left h)) left
 
@@ -93,44 +93,44 @@ module _ (l : Lent) (o : Left) (steps : List Step) where
 
 -- ---- the pool holds them
 
-blank-pool : (n : ℕ) → Holds (read (words (blankPool n))) []
-blank-pool n = subst (λ (p : Pool). Holds p []) (sym (reads (blankPool n) (blank-whole n))) (blank-holds n)
+blank-pool : (n : ℕ) → HoldsRecords (read (words (blankPool n))) []
+blank-pool n = subst (λ (p : Pool). HoldsRecords p []) (sym (reads (blankPool n) (blank-whole n))) (blank-holds n)
 
-module _ (b : Blanked) (w : List ℤ) (k : Blanks w b) (steps : List Step) (now : Holds (read w) (inForceAfter steps)) where
-  blank-step : Holds (read (b .pool)) (inForceAfter (Blank b ∷ steps))
+module _ (b : Blanked) (w : List ℤ) (k : Blanks w b) (steps : List Step) (now : HoldsRecords (read w) (inForceAfter steps)) where
+  blank-step : HoldsRecords (read (b .pool)) (inForceAfter (Blank b ∷ steps))
   unfolding inForceAfter
   blank-step =
-      subst (λ (v : List ℤ). Holds (read v) (elim (eqb (b .number) 0) [ true ↦ [] | false ↦ inForceAfter steps ])) (sym (k .pool))
-      (subst (λ (m : ℕ). Holds (read (blank w .pool)) (elim (eqb m 0) [ true ↦ [] | false ↦ inForceAfter steps ])) (sym (k .number))
-      (blank-cases w (λ x. Holds (read (x .pool)) (elim (eqb (x .number) 0) [ true ↦ [] | false ↦ inForceAfter steps ])) (blank-pool (slotCount w - 1)) now))
+      subst (λ (v : List ℤ). HoldsRecords (read v) (elim (eqb (b .number) 0) [ true ↦ [] | false ↦ inForceAfter steps ])) (sym (k .pool))
+      (subst (λ (m : ℕ). HoldsRecords (read (blank w .pool)) (elim (eqb m 0) [ true ↦ [] | false ↦ inForceAfter steps ])) (sym (k .number))
+      (blank-cases w (λ x. HoldsRecords (read (x .pool)) (elim (eqb (x .number) 0) [ true ↦ [] | false ↦ inForceAfter steps ])) (blank-pool (slotCount w - 1)) now))
 
-module _ (l : Lent) (o : Left) (k : Allowed l o) (steps : List Step) (now : Holds (read (l .pool)) (inForceAfter steps)) where
+module _ (l : Lent) (o : Left) (k : Allowed l o) (steps : List Step) (now : HoldsRecords (read (l .pool)) (inForceAfter steps)) where
   zero-number : o .number ≡ pos 0 → callBy ours l .number ≡ pos 0
   unfolding call
   zero-number z = sym (k .number) ∙ z
 
-  served-step : o .number ≡ pos 0 → Holds (read (o .pool)) (forceAfter (inForceAfter steps) 0 (l .requests) (o .answers))
+  served-step : o .number ≡ pos 0 → HoldsRecords (read (o .pool)) (forceAfter (inForceAfter steps) 0 (l .requests) (o .answers))
   unfolding call
   served-step z =
       let y = zero-number z in
       let h = call-force ours l ours-lawful (inForceAfter steps) now y in
       rw (k .answers, k .pool, call-pool ours l ours-lawful (inForceAfter steps) now y, reads _ (h .whole)) h
 
-  refused-step : o .number ≢ pos 0 → Holds (read (o .pool)) (inForceAfter steps)
+  refused-step : o .number ≢ pos 0 → HoldsRecords (read (o .pool)) (inForceAfter steps)
   refused-step n =
       let r = refused-left l (λ e. n (k .number ∙ e)) in
-      subst (λ (w : List ℤ). Holds (read w) (inForceAfter steps)) (sym (k .pool ∙ ap (λ (x : Left). x .pool) (r .2) ∙ refused-pool l (r .0))) now
+      subst (λ (w : List ℤ). HoldsRecords (read w) (inForceAfter steps)) (sym (k .pool ∙ ap (λ (x : Left). x .pool) (r .2) ∙ refused-pool l (r .0))) now
 
-  call-step : Holds (read (o .pool)) (inForceAfter (Call l o ∷ steps))
+  call-step : HoldsRecords (read (o .pool)) (inForceAfter (Call l o ∷ steps))
   call-step = go (same (o .number) (pos 0)) refl
     where
-      go : (t : Bool) → same (o .number) (pos 0) ≡ t → Holds (read (o .pool)) (inForceAfter (Call l o ∷ steps))
+      go : (t : Bool) → same (o .number) (pos 0) ≡ t → HoldsRecords (read (o .pool)) (inForceAfter (Call l o ∷ steps))
       go true h = let z = same-is (o .number) (pos 0) .0 h in rw (call-gives l o steps z) (served-step z)
       go false h = rw (call-keeps l o steps h) (refused-step (λ z. never-both (same-is (o .number) (pos 0) .1 z) h))
 
-pub history-holds : (n : ℕ) (steps : List Step) → History n steps → Holds (read (poolAfter n steps)) (inForceAfter steps)
+pub history-holds : (n : ℕ) (steps : List Step) → History n steps → HoldsRecords (read (poolAfter n steps)) (inForceAfter steps)
 unfolding poolAfter
 history-holds n [] h = unfold inForceAfter in blank-pool n
 history-holds n (Blank b ∷ steps) h = blank-step b (poolAfter n steps) (h .0) steps (history-holds n steps (h .1))
 history-holds n (Call l o ∷ steps) h =
-    call-step l o (h .1) steps (subst (λ (w : List ℤ). Holds (read w) (inForceAfter steps)) (sym (h .0)) (history-holds n steps (h .2)))
+    call-step l o (h .1) steps (subst (λ (w : List ℤ). HoldsRecords (read w) (inForceAfter steps)) (sym (h .0)) (history-holds n steps (h .2)))

@@ -26,7 +26,7 @@ use Rattle.rules.specs.Request.{Turn, asked, request}
 use Rattle.rules.specs.Call.{Lent, Left, Batch, callFault, doRequests, starting}
 use Rattle.search_laws.specs.Window.{recordMeets}
 use Rattle.in_force_laws.specs.Force.{forceAfter, filledAfter}
-use Rattle.in_force_laws.specs.Batch.{meeting, Told}
+use Rattle.in_force_laws.specs.Batch.{howManyMeet, Told}
 use Rattle.demands.specs.Steps.{Step, inForceAfter}
 use Rattle.map.specs.Asking.{Allowed}
 
@@ -87,6 +87,6 @@ pub record Does (l : Lent) (o : Left) : Type 0 where
 pub record Shows (steps : List Step) (l : Lent) (o : Left) : Type 0 where
   pub each : (done : List Request) (q : Request) (rest : List Request) → l .requests ≡ done ++ q ∷ rest
       → (window : Rect) → asked q ≡ some (Search window) → valid window ≡ true
-      → meeting window (forceAfter (inForceAfter steps) 0 done (o .answers)) ≤ length (l .found) - filledAfter 0 0 done (o .answers)
+      → howManyMeet window (forceAfter (inForceAfter steps) 0 done (o .answers)) ≤ length (l .found) - filledAfter 0 0 done (o .answers)
       → Told (after l done .pool) (forceAfter (inForceAfter steps) 0 done (o .answers)) (filledAfter 0 0 done (o .answers)) window (length done)
       (o .answers) (o .found)

@@ -15,7 +15,7 @@ use Rattle.rules.specs.declared.Record.{Record}
 use Rattle.rules.specs.declared.Request.{Request}
 use Rattle.rules.specs.declared.Asked.{Asked}
 use Rattle.rules.specs.Lists.{every}
-use Rattle.rules.specs.Layout.{rightLength, words, read}
+use Rattle.rules.specs.Layout.{validLength, words, read}
 use Rattle.rules.specs.Sound.{sound}
 use Rattle.rules.specs.Insert.{ours}
 use Rattle.rules.specs.Answers.{answer, answerOf, firstRow}
@@ -28,9 +28,10 @@ use Rattle.request.specs.declared.Served.{Served}
 use Rattle.request.specs.Serving.{Serves}
 use Rattle.request.proofs.Sounds.{sound-fit}
 use Rattle.frames.specs.Writing.{Wrote}
-use Rattle.frames.specs.Said.{replied}
+use Rattle.frames.specs.Said.{replyShown}
 use Rattle.frames.proofs.Texts.{sets-append, sets-beyond, wrote-as}
-use Rattle.dustmap.specs.Running.{noRecord, Replies}
+use Rattle.dustmap.specs.Running.{Replies}
+use Rattle.rules.specs.Pool.{noRecord}
 
 -- ---- the found list
 
@@ -81,7 +82,7 @@ asked-some q h = go (asked q) refl h
 lentBy : List ℤ → Request → Lent
 lentBy w q = record { pool = w; workspace = w; requests = q ∷ []; answers = answer 0 0 0 0 ∷ []; found = empties }
 
-module _ (w : List ℤ) (q : Request) (right : rightLength w ≡ true) (ok : sound w ≡ true) (is : isRequest q ≡ true) where
+module _ (w : List ℤ) (q : Request) (right : validLength w ≡ true) (ok : sound w ≡ true) (is : isRequest q ≡ true) where
   no-fault : callFault (lentBy w q) ≡ none
   unfolding callFault firstRow lentBy every
   no-fault = rw (callFault, firstRow, right, eq-eqb (length w) (length w) refl, ok, is)
@@ -103,14 +104,14 @@ module _ (w : List ℤ) (q : Request) (right : rightLength w ≡ true) (ok : sou
     unfolding served afterTurn starting lentBy
     left-is = ap (λ (l : Left). l .pool) frame-is
 
-    replied-is : (before : ℕ) → replied before w q
+    replied-is : (before : ℕ) → replyShown before w q
         ≡ replyLines (suc before) (answerOf (request ours (read w) 0 64 a .reply)) (sets empties 0 (request ours (read w) 0 64 a .listed))
-    unfolding replied served afterTurn starting lentBy
+    unfolding replyShown served afterTurn starting lentBy
     replied-is before = ap (λ (l : Left). replyLines (suc before) (getD (l .answers) 0 (answer 0 0 0 0)) (l .found)) frame-is
 
 -- one request does the call, and its lines are the call's
 pub replies-by : (w : List ℤ) (q : Request) (a : Asked) (before at : ℕ) (out now : List ℕ) (left scratch : List ℤ) (s : Served) (filled : ℕ)
-    (f : List Record) → rightLength w ≡ true → sound w ≡ true → isRequest q ≡ true → asked q ≡ some a
+    (f : List Record) → validLength w ≡ true → sound w ≡ true → isRequest q ≡ true → asked q ≡ some a
     → Serves (length w) (request ours (read w) 0 64 a) s left scratch → f ≡ sets empties 0 (itemsFrom left scratch 0 (min (s .listed) 64))
     → Wrote out at (replyLines (suc before) (s .answer) f) now filled → filled ≤ at + 7124 → Replies w q before out at left now (s .free) filled
 replies-by w q a before at out now left scratch s filled f right ok is e v g t h =

@@ -3,7 +3,7 @@ use mathlib.Core.Path.{_≡_, refl}
 use mathlib.Core.Bool.{true}
 use lib.ListN.{length, replicate}
 use lib.IntN.{pos}
-use Rattle.rules.specs.Layout.{rightLength, blank}
+use Rattle.rules.specs.Layout.{validLength, blank}
 use Rattle.rules.specs.Sound.{sound}
 use Rattle.rules.specs.Computed.{document01}
 
@@ -11,7 +11,7 @@ pub first-long : length (blank (replicate 5384 (pos 0)) .pool) ≡ 5384
 unfolding document01
 first-long = refl
 
-pub first-right : rightLength (blank (replicate 5384 (pos 0)) .pool) ≡ true
+pub first-right : validLength (blank (replicate 5384 (pos 0)) .pool) ≡ true
 unfolding document01
 first-right = refl
 

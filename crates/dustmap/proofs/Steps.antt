@@ -13,7 +13,7 @@ use Rattle.free_slots.specs.declared.FreeSlots.{FreeSlots}
 use Rattle.frames.specs.declared.Framed.the-variants as F
 use Rattle.frames.specs.Reading.{framed}
 use Rattle.frames.specs.Writing.{Wrote}
-use Rattle.frames.specs.Said.{Said, replied}
+use Rattle.frames.specs.Said.{Said, replyShown}
 use Rattle.frames.proofs.Texts.{wrote-length}
 use Rattle.frames.proofs.Pieces.{said-asks, said-bad, asks-within}
 use Rattle.dustmap.specs.declared.Run.{Run}
@@ -82,7 +82,7 @@ module _ {pool : List ℤ} {input out : List ℕ} {r : Run} (s : Stands pool inp
       record {
         stands = record { ready = w .ready; low = k; high = s .high; room = omega (arith, w .short) };
         keeps = λ a p c. said-as a
-            (append-assoc p (take (r .filled) out) (replied (r .before) pool q) ∙ ap (λ (l : List ℕ). p ++ l) (sym f)) (sym (add-one (r .before))) (sym (w .map))
+            (append-assoc p (take (r .filled) out) (replyShown (r .before) pool q) ∙ ap (λ (l : List ℕ). p ++ l) (sym f)) (sym (add-one (r .before))) (sym (w .map))
             (held-less input (r .at) (r .end) n (s .low) (omega arith))
             (said-asks a (p ++ take (r .filled) out) (r .before) pool (heldIn input r) c q n e);
       }

@@ -3,17 +3,14 @@ use mathlib.Core.Path.{_≡_}
 use mathlib.Core.List.{List, _++_}
 use Prim.Native.Nat.{ℕ, _+_, _-_, _≤_}
 use lib.ListN.{length, take, drop}
-use lib.IntN.{ℤ, pos}
-use Rattle.rules.specs.declared.Record.{Record}
+use lib.IntN.{ℤ}
 use Rattle.rules.specs.declared.Request.{Request}
-use Rattle.rules.specs.Pool.{number}
-use Rattle.rules.specs.Geometry.{noRect}
 use Rattle.rules.specs.Frames.{frameCall, dustmap}
 use Rattle.free_slots.specs.declared.FreeSlots.{FreeSlots}
 use Rattle.frames.specs.Writing.{Wrote}
 use Rattle.frames.specs.declared.Framed.the-variants as F
 use Rattle.frames.specs.Reading.{framed}
-use Rattle.frames.specs.Said.{Said, replied}
+use Rattle.frames.specs.Said.{Said, replyShown}
 use Rattle.request.specs.Serving.{Ready}
 use Rattle.dustmap.specs.declared.Run.{Run}
 use Rattle.dustmap.specs.declared.Then.{Then}
@@ -50,15 +47,11 @@ Onward before input out r pool now (Ends s) =
     × ((arrived printed : List ℕ) → Claims before input out r arrived printed
     → (later : List ℕ) → dustmap (arrived ++ later) ≡ printed ++ take (s .filled) now)
 
--- a place of the found list before anything is found
-abbrev pub noRecord : Record
-noRecord = record { number = number (pos 0); rect = noRect }
-
 -- what the call of a frame leaves: the pool, the lines behind the first `at` bytes of the output, and what is known of the free slots
 pub record Replies (pool : List ℤ) (q : Request) (before : ℕ) (out : List ℕ) (at : ℕ) (left : List ℤ) (now : List ℕ) (free : FreeSlots) (filled : ℕ) : Type 0 where
   pub ready : Ready left free
   pub map : left ≡ frameCall pool q .pool
-  pub wrote : Wrote out at (replied before pool q) now filled
+  pub wrote : Wrote out at (replyShown before pool q) now filled
   pub short : filled ≤ at + 7124
 
 -- all is as it was but that nothing waits to be written

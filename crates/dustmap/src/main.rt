@@ -5,20 +5,20 @@ ghost use mathlib.Core.Bool.{true};
 ghost use Prim.Native.Nat.{_+_, _≤_, _<_, min};
 ghost use lib.ListN.{length, replicate};
 ghost use lib.Seq.{sets};
-ghost use Rattle.rules.specs.Pool.{number};
+ghost use Rattle.rules.specs.Pool.{number, noRecord};
 ghost use Rattle.rules.specs.Call.{isRequest};
 ghost use Rattle.rules.specs.Frames as F;
 ghost use Rattle.found_items.specs.Items.{itemsFrom, Pointing};
 ghost use Rattle.request.specs.Serving.{Ready};
-ghost use Rattle.dustmap.specs.Running.{Stands, Onward, noRecord, Replies, Flushed, runOf, Came, Waited, Rounds};
+ghost use Rattle.dustmap.specs.Running.{Stands, Onward, Replies, Flushed, runOf, Came, Waited, Rounds};
 use frames::Framed;
+use free_slots::FreeSlots;
 use libc::STDIN_FILENO;
 use libc::STDOUT_FILENO;
 use rules::Record;
 use rules::RecordNumber;
 use rules::Rect;
 use rules::Request;
-use free_slots::FreeSlots;
 
 // "a 128-slot pool (5,384 words)"
 const WORDS: usize = 5384;

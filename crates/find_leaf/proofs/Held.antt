@@ -10,7 +10,7 @@ use lib.IntN.{ℤ}
 use Rattle.rules.specs.declared.Record.{Record}
 use Rattle.rules.specs.Pool.{Pool, held}
 use Rattle.rules.specs.Delete.{Path, findLeaf}
-use Rattle.rules.specs.Layout.{rightLength, read}
+use Rattle.rules.specs.Layout.{validLength, read}
 use Rattle.rules_laws.proofs.Orders.{never-both}
 use Rattle.pool.proofs.Parts.{few-slots}
 use Rattle.pool.proofs.Written.{read-slots}
@@ -19,9 +19,9 @@ use Rattle.sound_laws.proofs.Heights.{height-eight}
 use Rattle.delete_laws.specs.Way.{Found}
 use Rattle.delete_laws.proofs.Held.{find-held}
 use Rattle.find_leaf.specs.declared.Way.{Way}
-use Rattle.find_leaf.specs.Ways.{Shows}
+use Rattle.find_leaf.specs.Ways.{Gives}
 
-pub shows-found : (o : Option Path) (l : ℕ) (w : Way) → Shows o l w → (w .found ≡ true) ↔ Found o
+pub shows-found : (o : Option Path) (l : ℕ) (w : Way) → Gives o l w → (w .found ≡ true) ↔ Found o
 shows-found none l w h = ((λ t. never-both t (h .0)), λ f. absurd f)
 shows-found (some path) l w h = ((λ t. tt), λ f. h .0)
 
@@ -31,12 +31,12 @@ same-answer true b f g = sym (f refl)
 same-answer false true f g = g refl
 same-answer false false f g = refl
 
-pub shows-held : (p : Pool) (r : Record) (w : Way) → Whole p → Shows (findLeaf p r (p .height) (p .root)) (p .height) w → w .found ≡ held p r
+pub shows-held : (p : Pool) (r : Record) (w : Way) → Whole p → Gives (findLeaf p r (p .height) (p .root)) (p .height) w → w .found ≡ held p r
 shows-held p r w whole h =
     let shown = shows-found (findLeaf p r (p .height) (p .root)) (p .height) w h in
     let is = find-held p whole r in
     same-answer (w .found) (held p r) (λ t. is .1 (shown .0 t)) (λ t. shown .1 (is .0 t))
 
 -- "Height is 8 at most"
-pub low-enough : (w : List ℤ) → rightLength w ≡ true → Whole (read w) → read w .height ≤ 8
+pub low-enough : (w : List ℤ) → validLength w ≡ true → Whole (read w) → read w .height ≤ 8
 low-enough w r whole = height-eight (read w) whole (omega (arith, read-slots w, few-slots w r))

@@ -13,7 +13,7 @@ use Rattle.rules.specs.Pool.{slot}
 use Rattle.rules.specs.Delete.{Path, place, orLater}
 use Rattle.rules_laws.proofs.Orders.{never-both}
 use Rattle.find_leaf.specs.declared.Way.{Way}
-use Rattle.find_leaf.specs.Ways.{placesOf, Long, Shows}
+use Rattle.find_leaf.specs.Ways.{pathOf, Long, Gives}
 
 -- ---- a place written
 
@@ -25,51 +25,51 @@ module _ (w : Way) (k : ℕ) (s : SlotNumber) (i : ℕ) where
   put-long h = record { nodes = length-set (w .nodes) k s ∙ h .nodes; places = length-set (w .places) k i ∙ h .places }
 
   -- the levels below
-  put-below : (l : ℕ) → l ≤ k → placesOf l put ≡ placesOf l w
-  unfolding placesOf
+  put-below : (l : ℕ) → l ≤ k → pathOf l put ≡ pathOf l w
+  unfolding pathOf
   put-below zero h = refl
   put-below (suc l) h =
       λ j. place (getD-set-other (w .nodes) k l s (slot 0) (omega arith) j) (getD-set-other (w .places) k l i 0 (omega arith) j)
       ∷ put-below l (omega arith) j
 
-  put-here : Long w → k < 8 → placesOf (suc k) put ≡ place s i ∷ placesOf k w
-  unfolding placesOf
+  put-here : Long w → k < 8 → pathOf (suc k) put ≡ place s i ∷ pathOf k w
+  unfolding pathOf
   put-here h few =
       λ j. place (getD-set-same (w .nodes) k s (slot 0) (omega (arith, h .nodes)) j) (getD-set-same (w .places) k i 0 (omega (arith, h .places)) j)
       ∷ put-below k (omega arith) j
 
 pub put-place : (w : Way) (level : ℕ) (s : SlotNumber) (i : ℕ) → Long w → 1 ≤ level → level ≤ 8
-    → Shows (some (place s i ∷ placesOf (level - 1) w)) level (put w (level - 1) s i)
+    → Gives (some (place s i ∷ pathOf (level - 1) w)) level (put w (level - 1) s i)
 put-place w zero s i h low few = absurd (omega arith)
 put-place w (suc k) s i h low few = rw (sub-one (suc k)) (refl, put-here w k s i h (omega arith), put-long w k s i h)
 
 -- ---- what is shown
 
-pub shows-same : (o u : Option Path) (l : ℕ) (w : Way) → u ≡ o → Shows o l w → Shows u l w
+pub shows-same : (o u : Option Path) (l : ℕ) (w : Way) → u ≡ o → Gives o l w → Gives u l w
 shows-same o u l w e h = rw e h
 
-pub shows-long : (o : Option Path) (l : ℕ) (w : Way) → Shows o l w → Long w
+pub shows-long : (o : Option Path) (l : ℕ) (w : Way) → Gives o l w → Long w
 shows-long none l w h = h .1
 shows-long (some path) l w h = h .2
 
 -- no way shows at any level
-pub shows-none : (o : Option Path) (l : ℕ) (w : Way) → o ≡ none → Shows none 0 w → Shows o l w
+pub shows-none : (o : Option Path) (l : ℕ) (w : Way) → o ≡ none → Gives none 0 w → Gives o l w
 shows-none o l w e h = rw e h
 
 -- the leaf's place alone
-pub shows-leaf : (o : Option Path) (s : SlotNumber) (i : ℕ) (b w : Way) → o ≡ some (place s i ∷ []) → Shows (some (place s i ∷ placesOf (1 - 1) b)) 1 w
-    → Shows o 1 w
-unfolding placesOf
+pub shows-leaf : (o : Option Path) (s : SlotNumber) (i : ℕ) (b w : Way) → o ≡ some (place s i ∷ []) → Gives (some (place s i ∷ pathOf (1 - 1) b)) 1 w
+    → Gives o 1 w
+unfolding pathOf
 shows-leaf o s i b w e h = rw e h
 
 -- a way below, or else what the later entries give
 module _ (s : SlotNumber) (i : ℕ) (later : Option Path) (l level : ℕ) (b w : Way) where
-  pub or-found : (o : Option Path) → Shows o l b → b .found ≡ true → Shows (some (place s i ∷ placesOf l b)) level w → Shows (orLater s i o later) level w
+  pub or-found : (o : Option Path) → Gives o l b → b .found ≡ true → Gives (some (place s i ∷ pathOf l b)) level w → Gives (orLater s i o later) level w
   unfolding orLater
   or-found none h f g = absurd (never-both f (h .0))
   or-found (some path) h f g = (g .0, g .1 ∙ (λ j. place s i ∷ h .1 j), g .2)
 
-  pub or-later : (o : Option Path) → Shows o l b → b .found ≡ false → Shows later level w → Shows (orLater s i o later) level w
+  pub or-later : (o : Option Path) → Gives o l b → b .found ≡ false → Gives later level w → Gives (orLater s i o later) level w
   unfolding orLater
   or-later none h f g = g
   or-later (some path) h f g = absurd (never-both (h .0) f)

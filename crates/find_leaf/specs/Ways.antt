@@ -10,9 +10,9 @@ use Rattle.rules.specs.Delete.{Path, place}
 use Rattle.find_leaf.specs.declared.Way.{Way}
 
 -- the places from level l down to the leaf
-unfoldable pub placesOf : ℕ → Way → Path
-placesOf zero w = []
-placesOf (suc l) w = place (getD (w .nodes) l (slot 0)) (getD (w .places) l 0) ∷ placesOf l w
+unfoldable pub pathOf : ℕ → Way → Path
+pathOf zero w = []
+pathOf (suc l) w = place (getD (w .nodes) l (slot 0)) (getD (w .places) l 0) ∷ pathOf l w
 
 -- there is room for 8 levels
 pub record Long (w : Way) : Type 0 where
@@ -20,6 +20,6 @@ pub record Long (w : Way) : Type 0 where
   pub places : length (w .places) ≡ 8
 
 -- what FindLeaf gives from level l down, as the code has it
-abbrev pub Shows : Option Path → ℕ → Way → Type 0
-Shows none l w = (w .found ≡ false) × Long w
-Shows (some path) l w = (w .found ≡ true) × (placesOf l w ≡ path) × Long w
+abbrev pub Gives : Option Path → ℕ → Way → Type 0
+Gives none l w = (w .found ≡ false) × Long w
+Gives (some path) l w = (w .found ≡ true) × (pathOf l w ≡ path) × Long w

@@ -1,4 +1,4 @@
-// FindLeaf, over any words of a right length: the way down to the first exact pair. The node function calls the entries function, that calls
+// FindLeaf, over any words of a valid length: the way down to the first exact pair. The node function calls the entries function, that calls
 // the function of one entry, and that calls the node function; the level and the entries left fall.
 ghost use mathlib.Core.Path.{_≡_};
 ghost use mathlib.Core.Bool.{true};
@@ -12,7 +12,7 @@ ghost use Rattle.rules.specs.Layout as L;
 ghost use Rattle.rules.specs.Pool as P;
 ghost use Rattle.rules.specs.Delete as D;
 ghost use Rattle.sound_laws.specs.Tree.{Whole};
-ghost use Rattle.find_leaf.specs.Ways.{placesOf, Long, Shows};
+ghost use Rattle.find_leaf.specs.Ways.{pathOf, Long, Gives};
 ghost use Rattle.find_leaf.specs.State.{findEntryLeft, findChildLeft, findBelow};
 use rules::Entry;
 use rules::Pointer;
@@ -44,7 +44,7 @@ fn slot_read(s: SlotNumber) -> SlotNumber
 
 // How many entries are in use; beyond the last slot there are none.
 fn count_at(pool: &[i32], s: SlotNumber) -> usize
-    requires { ⌜ L.rightLength (now pool) ≡ true ⌝ }
+    requires { ⌜ L.validLength (now pool) ≡ true ⌝ }
     ensures is { λ r. ⌜ r ≡ length (P.entriesAt (L.read (now (pool .entry))) s) ⌝ }
     ensures most { λ r. ⌜ r ≤ 8 ⌝ }
 {
@@ -58,7 +58,7 @@ fn count_at(pool: &[i32], s: SlotNumber) -> usize
 
 // The rectangle of the entry at place i.
 fn rect_at(pool: &[i32], s: SlotNumber, i: usize) -> Rect
-    requires { ⌜ L.rightLength (now pool) ≡ true ⌝ }
+    requires { ⌜ L.validLength (now pool) ≡ true ⌝ }
     requires { ⌜ i < length (P.entriesAt (L.read (now pool)) s) ⌝ }
     ensures { λ r. ⌜ r ≡ P.entryAt (L.read (now (pool .entry))) s i .rect ⌝ }
 {
@@ -67,7 +67,7 @@ fn rect_at(pool: &[i32], s: SlotNumber, i: usize) -> Rect
 
 // The entry at place i.
 fn entry_at(pool: &[i32], s: SlotNumber, i: usize) -> Entry
-    requires { ⌜ L.rightLength (now pool) ≡ true ⌝ }
+    requires { ⌜ L.validLength (now pool) ≡ true ⌝ }
     requires { ⌜ i < length (P.entriesAt (L.read (now pool)) s) ⌝ }
     ensures { λ r. ⌜ r ≡ P.entryAt (L.read (now (pool .entry))) s i ⌝ }
 {
@@ -123,7 +123,7 @@ fn same_pair(a: Record, b: Record) -> bool
 
 // No way: the pair is not there.
 fn nowhere() -> Way
-    ensures { λ w. ⌜ Shows none 0 w ⌝ }
+    ensures { λ w. ⌜ Gives none 0 w ⌝ }
 {
     Way {
         found: false,
@@ -137,7 +137,7 @@ fn placed(w: Way, level: usize, s: SlotNumber, i: usize) -> Way
     requires { ⌜ Long w ⌝ }
     requires { ⌜ 1 ≤ level ⌝ }
     requires { ⌜ level ≤ 8 ⌝ }
-    ensures { λ r. ⌜ Shows (some (D.place s i ∷ placesOf (level - 1) w)) level r ⌝ }
+    ensures { λ r. ⌜ Gives (some (D.place s i ∷ pathOf (level - 1) w)) level r ⌝ }
 {
     let mut nodes = w.nodes;
     let mut places = w.places;
@@ -155,9 +155,9 @@ fn placed(w: Way, level: usize, s: SlotNumber, i: usize) -> Way
 
 // FL2: the first of the last `left` entries of the leaf at s that is the pair.
 fn find_entry(pool: &[i32], r: Record, s: SlotNumber, left: usize) -> Way
-    requires { ⌜ L.rightLength (now pool) ≡ true ⌝ }
+    requires { ⌜ L.validLength (now pool) ≡ true ⌝ }
     requires { ⌜ left ≤ length (P.entriesAt (L.read (now pool)) s) ⌝ }
-    ensures { λ w. ⌜ Shows (findEntryLeft (L.read (now (pool .entry))) r s left) 1 w ⌝ }
+    ensures { λ w. ⌜ Gives (findEntryLeft (L.read (now (pool .entry))) r s left) 1 w ⌝ }
 {
     if left == 0 {
         return nowhere();
@@ -173,9 +173,9 @@ fn find_entry(pool: &[i32], r: Record, s: SlotNumber, left: usize) -> Way
 
 // FindLeaf from the node at s on, which has the level given.
 fn find_in(pool: &[i32], r: Record, level: usize, s: SlotNumber) -> Way
-    requires { ⌜ L.rightLength (now pool) ≡ true ⌝ }
+    requires { ⌜ L.validLength (now pool) ≡ true ⌝ }
     requires { ⌜ level ≤ 8 ⌝ }
-    ensures { λ w. ⌜ Shows (D.findLeaf (L.read (now (pool .entry))) r level s) level w ⌝ }
+    ensures { λ w. ⌜ Gives (D.findLeaf (L.read (now (pool .entry))) r level s) level w ⌝ }
 {
     if level == 0 {
         return nowhere();
@@ -190,11 +190,11 @@ fn find_in(pool: &[i32], r: Record, level: usize, s: SlotNumber) -> Way
 // .. over the last `left` entries of the inner node at s: "FindLeaf visits children in stored order". Where a child has nothing, it comes back
 // to the next entry.
 fn find_from(pool: &[i32], r: Record, level: usize, s: SlotNumber, left: usize) -> Way
-    requires { ⌜ L.rightLength (now pool) ≡ true ⌝ }
+    requires { ⌜ L.validLength (now pool) ≡ true ⌝ }
     requires { ⌜ 2 ≤ level ⌝ }
     requires { ⌜ level ≤ 8 ⌝ }
     requires { ⌜ left ≤ length (P.entriesAt (L.read (now pool)) s) ⌝ }
-    ensures { λ w. ⌜ Shows (findChildLeft (L.read (now (pool .entry))) r (level - 1) s left) level w ⌝ }
+    ensures { λ w. ⌜ Gives (findChildLeft (L.read (now (pool .entry))) r (level - 1) s left) level w ⌝ }
 {
     if left == 0 {
         return nowhere();
@@ -211,10 +211,10 @@ fn find_from(pool: &[i32], r: Record, level: usize, s: SlotNumber, left: usize) 
 // FL1: .. below the entry at place i of the node at s, whose child has the level given. Only a child whose rectangle meets the pair's is gone
 // into; the pointer of any other is not read.
 fn find_below(pool: &[i32], r: Record, level: usize, s: SlotNumber, i: usize) -> Way
-    requires { ⌜ L.rightLength (now pool) ≡ true ⌝ }
+    requires { ⌜ L.validLength (now pool) ≡ true ⌝ }
     requires { ⌜ level ≤ 8 ⌝ }
     requires { ⌜ i < length (P.entriesAt (L.read (now pool)) s) ⌝ }
-    ensures { λ w. ⌜ Shows (findBelow (L.read (now (pool .entry))) r level (P.entryAt (L.read (now (pool .entry))) s i)) level w ⌝ }
+    ensures { λ w. ⌜ Gives (findBelow (L.read (now (pool .entry))) r level (P.entryAt (L.read (now (pool .entry))) s i)) level w ⌝ }
 {
     let q = rect_at(pool, s, i);
     if !geometry::meets(q, r.rect) {
@@ -226,9 +226,9 @@ fn find_below(pool: &[i32], r: Record, level: usize, s: SlotNumber, i: usize) ->
 
 // "FindLeaf visits children in stored order; the first exact pair found goes."
 pub fn find_leaf(pool: &[i32], r: Record) -> Way
-    requires { ⌜ L.rightLength (now pool) ≡ true ⌝ }
+    requires { ⌜ L.validLength (now pool) ≡ true ⌝ }
     requires { ⌜ L.read (now pool) .height ≤ 8 ⌝ }
-    ensures { λ w. ⌜ Shows (D.findLeaf (L.read (now (pool .entry))) r (L.read (now (pool .entry)) .height) (L.read (now (pool .entry)) .root)) (L.read (now (pool .entry)) .height) w ⌝ }
+    ensures { λ w. ⌜ Gives (D.pathTo (L.read (now (pool .entry))) r) (L.read (now (pool .entry)) .height) w ⌝ }
 {
     let h = pool::height_of(pool);
     find_in(pool, r, h, pool::root_of(pool))
@@ -236,7 +236,7 @@ pub fn find_leaf(pool: &[i32], r: Record) -> Way
 
 // "pair held": FindLeaf finds a pair exactly where some leaf has it.
 pub fn holds(pool: &[i32], r: Record) -> bool
-    requires { ⌜ L.rightLength (now pool) ≡ true ⌝ }
+    requires { ⌜ L.validLength (now pool) ≡ true ⌝ }
     requires { ⌜ Whole (L.read (now pool)) ⌝ }
     ensures { λ b. ⌜ b ≡ P.held (L.read (now (pool .entry))) r ⌝ }
 {

@@ -11,9 +11,9 @@ use lib.Seq.{length-take-le, take-append-le, drop-append-le}
 use borrow.Author.Tests.{le-leb, lt-leb, eq-eqb, ne-eqb}
 use Rattle.rules.specs.declared.Request.{Request}
 use Rattle.rules.specs.Call.{isRequest}
-use Rattle.rules.specs.Frames.{Frame, Ended, Whole, Cut, pairValue, frameOf, nextFrame, frameRequest}
+use Rattle.rules.specs.Frames.{Frame, Ended, Complete, Cut, pairValue, frameOf, nextFrame, frameRequest}
 use Rattle.frames.specs.declared.Framed.the-variants.{Asks, Waits, Bad}
-use Rattle.frames.specs.Reading.{Nothing, Asking, Wrong, begun, kindLength, someLength, lengthField, kindField, hopeless, framed}
+use Rattle.frames.specs.Reading.{Nothing, Asking, Wrong, beginning, kindLength, someLength, lengthField, kindField, hopeless, framed}
 use Rattle.frames.specs.Places.{requestFrom}
 use Rattle.frames.proofs.Requests.{true-false, length-small, length-least, some-least, no-such, request-none, request-is, frame-asks}
 
@@ -31,11 +31,11 @@ long-cut : (n : ℕ) (rest : List ℕ) → 2 ≤ n → length rest < n → frame
 unfolding frameOf
 long-cut n rest h l = rw (frameOf, le-leb 2 n h, lt-leb n (length rest) l)
 
-is-whole : (n : ℕ) (rest : List ℕ) → 2 ≤ n → n ≤ length rest → frameOf n rest ≡ Whole (wholeIn n rest) (drop n rest)
+is-whole : (n : ℕ) (rest : List ℕ) → 2 ≤ n → n ≤ length rest → frameOf n rest ≡ Complete (wholeIn n rest) (drop n rest)
 unfolding frameOf
 is-whole n rest h l = rw (frameOf, le-leb 2 n h, le-leb n (length rest) l)
 
-whole-more : (n : ℕ) (rest later : List ℕ) → 2 ≤ n → n ≤ length rest → frameOf n (rest ++ later) ≡ Whole (wholeIn n rest) (drop n rest ++ later)
+whole-more : (n : ℕ) (rest later : List ℕ) → 2 ≤ n → n ≤ length rest → frameOf n (rest ++ later) ≡ Complete (wholeIn n rest) (drop n rest ++ later)
 whole-more n rest later h l =
     let a = length-append rest later in
     let d = length-drop 2 rest in
@@ -52,28 +52,28 @@ unfolding nextFrame
 next-of b c rest = refl
 
 module _ (bs : List ℕ) where
-  pub begun-cut : nextFrame bs ≡ Cut → begun bs ≡ Wrong
-  unfolding begun
-  begun-cut e = rw (begun, e)
+  pub begun-cut : nextFrame bs ≡ Cut → beginning bs ≡ Wrong
+  unfolding beginning
+  begun-cut e = rw (beginning, e)
 
-  pub begun-end : nextFrame bs ≡ Ended → begun bs ≡ Nothing
-  unfolding begun
-  begun-end e = rw (begun, e)
+  pub begun-end : nextFrame bs ≡ Ended → beginning bs ≡ Nothing
+  unfolding beginning
+  begun-end e = rw (beginning, e)
 
-  pub begun-no : (f : Frame) (behind : List ℕ) → nextFrame bs ≡ Whole f behind → frameRequest f ≡ none → begun bs ≡ Wrong
-  unfolding begun
-  begun-no f behind e r = rw (begun, e, r)
+  pub begun-no : (f : Frame) (behind : List ℕ) → nextFrame bs ≡ Complete f behind → frameRequest f ≡ none → beginning bs ≡ Wrong
+  unfolding beginning
+  begun-no f behind e r = rw (beginning, e, r)
 
-  pub begun-yes : (f : Frame) (behind : List ℕ) (q : Request) → nextFrame bs ≡ Whole f behind → frameRequest f ≡ some q → begun bs ≡ Asking q behind
-  unfolding begun
-  begun-yes f behind q e r = rw (begun, e, r)
+  pub begun-yes : (f : Frame) (behind : List ℕ) (q : Request) → nextFrame bs ≡ Complete f behind → frameRequest f ≡ some q → beginning bs ≡ Asking q behind
+  unfolding beginning
+  begun-yes f behind q e r = rw (beginning, e, r)
 
-pub begun-none : begun [] ≡ Nothing
-unfolding begun nextFrame
+pub begun-none : beginning [] ≡ Nothing
+unfolding beginning nextFrame
 begun-none = refl
 
-begun-one : (b : ℕ) → begun (b ∷ []) ≡ Wrong
-unfolding begun nextFrame
+begun-one : (b : ℕ) → beginning (b ∷ []) ≡ Wrong
+unfolding beginning nextFrame
 begun-one b = refl
 
 nothing-asking : {q : Request} {l : List ℕ} → Nothing ≡ Asking q l → ⊥
@@ -91,7 +91,7 @@ pub record Fine (bs : List ℕ) : Type 0 where
   pub some : 0 < lengthField bs
   pub here : 2 + lengthField bs ≤ length bs
 
-pub begun-wrong : (bs : List ℕ) → 2 ≤ length bs → (Fine bs → ⊥) → begun bs ≡ Wrong
+pub begun-wrong : (bs : List ℕ) → 2 ≤ length bs → (Fine bs → ⊥) → beginning bs ≡ Wrong
 begun-wrong [] h no-way = absurd (omega arith)
 begun-wrong (b ∷ []) h no-way = begun-one b
 begun-wrong (b ∷ c ∷ rest) h no-way = go (decLe 2 n) (decLe n (length rest))
@@ -99,7 +99,7 @@ begun-wrong (b ∷ c ∷ rest) h no-way = go (decLe 2 n) (decLe n (length rest))
     n : ℕ
     n = pairValue (b ∷ c ∷ [])
 
-    go : Dec (2 ≤ n) → Dec (n ≤ length rest) → begun (b ∷ c ∷ rest) ≡ Wrong
+    go : Dec (2 ≤ n) → Dec (n ≤ length rest) → beginning (b ∷ c ∷ rest) ≡ Wrong
     go (no l) m = begun-cut (b ∷ c ∷ rest) (next-of b c rest ∙ small-cut n rest (omega arith))
     go (yes l) (no m) = begun-cut (b ∷ c ∷ rest) (next-of b c rest ∙ long-cut n rest l (omega arith))
     go (yes l) (yes m) =
@@ -108,7 +108,7 @@ begun-wrong (b ∷ c ∷ rest) h no-way = go (decLe 2 n) (decLe n (length rest))
         begun-no (b ∷ c ∷ rest) (wholeIn n rest) (drop n rest) (next-of b c rest ∙ is-whole n rest l m)
         (request-none (wholeIn n rest) (λ e. no-way (record { kind = e ∙ omega arith; some = omega arith; here = omega arith })))
 
-pub begun-asks : (bs : List ℕ) → Fine bs → begun bs ≡ Asking (requestFrom (kindField bs) bs) (drop (2 + lengthField bs) bs)
+pub begun-asks : (bs : List ℕ) → Fine bs → beginning bs ≡ Asking (requestFrom (kindField bs) bs) (drop (2 + lengthField bs) bs)
 begun-asks [] f = absurd (omega (arith, f .here))
 begun-asks (b ∷ []) f = absurd (omega (arith, f .here, f .some))
 begun-asks (b ∷ c ∷ rest) f =
@@ -123,19 +123,19 @@ begun-asks (b ∷ c ∷ rest) f =
 -- ---- what is read
 
 module _ (bs : List ℕ) where
-  pub framed-nothing : begun bs ≡ Nothing → framed bs ≡ Waits
+  pub framed-nothing : beginning bs ≡ Nothing → framed bs ≡ Waits
   unfolding framed
   framed-nothing e = rw (framed, e)
 
-  pub framed-asking : (q : Request) (behind : List ℕ) → begun bs ≡ Asking q behind → framed bs ≡ Asks q (length bs - length behind)
+  pub framed-asking : (q : Request) (behind : List ℕ) → beginning bs ≡ Asking q behind → framed bs ≡ Asks q (length bs - length behind)
   unfolding framed
   framed-asking q behind e = rw (framed, e)
 
-  pub framed-bad : begun bs ≡ Wrong → hopeless bs ≡ true → framed bs ≡ Bad
+  pub framed-bad : beginning bs ≡ Wrong → hopeless bs ≡ true → framed bs ≡ Bad
   unfolding framed
   framed-bad e h = rw (framed, e, h)
 
-  pub framed-waits : begun bs ≡ Wrong → hopeless bs ≡ false → framed bs ≡ Waits
+  pub framed-waits : beginning bs ≡ Wrong → hopeless bs ≡ false → framed bs ≡ Waits
   unfolding framed
   framed-waits e h = rw (framed, e, h)
 
@@ -165,8 +165,8 @@ module _ (bs : List ℕ) where
   waits-few h = go bs refl
     where
       go : (l : List ℕ) → bs ≡ l → framed bs ≡ Waits
-      go [] e = framed-nothing (ap begun e ∙ begun-none)
-      go (b ∷ []) e = framed-waits (ap begun e ∙ begun-one b) (hope-few h)
+      go [] e = framed-nothing (ap beginning e ∙ begun-none)
+      go (b ∷ []) e = framed-waits (ap beginning e ∙ begun-one b) (hope-few h)
       go (b ∷ c ∷ r) e = let m = ap length e in absurd (omega arith)
 
   pub bad-length : 2 ≤ length bs → someLength (lengthField bs) ≡ false → framed bs ≡ Bad
@@ -206,7 +206,7 @@ record Asked (bs : List ℕ) (q : Request) (behind : List ℕ) : Type 0 where
   asks : frameRequest (wholeIn (pairValue (b ∷ c ∷ [])) rest) ≡ some q
   left : behind ≡ drop (pairValue (b ∷ c ∷ [])) rest
 
-asked-by : (bs : List ℕ) (q : Request) (behind : List ℕ) → begun bs ≡ Asking q behind → Asked bs q behind
+asked-by : (bs : List ℕ) (q : Request) (behind : List ℕ) → beginning bs ≡ Asking q behind → Asked bs q behind
 asked-by [] q behind e = absurd (nothing-asking (sym begun-none ∙ e))
 asked-by (b ∷ []) q behind e = absurd (wrong-asking (sym (begun-one b) ∙ e))
 asked-by (b ∷ c ∷ rest) q behind e = go (decLe 2 n) (decLe n (length rest)) (frameRequest (wholeIn n rest)) refl
@@ -226,7 +226,7 @@ asked-by (b ∷ c ∷ rest) q behind e = go (decLe 2 n) (decLe n (length rest)) 
         record { b = b; c = c; rest = rest; bytes = refl; least = l; here = m; asks = r ∙ ap some x; left = sym y }
 
 -- only no bytes begin with nothing
-pub nothing-empty : (bs : List ℕ) → begun bs ≡ Nothing → bs ≡ []
+pub nothing-empty : (bs : List ℕ) → beginning bs ≡ Nothing → bs ≡ []
 nothing-empty [] e = refl
 nothing-empty (b ∷ []) e = absurd (nothing-wrong (sym e ∙ begun-one b))
 nothing-empty (b ∷ c ∷ rest) e = go (decLe 2 n) (decLe n (length rest)) (frameRequest (wholeIn n rest)) refl
@@ -243,29 +243,29 @@ nothing-empty (b ∷ c ∷ rest) e = go (decLe 2 n) (decLe n (length rest)) (fra
         absurd (nothing-asking (sym e ∙ begun-yes (b ∷ c ∷ rest) (wholeIn n rest) (drop n rest) p (next-of b c rest ∙ is-whole n rest l m) r))
 
 -- it is one of the four kinds
-pub asking-request : (bs : List ℕ) (q : Request) (behind : List ℕ) → begun bs ≡ Asking q behind → isRequest q ≡ true
+pub asking-request : (bs : List ℕ) (q : Request) (behind : List ℕ) → beginning bs ≡ Asking q behind → isRequest q ≡ true
 asking-request bs q behind e =
     let a = asked-by bs q behind e in
     frame-asks (wholeIn (pairValue (a .b ∷ a .c ∷ [])) (a .rest)) q (a .asks)
 
 -- a request that is here stays the same, with more behind it
-pub asking-more : (bs later : List ℕ) (q : Request) (behind : List ℕ) → begun bs ≡ Asking q behind → begun (bs ++ later) ≡ Asking q (behind ++ later)
+pub asking-more : (bs later : List ℕ) (q : Request) (behind : List ℕ) → beginning bs ≡ Asking q behind → beginning (bs ++ later) ≡ Asking q (behind ++ later)
 asking-more bs later q behind e =
     let a = asked-by bs q behind e in
     let n = pairValue (a .b ∷ a .c ∷ []) in
-    ap (λ (l : List ℕ). begun (l ++ later)) (a .bytes)
+    ap (λ (l : List ℕ). beginning (l ++ later)) (a .bytes)
     ∙ begun-yes (a .b ∷ a .c ∷ (a .rest ++ later)) (wholeIn n (a .rest)) (drop n (a .rest) ++ later) q
     (next-of (a .b) (a .c) (a .rest ++ later) ∙ whole-more n (a .rest) later (a .least) (a .here)) (a .asks)
     ∙ ap (λ (l : List ℕ). Asking q (l ++ later)) (sym (a .left))
 
 -- a frame has bytes of its own, and what is behind it are the bytes less those
-pub behind-less : (bs : List ℕ) (q : Request) (behind : List ℕ) → begun bs ≡ Asking q behind → length behind < length bs
+pub behind-less : (bs : List ℕ) (q : Request) (behind : List ℕ) → beginning bs ≡ Asking q behind → length behind < length bs
 behind-less bs q behind e =
     let a = asked-by bs q behind e in
     let n = pairValue (a .b ∷ a .c ∷ []) in
     omega (arith, ap length (a .bytes), ap length (a .left), length-drop n (a .rest))
 
-pub behind-is : (bs : List ℕ) (q : Request) (behind : List ℕ) → begun bs ≡ Asking q behind → behind ≡ drop (length bs - length behind) bs
+pub behind-is : (bs : List ℕ) (q : Request) (behind : List ℕ) → beginning bs ≡ Asking q behind → behind ≡ drop (length bs - length behind) bs
 behind-is bs q behind e =
     let a = asked-by bs q behind e in
     let n = pairValue (a .b ∷ a .c ∷ []) in
@@ -276,7 +276,7 @@ behind-is bs q behind e =
     a .left ∙ sym (ap (λ (j : ℕ). drop j bs) k ∙ ap (λ (x : List ℕ). drop (suc (suc n)) x) (a .bytes))
 
 -- where the fields rule a request out, they do with more behind them
-pub wrong-more : (bs later : List ℕ) → hopeless bs ≡ true → begun (bs ++ later) ≡ Wrong
+pub wrong-more : (bs later : List ℕ) → hopeless bs ≡ true → beginning (bs ++ later) ≡ Wrong
 unfolding hopeless
 wrong-more bs later h = go (decLe 2 (length bs)) (decLe 4 (length bs)) (someLength (lengthField bs)) refl (ℕ-discrete (kindLength (kindField bs)) (lengthField bs))
   where
@@ -292,7 +292,7 @@ wrong-more bs later h = go (decLe 2 (length bs)) (decLe 4 (length bs)) (someLeng
         ap pairValue (ap (λ (r : List ℕ). take 2 r) (drop-append-le 2 bs later (omega arith)) ∙ take-append-le 2 (drop 2 bs) later (omega arith))
 
     go : Dec (2 ≤ length bs) → Dec (4 ≤ length bs) → (s : Bool) → someLength (lengthField bs) ≡ s → Dec (kindLength (kindField bs) ≡ lengthField bs)
-        → begun (bs ++ later) ≡ Wrong
+        → beginning (bs ++ later) ≡ Wrong
     go (no l) m s e k = absurd (true-false (sym h ∙ hope-few bs (omega arith)))
     go (yes l) m false e k =
         let f = same-length l in
@@ -306,7 +306,7 @@ wrong-more bs later h = go (decLe 2 (length bs)) (decLe 4 (length bs)) (someLeng
         begun-wrong (bs ++ later) (omega (arith, size)) (λ w. k (ap kindLength (sym g) ∙ w .kind ∙ f))
 
 -- no frame is longer than 40 bytes, so what waits is shorter
-pub waits-short : (bs : List ℕ) → begun bs ≡ Wrong → hopeless bs ≡ false → length bs < 40
+pub waits-short : (bs : List ℕ) → beginning bs ≡ Wrong → hopeless bs ≡ false → length bs < 40
 waits-short bs e h = go (decLe 40 (length bs)) (someLength (lengthField bs)) refl (ℕ-discrete (kindLength (kindField bs)) (lengthField bs))
   where
     go : Dec (40 ≤ length bs) → (s : Bool) → someLength (lengthField bs) ≡ s → Dec (kindLength (kindField bs) ≡ lengthField bs) → length bs < 40

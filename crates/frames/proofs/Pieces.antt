@@ -10,41 +10,42 @@ use lib.ListN.{length, drop, length-drop}
 use lib.IntN.{ℤ}
 use Rattle.rules.specs.declared.Request.{Request}
 use Rattle.rules.specs.Call.{isRequest}
-use Rattle.rules.specs.Frames.{Next, Ended, Whole, Cut, Frame, nextFrame, frameRequest, frameCall, badLine, callPrinted, printed, dustmap}
+use Rattle.rules.specs.Frames.{Next, Ended, Complete, Cut, Frame, nextFrame, frameRequest, frameCall, badLine, callPrinted, printed, dustmap}
 use Rattle.frames.specs.declared.Framed.{Framed}
 use Rattle.frames.specs.declared.Framed.the-variants.{Asks, Waits, Bad}
-use Rattle.frames.specs.Reading.{Begun, Nothing, Asking, Wrong, begun, hopeless, framed}
-use Rattle.frames.specs.Said.{firstPool, Said, replied, cutLine}
+use Rattle.frames.specs.Reading.{Beginning, Nothing, Asking, Wrong, beginning, hopeless, framed}
+use Rattle.rules.specs.Layout.{blankWords}
+use Rattle.frames.specs.Said.{Said, replyShown, cutLine}
 use Rattle.frames.proofs.Framing.{begun-none, asking-request, asking-more, wrong-more, behind-less, behind-is, nothing-empty, framed-nothing, framed-asking, framed-bad, framed-waits, waits-short}
 
 -- ---- what is printed, frame by frame
 
 -- with `before` frames done and this pool, the bytes print this text
 data Prints : ℕ → List ℤ → List ℕ → List ℕ → Type 0 where
-  ends : {before : ℕ} {pool : List ℤ} {bs : List ℕ} → begun bs ≡ Nothing → Prints before pool bs []
-  wrong : {before : ℕ} {pool : List ℤ} {bs : List ℕ} → begun bs ≡ Wrong → Prints before pool bs (badLine (suc before))
-  asks : {before : ℕ} {pool : List ℤ} {bs behind t : List ℕ} (q : Request) → begun bs ≡ Asking q behind
-      → Prints (suc before) (frameCall pool q .pool) behind t → Prints before pool bs (replied before pool q ++ t)
+  ends : {before : ℕ} {pool : List ℤ} {bs : List ℕ} → beginning bs ≡ Nothing → Prints before pool bs []
+  wrong : {before : ℕ} {pool : List ℤ} {bs : List ℕ} → beginning bs ≡ Wrong → Prints before pool bs (badLine (suc before))
+  asks : {before : ℕ} {pool : List ℤ} {bs behind t : List ℕ} (q : Request) → beginning bs ≡ Asking q behind
+      → Prints (suc before) (frameCall pool q .pool) behind t → Prints before pool bs (replyShown before pool q ++ t)
 
 -- the definition, by what the bytes begin with
-textOf : ℕ → ℕ → List ℤ → Begun → List ℕ
+textOf : ℕ → ℕ → List ℤ → Beginning → List ℕ
 textOf n place pool Nothing = []
 textOf n place pool Wrong = badLine place
 textOf n place pool (Asking q behind) = callPrinted place (frameCall pool q) (λ left. printed n (suc place) left behind)
 
-printed-text : (n place : ℕ) (pool : List ℤ) (bs : List ℕ) → printed (suc n) place pool bs ≡ textOf n place pool (begun bs)
-unfolding printed begun textOf
+printed-text : (n place : ℕ) (pool : List ℤ) (bs : List ℕ) → printed (suc n) place pool bs ≡ textOf n place pool (beginning bs)
+unfolding printed beginning textOf
 printed-text n place pool bs = go (nextFrame bs) refl
   where
-    whole : (f : Frame) (behind : List ℕ) → nextFrame bs ≡ Whole f behind → (o : Option Request) → frameRequest f ≡ o
-        → printed (suc n) place pool bs ≡ textOf n place pool (begun bs)
-    whole f behind e none r = rw (printed, begun, e, r)
-    whole f behind e (some q) r = rw (printed, begun, e, r)
+    whole : (f : Frame) (behind : List ℕ) → nextFrame bs ≡ Complete f behind → (o : Option Request) → frameRequest f ≡ o
+        → printed (suc n) place pool bs ≡ textOf n place pool (beginning bs)
+    whole f behind e none r = rw (printed, beginning, e, r)
+    whole f behind e (some q) r = rw (printed, beginning, e, r)
 
-    go : (x : Next) → nextFrame bs ≡ x → printed (suc n) place pool bs ≡ textOf n place pool (begun bs)
-    go Ended e = rw (printed, begun, e)
-    go Cut e = rw (printed, begun, e)
-    go (Whole f behind) e = whole f behind e (frameRequest f) refl
+    go : (x : Next) → nextFrame bs ≡ x → printed (suc n) place pool bs ≡ textOf n place pool (beginning bs)
+    go Ended e = rw (printed, beginning, e)
+    go Cut e = rw (printed, beginning, e)
+    go (Complete f behind) e = whole f behind e (frameRequest f) refl
 
 text-nothing : (n place : ℕ) (pool : List ℤ) → textOf n place pool Nothing ≡ []
 unfolding textOf
@@ -55,8 +56,8 @@ unfolding textOf
 text-wrong n place pool = refl
 
 text-asking : (n before : ℕ) (pool : List ℤ) (q : Request) (behind : List ℕ)
-    → textOf n (suc before) pool (Asking q behind) ≡ replied before pool q ++ printed n (suc (suc before)) (frameCall pool q .pool) behind
-unfolding textOf callPrinted replied
+    → textOf n (suc before) pool (Asking q behind) ≡ replyShown before pool q ++ printed n (suc (suc before)) (frameCall pool q .pool) behind
+unfolding textOf callPrinted replyShown
 text-asking n before pool q behind = refl
 
 printed-zero : (place : ℕ) (pool : List ℤ) (bs : List ℕ) → printed zero place pool bs ≡ []
@@ -64,11 +65,11 @@ unfolding printed
 printed-zero place pool bs = refl
 
 -- no bytes begin with nothing
-none-of : (bs : List ℕ) → length bs ≤ 0 → begun bs ≡ Nothing
+none-of : (bs : List ℕ) → length bs ≤ 0 → beginning bs ≡ Nothing
 none-of [] h = begun-none
 none-of (b ∷ bs) h = absurd (omega arith)
 
-apart : {x y : Begun} → x ≡ Nothing → x ≡ y → y ≡ Wrong → ⊥
+apart : {x y : Beginning} → x ≡ Nothing → x ≡ y → y ≡ Wrong → ⊥
 apart p q r = let z : _≡_ {A = ℕ} 0 1 = cc in omega arith
 
 printed-is : {before : ℕ} {pool : List ℤ} {bs t : List ℕ} → Prints before pool bs t → (n : ℕ) → length bs ≤ n → printed n (suc before) pool bs ≡ t
@@ -79,14 +80,14 @@ printed-is {before} {pool} {bs} (wrong e) (suc n) h = printed-text n (suc before
 printed-is {before} {pool} {bs} (asks {behind = behind} q e r) zero h = absurd (omega (arith, behind-less bs q behind e))
 printed-is {before} {pool} {bs} (asks {behind = behind} q e r) (suc n) h =
     printed-text n (suc before) pool bs ∙ ap (textOf n (suc before) pool) e ∙ text-asking n before pool q behind
-    ∙ ap (λ (l : List ℕ). replied before pool q ++ l) (printed-is r n (omega (arith, behind-less bs q behind e)))
+    ∙ ap (λ (l : List ℕ). replyShown before pool q ++ l) (printed-is r n (omega (arith, behind-less bs q behind e)))
 
 -- every input prints something
 prints : (n before : ℕ) (pool : List ℤ) (bs : List ℕ) → length bs ≤ n → Prints before pool bs (printed n (suc before) pool bs)
 prints zero before pool bs h = subst (λ (t : List ℕ). Prints before pool bs t) (sym (printed-zero (suc before) pool bs)) (ends (none-of bs h))
-prints (suc n) before pool bs h = go (begun bs) refl (prints n (suc before))
+prints (suc n) before pool bs h = go (beginning bs) refl (prints n (suc before))
   where
-    go : (x : Begun) → begun bs ≡ x → ((p : List ℤ) (l : List ℕ) → length l ≤ n → Prints (suc before) p l (printed n (suc (suc before)) p l))
+    go : (x : Beginning) → beginning bs ≡ x → ((p : List ℤ) (l : List ℕ) → length l ≤ n → Prints (suc before) p l (printed n (suc (suc before)) p l))
         → Prints before pool bs (printed (suc n) (suc before) pool bs)
     go Nothing e r =
         subst (λ (t : List ℕ). Prints before pool bs t)
@@ -104,9 +105,9 @@ printed-same : (m n before : ℕ) (pool : List ℤ) (bs : List ℕ) → length b
     → printed m (suc before) pool bs ≡ printed n (suc before) pool bs
 printed-same m n before pool bs h k = printed-is (prints n before pool bs k) m h
 
-dustmap-is : (n : ℕ) (bs : List ℕ) → length bs ≤ n → dustmap bs ≡ printed n 1 firstPool bs
-unfolding dustmap firstPool
-dustmap-is n bs h = printed-same (length bs) n 0 firstPool bs (omega arith) h
+dustmap-is : (n : ℕ) (bs : List ℕ) → length bs ≤ n → dustmap bs ≡ printed n 1 (blankWords 128) bs
+unfolding dustmap
+dustmap-is n bs h = printed-same (length bs) n 0 (blankWords 128) bs (omega arith) h
 
 pub cut-none : (before : ℕ) → cutLine before [] ≡ []
 unfolding cutLine
@@ -118,7 +119,7 @@ cut-some before b bs = refl
 
 -- ---- the program, from step to step
 
-pub said-start : Said [] [] 0 firstPool []
+pub said-start : Said [] [] 0 (blankWords 128) []
 unfolding Said
 said-start later n h = dustmap-is n later h
 
@@ -132,27 +133,27 @@ said-more arrived out before pool held piece s later n h =
 
 -- what the reader says of the bytes, as what they begin with
 data Reads (held : List ℕ) : Framed → Type 0 where
-  whole : (q : Request) (n : ℕ) → begun held ≡ Asking q (drop n held) → n ≤ length held → Reads held (Asks q n)
+  whole : (q : Request) (n : ℕ) → beginning held ≡ Asking q (drop n held) → n ≤ length held → Reads held (Asks q n)
   empty : held ≡ [] → Reads held Waits
-  partly : begun held ≡ Wrong → length held < 40 → Reads held Waits
+  partly : beginning held ≡ Wrong → length held < 40 → Reads held Waits
   never : hopeless held ≡ true → Reads held Bad
 
 reads : (held : List ℕ) → Reads held (framed held)
-reads held = go (begun held) refl
+reads held = go (beginning held) refl
   where
-    bad : (h : Bool) → hopeless held ≡ h → begun held ≡ Wrong → Reads held (framed held)
+    bad : (h : Bool) → hopeless held ≡ h → beginning held ≡ Wrong → Reads held (framed held)
     bad true h e = subst (λ (f : Framed). Reads held f) (sym (framed-bad held e h)) (never h)
     bad false h e = subst (λ (f : Framed). Reads held f) (sym (framed-waits held e h)) (partly e (waits-short held e h))
 
-    go : (x : Begun) → begun held ≡ x → Reads held (framed held)
+    go : (x : Beginning) → beginning held ≡ x → Reads held (framed held)
     go Nothing e = subst (λ (f : Framed). Reads held f) (sym (framed-nothing held e)) (empty (nothing-empty held e))
     go Wrong e = bad (hopeless held) refl e
     go (Asking q behind) e =
         let n = length held - length behind in
-        let w : begun held ≡ Asking q (drop n held) = e ∙ ap (λ (l : List ℕ). Asking q l) (behind-is held q behind e) in
+        let w : beginning held ≡ Asking q (drop n held) = e ∙ ap (λ (l : List ℕ). Asking q l) (behind-is held q behind e) in
         subst (λ (f : Framed). Reads held f) (sym (framed-asking held q behind e)) (whole q n w (omega arith))
 
-asks-begun : {held : List ℕ} {q : Request} {n : ℕ} → Reads held (Asks q n) → begun held ≡ Asking q (drop n held)
+asks-begun : {held : List ℕ} {q : Request} {n : ℕ} → Reads held (Asks q n) → beginning held ≡ Asking q (drop n held)
 asks-begun (whole q n e l) = e
 
 bad-hopeless : {held : List ℕ} → Reads held Bad → hopeless held ≡ true
@@ -191,12 +192,12 @@ module _ (arrived out : List ℕ) (before : ℕ) (pool : List ℤ) (held : List 
 
   -- a frame is asked, and its lines are printed
   pub said-asks : (q : Request) (n : ℕ) → framed held ≡ Asks q n
-      → Said arrived (out ++ replied before pool q) (suc before) (frameCall pool q .pool) (drop n held)
+      → Said arrived (out ++ replyShown before pool q) (suc before) (frameCall pool q .pool) (drop n held)
   unfolding Said
   said-asks q n e later m h =
       let b = asks-begun (subst (λ (f : Framed). Reads held f) e (reads held)) in
       let t = printed m (suc (suc before)) (frameCall pool q .pool) (drop n held ++ later) in
-      rw (append-assoc out (replied before pool q) t) (by-prints later (replied before pool q ++ t)
+      rw (append-assoc out (replyShown before pool q) t) (by-prints later (replyShown before pool q ++ t)
       (asks q (asking-more held later q (drop n held) b) (prints m (suc before) (frameCall pool q .pool) (drop n held ++ later) h)))
 
   -- a bad frame is the last, whatever comes
@@ -212,10 +213,10 @@ module _ (arrived out : List ℕ) (before : ℕ) (pool : List ℤ) (held : List 
       at-end t p =
           ap dustmap (sym (append-nil arrived)) ∙ by-prints [] t (subst (λ (l : List ℕ). Prints before pool l t) (sym (append-nil held)) p)
 
-      some-left : (l : List ℕ) → begun l ≡ Wrong → cutLine before l ≡ badLine (suc before)
+      some-left : (l : List ℕ) → beginning l ≡ Wrong → cutLine before l ≡ badLine (suc before)
       some-left [] w = absurd (apart begun-none w refl)
       some-left (b ∷ bs) w = cut-some before b bs
 
       go : Reads held Waits → dustmap arrived ≡ out ++ cutLine before held
-      go (empty q) = at-end [] (ends (ap begun q ∙ begun-none)) ∙ ap (λ (l : List ℕ). out ++ l) (sym (ap (cutLine before) q ∙ cut-none before))
+      go (empty q) = at-end [] (ends (ap beginning q ∙ begun-none)) ∙ ap (λ (l : List ℕ). out ++ l) (sym (ap (cutLine before) q ∙ cut-none before))
       go (partly w l) = at-end (badLine (suc before)) (wrong w) ∙ ap (λ (l : List ℕ). out ++ l) (sym (some-left held w))

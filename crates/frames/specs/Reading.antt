@@ -7,22 +7,22 @@ use Prim.Native.Nat.{ℕ, _-_}
 use lib.ListN.{length, take, drop}
 use lib.Dec.{leb, eqb}
 use Rattle.rules.specs.declared.Request.{Request}
-use Rattle.rules.specs.Frames.{Ended, Whole, Cut, pairValue, nextFrame, frameRequest}
+use Rattle.rules.specs.Frames.{Ended, Complete, Cut, pairValue, nextFrame, frameRequest}
 use Rattle.frames.specs.declared.Framed.{Framed}
 use Rattle.frames.specs.declared.Framed.the-variants.{Asks, Waits, Bad}
 
 -- what bytes begin with, when no more are to come: nothing, a request with the bytes behind its frame, or a bad frame
-pub data Begun : Type 0 where
-  Nothing : Begun
-  Asking : Request → List ℕ → Begun
-  Wrong : Begun
+pub data Beginning : Type 0 where
+  Nothing : Beginning
+  Asking : Request → List ℕ → Beginning
+  Wrong : Beginning
 
-unfoldable pub begun : List ℕ → Begun
-begun bs =
+unfoldable pub beginning : List ℕ → Beginning
+beginning bs =
     elim (nextFrame bs) [
       | Ended ↦ Nothing
       | Cut ↦ Wrong
-      | Whole f behind ↦ elim (frameRequest f) [ none ↦ Wrong | some q ↦ Asking q behind ]
+      | Complete f behind ↦ elim (frameRequest f) [ none ↦ Wrong | some q ↦ Asking q behind ]
     ]
 
 -- "Kind 1 insert and 2 delete: number, rectangle (length 22). 3 update: number, old, new (38). 4 search: window (18)."; 0 for a kind that
@@ -49,7 +49,7 @@ hopeless bs =
 -- a whole frame is asked at once, with its size in bytes
 unfoldable pub framed : List ℕ → Framed
 framed bs =
-    elim (begun bs) [
+    elim (beginning bs) [
       | Nothing ↦ Waits
       | Asking q behind ↦ Asks q (length bs - length behind)
       | Wrong ↦ cond (hopeless bs) Bad Waits

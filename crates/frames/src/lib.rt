@@ -6,7 +6,7 @@ ghost use lib.ListN.{length, take, drop, getD};
 ghost use Rattle.rules.specs.Geometry.{noRect};
 ghost use Rattle.rules.specs.Frames as F;
 ghost use Rattle.frames.specs.Reading.{kindLength, someLength, framed};
-ghost use Rattle.frames.specs.Places.{wordFrom, rectFrom, changeFrom, updateFrom, searchFrom, requestFrom, lift};
+ghost use Rattle.frames.specs.Places.{wordBytes, rectBytes, changeFrom, updateFrom, searchFrom, requestFrom, lift};
 ghost use Rattle.frames.specs.Writing.{Wrote};
 use rules::Answer;
 use rules::Record;
@@ -60,7 +60,7 @@ fn signed(n: u64) -> i32
 // A "signed 32-bit" word.
 pub fn word_at(bytes: &[u8], at: usize) -> i32
     requires { ⌜ at + 4 ≤ length (now bytes) ⌝ }
-    ensures { λ r. ⌜ r ≡ wordFrom (now (bytes .entry)) at ⌝ }
+    ensures { λ r. ⌜ r ≡ wordBytes (now (bytes .entry)) at ⌝ }
 {
     signed(unsigned_at(bytes, at))
 }
@@ -68,7 +68,7 @@ pub fn word_at(bytes: &[u8], at: usize) -> i32
 // Low x, low y, high x, high y.
 pub fn rect_at(bytes: &[u8], at: usize) -> Rect
     requires { ⌜ at + 16 ≤ length (now bytes) ⌝ }
-    ensures { λ r. ⌜ r ≡ rectFrom (now (bytes .entry)) at ⌝ }
+    ensures { λ r. ⌜ r ≡ rectBytes (now (bytes .entry)) at ⌝ }
 {
     let lowX = word_at(bytes, at);
     let lowY = word_at(bytes, at + 4);

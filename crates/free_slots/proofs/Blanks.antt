@@ -9,7 +9,7 @@ use lib.Seq.{sets}
 use lib.IntN.{ℤ, pos}
 use Rattle.rules.specs.Lists.{joined}
 use Rattle.rules.specs.Pool.{freeNode, blankPool}
-use Rattle.rules.specs.Layout.{rightLength, slotCount, padded, nodeWords, headWords, words, Blanked, blank}
+use Rattle.rules.specs.Layout.{validLength, slotCount, padded, nodeWords, headWords, words, Blanked, blank}
 use Rattle.pool.proofs.Parts.{right-size, some-slot}
 use Rattle.pool.proofs.Runs.{sets-all, sets-more}
 
@@ -47,14 +47,14 @@ blank-words k =
 abbrev blanked : ℕ → List ℤ → Blanked
 blanked n w = record { number = n; pool = w }
 
-pub blank-right : (w : List ℤ) → rightLength w ≡ true → blank w ≡ record { number = 0; pool = marked (length w) }
+pub blank-right : (w : List ℤ) → validLength w ≡ true → blank w ≡ record { number = 0; pool = marked (length w) }
 unfolding blank
 blank-right w r =
     let n = slotCount w in
     let e : 8 + 42 * suc (n - 1) ≡ length w = omega (arith, right-size w r, some-slot w r) in
     rw (blank, r) (ap (λ (l : List ℤ). blanked 0 l) (sym (blank-words (n - 1)) ∙ ap marked e))
 
-pub blank-wrong : (w : List ℤ) → rightLength w ≡ false → blank w ≡ record { number = 1; pool = w }
+pub blank-wrong : (w : List ℤ) → validLength w ≡ false → blank w ≡ record { number = 1; pool = w }
 unfolding blank
 blank-wrong w r = rw (blank, r)
 

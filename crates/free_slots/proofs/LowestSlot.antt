@@ -17,7 +17,7 @@ use Rattle.rules.specs.declared.FreeSlot.{FreeSlot}
 use Rattle.rules.specs.declared.FreeSlot.the-variants.{At, Nowhere}
 use Rattle.rules.specs.Lists.{those}
 use Rattle.rules.specs.Pool.{Node, Pool, slot, freeNode, nodeAt, lowestFree, freeCount, putNode}
-use Rattle.rules.specs.Layout.{rightLength, read}
+use Rattle.rules.specs.Layout.{validLength, read}
 use Rattle.rules_laws.proofs.Places.{at-place}
 use Rattle.rules_laws.proofs.Parts.{counted}
 use Rattle.pool.specs.Slots.{InPool}
@@ -54,9 +54,9 @@ pub record LowestAt (p : Pool) (s : SlotNumber) : Type 0 where
   pub free : nodeAt p s .level ≡ 0
   pub below : UsedBelow p (s .0)
 
-abbrev pub Told : Pool → FreeSlot → Type 0
-Told p (At s) = LowestAt p s
-Told p Nowhere = UsedBelow p (suc (length (p .slots)))
+abbrev pub LowestIs : Pool → FreeSlot → Type 0
+LowestIs p (At s) = LowestAt p s
+LowestIs p Nowhere = UsedBelow p (suc (length (p .slots)))
 
 pub used-next : {p : Pool} {s : ℕ} → UsedBelow p s → nodeAt p (slot s) .level ≢ 0 → UsedBelow p (s + 1)
 used-next {p} {s} u n = record { used = λ t a b. go t a (omega arith) (ℕ-discrete t s) }
@@ -66,32 +66,32 @@ used-next {p} {s} u n = record { used = λ t a b. go t a (omega arith) (ℕ-disc
     go t a b (no h) = u .used t a (omega arith)
 
 module _ (p : Pool) where
-  none-from : (s : ℕ) → length (p .slots) < s → UsedBelow p s → Told p (lowestFrom p s)
-  none-from s h u = subst⁻¹ (Told p) (lowest-end p s h) (record { used = λ t a b. u .used t a (omega arith) })
+  none-from : (s : ℕ) → length (p .slots) < s → UsedBelow p s → LowestIs p (lowestFrom p s)
+  none-from s h u = subst⁻¹ (LowestIs p) (lowest-end p s h) (record { used = λ t a b. u .used t a (omega arith) })
 
-  told-from : (k s : ℕ) → 1 ≤ s → length (p .slots) < s + k → UsedBelow p s → Told p (lowestFrom p s)
+  told-from : (k s : ℕ) → 1 ≤ s → length (p .slots) < s + k → UsedBelow p s → LowestIs p (lowestFrom p s)
   told-from zero s a b u = none-from s (omega arith) u
   told-from (suc k) s a b u = go (decLe s (length (p .slots))) (told-from k (s + 1) (omega arith) (omega arith))
     where
-      here : (t : Bool) → isFree (nodeAt p (slot s)) ≡ t → s ≤ length (p .slots) → (UsedBelow p (s + 1) → Told p (lowestFrom p (s + 1))) → Told p (lowestFrom p s)
-      here true e h f = subst⁻¹ (Told p) (lowest-here p s a h e) (record { low = a; high = h; free = eqb-true (nodeAt p (slot s) .level) 0 e; below = u })
-      here false e h f = subst⁻¹ (Told p) (lowest-next p s a h e) (f (used-next u (eqb-false (nodeAt p (slot s) .level) 0 e)))
+      here : (t : Bool) → isFree (nodeAt p (slot s)) ≡ t → s ≤ length (p .slots) → (UsedBelow p (s + 1) → LowestIs p (lowestFrom p (s + 1))) → LowestIs p (lowestFrom p s)
+      here true e h f = subst⁻¹ (LowestIs p) (lowest-here p s a h e) (record { low = a; high = h; free = eqb-true (nodeAt p (slot s) .level) 0 e; below = u })
+      here false e h f = subst⁻¹ (LowestIs p) (lowest-next p s a h e) (f (used-next u (eqb-false (nodeAt p (slot s) .level) 0 e)))
 
-      go : Dec (s ≤ length (p .slots)) → (UsedBelow p (s + 1) → Told p (lowestFrom p (s + 1))) → Told p (lowestFrom p s)
+      go : Dec (s ≤ length (p .slots)) → (UsedBelow p (s + 1) → LowestIs p (lowestFrom p (s + 1))) → LowestIs p (lowestFrom p s)
       go (yes h) f = here (isFree (nodeAt p (slot s))) refl h f
       go (no h) f = none-from s (omega arith) u
 
-  pub lowest-told : Told p (lowestFree p)
-  lowest-told = subst (Told p) (lowest-all p) (told-from (length (p .slots)) 1 (omega arith) (omega arith) (record { used = λ t a b. absurd (omega arith) }))
+  pub lowest-told : LowestIs p (lowestFree p)
+  lowest-told = subst (LowestIs p) (lowest-all p) (told-from (length (p .slots)) 1 (omega arith) (omega arith) (record { used = λ t a b. absurd (omega arith) }))
 
   pub lowest-at : (s : SlotNumber) → lowestFree p ≡ At s → LowestAt p s
-  lowest-at s e = subst (Told p) e lowest-told
+  lowest-at s e = subst (LowestIs p) e lowest-told
 
   pub lowest-nowhere : lowestFree p ≡ Nowhere → UsedBelow p (suc (length (p .slots)))
-  lowest-nowhere e = subst (Told p) e lowest-told
+  lowest-nowhere e = subst (LowestIs p) e lowest-told
 
 -- the slot found is a slot of the words
-pub lowest-in : (w : List ℤ) (s : SlotNumber) → rightLength w ≡ true → lowestFree (read w) ≡ At s → InPool w s
+pub lowest-in : (w : List ℤ) (s : SlotNumber) → validLength w ≡ true → lowestFree (read w) ≡ At s → InPool w s
 lowest-in w s r e = let l = lowest-at (read w) s e in record { right = r; low = l .low; high = omega (arith, l .high, read-slots w) }
 
 -- ---- how many are free

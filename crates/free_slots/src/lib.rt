@@ -37,7 +37,7 @@ pub fn cover_of(pool: &[i32], s: SlotNumber) -> Rect
 
 // "the lowest free slot", of the slots from a given one on: the lowest of all where every slot below is in use.
 pub fn lowest_free_from(pool: &[i32], from: SlotNumber) -> FreeSlot
-    requires { ⌜ L.rightLength (now pool) ≡ true ⌝ }
+    requires { ⌜ L.validLength (now pool) ≡ true ⌝ }
     requires { ⌜ 1 ≤ from .0 ⌝ }
     ensures { λ r. ⌜ r ≡ P.freeFrom (from .0) (drop (from .0 - 1) (L.read (now (pool .entry)) .slots)) ⌝ }
 {
@@ -54,7 +54,7 @@ pub fn lowest_free_from(pool: &[i32], from: SlotNumber) -> FreeSlot
 
 // "the lowest free slot", of all.
 pub fn lowest_free(pool: &[i32]) -> FreeSlot
-    requires { ⌜ L.rightLength (now pool) ≡ true ⌝ }
+    requires { ⌜ L.validLength (now pool) ≡ true ⌝ }
     ensures { λ r. ⌜ r ≡ P.lowestFree (L.read (now (pool .entry))) ⌝ }
 {
     lowest_free_from(pool, SlotNumber(1))
@@ -70,7 +70,7 @@ fn one_if_free(pool: &[i32], s: SlotNumber) -> usize
 
 // How many slots are free; none, at "a moment when none is free".
 pub fn free_count(pool: &[i32]) -> usize
-    requires { ⌜ L.rightLength (now pool) ≡ true ⌝ }
+    requires { ⌜ L.validLength (now pool) ≡ true ⌝ }
     ensures { λ r. ⌜ r ≡ P.freeCount (L.read (now (pool .entry))) ⌝ }
 {
     let n = pool::slot_count(pool);
@@ -85,7 +85,7 @@ pub fn free_count(pool: &[i32]) -> usize
 
 // What is known of the free slots before a batch's first request: all are counted, and no slot is below slot 1.
 pub fn free_slots(pool: &[i32]) -> FreeSlots
-    requires { ⌜ L.rightLength (now pool) ≡ true ⌝ }
+    requires { ⌜ L.validLength (now pool) ≡ true ⌝ }
     ensures { λ r. ⌜ Known (L.read (now (pool .entry))) r ⌝ }
 {
     let n = free_count(pool);
@@ -97,7 +97,7 @@ pub fn free_slots(pool: &[i32]) -> FreeSlots
 
 // "the lowest free slot", looked for from the slot on below which none is known to be free.
 pub fn lowest(pool: &[i32], free: FreeSlots) -> FreeSlot
-    requires { ⌜ L.rightLength (now pool) ≡ true ⌝ }
+    requires { ⌜ L.validLength (now pool) ≡ true ⌝ }
     requires { ⌜ Known (L.read (now pool)) free ⌝ }
     ensures { λ r. ⌜ r ≡ P.lowestFree (L.read (now (pool .entry))) ⌝ }
 {
@@ -131,8 +131,8 @@ pub fn more_slot(free: FreeSlots, s: SlotNumber) -> FreeSlots
 }
 
 // "A pool is 8 + 42N signed 32-bit words", N from 1 to 4,096.
-pub fn right_length(pool: &[i32]) -> bool
-    ensures { λ r. ⌜ r ≡ L.rightLength (now (pool .entry)) ⌝ }
+pub fn valid_length(pool: &[i32]) -> bool
+    ensures { λ r. ⌜ r ≡ L.validLength (now (pool .entry)) ⌝ }
 {
     let n = pool::slot_count(pool);
     if n < 1 {
@@ -161,7 +161,7 @@ pub fn blank(pool: &mut [i32]) -> i32
     ensures number { λ r. ⌜ r ≡ pos (L.blank (now (pool .entry)) .number) ⌝ }
     ensures words { λ _. ⌜ now (pool .exit) ≡ L.blank (now (pool .entry)) .pool ⌝ }
 {
-    if right_length(pool) {
+    if valid_length(pool) {
         zero_all(pool);
         pool[0] = 1;
         pool[1] = 1;

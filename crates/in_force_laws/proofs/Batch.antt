@@ -24,8 +24,8 @@ use Rattle.rules.specs.Call.{Batch, afterTurn, doRequest, doRequests}
 use Rattle.search_laws.specs.Window.{recordMeets}
 use Rattle.search_laws.proofs.Order.{alike-length, ordered-alike}
 use Rattle.in_force_laws.specs.Force.{inForce, forceBy, forceAfter}
-use Rattle.in_force_laws.specs.Shows.{EachOnce, Holds, nodesMeeting, Shows}
-use Rattle.in_force_laws.specs.Batch.{meeting, Told}
+use Rattle.in_force_laws.specs.Shows.{EachOnce, HoldsRecords, nodesMeeting, SearchShows}
+use Rattle.in_force_laws.specs.Batch.{howManyMeet, Told}
 use Rattle.in_force_laws.proofs.Change.{request-force}
 use Rattle.in_force_laws.proofs.Search.{request-search}
 
@@ -128,50 +128,50 @@ module _ (c : Choice) where
       ∙ force-same (forceBy rs (asked q) (getD y i noAnswer)) (suc i) qs x y (λ j l. h j (omega (arith, l)))
 
   module _ (lawful : Lawful c) where
-    step-force : (i : ℕ) (b : Batch) (rs : List Record) (o : Option Asked) → Holds (b .pool) rs → i < length (b .answers)
-        → Holds (doRequest c i b o .pool) (forceBy rs o (getD (doRequest c i b o .answers) i noAnswer))
+    step-force : (i : ℕ) (b : Batch) (rs : List Record) (o : Option Asked) → HoldsRecords (b .pool) rs → i < length (b .answers)
+        → HoldsRecords (doRequest c i b o .pool) (forceBy rs o (getD (doRequest c i b o .answers) i noAnswer))
     unfolding doRequest afterTurn forceBy
     step-force i b rs none k h = k
     step-force i b rs (some a) k h =
         let t = request c (b .pool) (b .filled) (length (b .found) - b .filled) a in
-        subst (λ (x : Answer). Holds (t .pool) (inForce rs a x)) (sym (getD-set-same (b .answers) i (answerOf (t .reply)) noAnswer h))
+        subst (λ (x : Answer). HoldsRecords (t .pool) (inForce rs a x)) (sym (getD-set-same (b .answers) i (answerOf (t .reply)) noAnswer h))
         (request-force c lawful (b .pool) rs k (b .filled) (length (b .found) - b .filled) a)
 
     -- a batch leaves a whole pool that holds the records in force by its requests and answers
-    pub batch-force : (i : ℕ) (qs : List Request) (b : Batch) (rs : List Record) → Holds (b .pool) rs → i + length qs ≤ length (b .answers)
-        → Holds (doRequests c i qs b .pool) (forceAfter rs i qs (doRequests c i qs b .answers))
+    pub batch-force : (i : ℕ) (qs : List Request) (b : Batch) (rs : List Record) → HoldsRecords (b .pool) rs → i + length qs ≤ length (b .answers)
+        → HoldsRecords (doRequests c i qs b .pool) (forceAfter rs i qs (doRequests c i qs b .answers))
     unfolding doRequests forceAfter
     batch-force i [] b rs k h = k
     batch-force i (q ∷ qs) b rs k h =
         let b1 = doRequest c i b (asked q) in
         let end = doRequests c (suc i) qs b1 in
-        subst (λ (x : Answer). Holds (end .pool) (forceAfter (forceBy rs (asked q) x) (suc i) qs (end .answers)))
+        subst (λ (x : Answer). HoldsRecords (end .pool) (forceAfter (forceBy rs (asked q) x) (suc i) qs (end .answers)))
         (sym (kept (suc i) qs b1 i (omega arith)))
         (batch-force (suc i) qs b1 (forceBy rs (asked q) (getD (b1 .answers) i noAnswer)) (step-force i b rs (asked q) k (omega (arith, h)))
         (omega (arith, h, step-long i b (asked q))))
 
   -- ---- a search
 
-  module _ (i : ℕ) (b : Batch) (rs : List Record) (k : Holds (b .pool) rs) (h : i < length (b .answers)) (window : Rect) (v : valid window ≡ true)
-      (room : meeting window rs ≤ length (b .found) - b .filled) where
+  module _ (i : ℕ) (b : Batch) (rs : List Record) (k : HoldsRecords (b .pool) rs) (h : i < length (b .answers)) (window : Rect) (v : valid window ≡ true)
+      (room : howManyMeet window rs ≤ length (b .found) - b .filled) where
     abbrev now : Batch
     now = doRequest c i b (some (Search window))
 
-    shows : Shows (b .pool) rs (b .filled) window (request c (b .pool) (b .filled) (length (b .found) - b .filled) (Search window))
+    shows : SearchShows (b .pool) rs (b .filled) window (request c (b .pool) (b .filled) (length (b .found) - b .filled) (Search window))
     shows = request-search (b .pool) rs k window (length (b .found) - b .filled) c (b .filled) v room
 
-    many : length (request c (b .pool) (b .filled) (length (b .found) - b .filled) (Search window) .listed) ≡ meeting window rs
+    many : length (request c (b .pool) (b .filled) (length (b .found) - b .filled) (Search window) .listed) ≡ howManyMeet window rs
     many = ap length (shows .lists) ∙ alike-length (ordered-alike (those (recordMeets window) rs))
 
-    told-now : getD (now .answers) i noAnswer ≡ answer 0 (meeting window rs) (b .filled) (suc (nodesMeeting (b .pool) window))
+    told-now : getD (now .answers) i noAnswer ≡ answer 0 (howManyMeet window rs) (b .filled) (suc (nodesMeeting (b .pool) window))
     unfolding doRequest afterTurn answerOf
     told-now = getD-set-same (b .answers) i _ noAnswer h ∙ ap answerOf (shows .reply)
 
-    filled-now : now .filled ≡ b .filled + meeting window rs
+    filled-now : now .filled ≡ b .filled + howManyMeet window rs
     unfolding doRequest afterTurn
     filled-now = ap (λ (n : ℕ). b .filled + n) many
 
-    listed-now : slice (b .filled) (b .filled + meeting window rs) (now .found)
+    listed-now : slice (b .filled) (b .filled + howManyMeet window rs) (now .found)
         ≡ request c (b .pool) (b .filled) (length (b .found) - b .filled) (Search window) .listed
     unfolding doRequest afterTurn
     listed-now =
@@ -184,9 +184,9 @@ module _ (c : Choice) where
         → Told (b .pool) rs (b .filled) window i (doRequests c (suc i) later now .answers) (doRequests c (suc i) later now .found)
     told-end later =
         let end = doRequests c (suc i) later now in
-        let there : slice (b .filled) (b .filled + meeting window rs) (end .found)
+        let there : slice (b .filled) (b .filled + howManyMeet window rs) (end .found)
         ≡ request c (b .pool) (b .filled) (length (b .found) - b .filled) (Search window) .listed =
-        ap (drop (b .filled)) (found-kept (suc i) later now (b .filled + meeting window rs) (omega (arith, filled-now))) ∙ listed-now in
+        ap (drop (b .filled)) (found-kept (suc i) later now (b .filled + howManyMeet window rs) (omega (arith, filled-now))) ∙ listed-now in
         record {
           told = kept (suc i) later now i (omega arith) ∙ told-now;
           shown = there ∙ shows .lists;
@@ -196,7 +196,7 @@ module _ (c : Choice) where
 
   -- a search anywhere in a batch: by what the batch leaves in the lists, and the records in force by the requests before it and their answers
   module _ (lawful : Lawful c) (i : ℕ) (earlier : List Request) (q : Request) (later : List Request) (b : Batch) (rs : List Record)
-      (k : Holds (b .pool) rs) (h : i + length (earlier ++ q ∷ later) ≤ length (b .answers)) where
+      (k : HoldsRecords (b .pool) rs) (h : i + length (earlier ++ q ∷ later) ≤ length (b .answers)) where
     abbrev before : Batch
     before = doRequests c i earlier b
 
@@ -219,11 +219,11 @@ module _ (c : Choice) where
         ∙ kept (i + length earlier) (q ∷ later) before j l))
 
     pub batch-search : (window : Rect) → asked q ≡ some (Search window) → valid window ≡ true
-        → meeting window (forceAfter rs i earlier (end .answers)) ≤ length (b .found) - before .filled
+        → howManyMeet window (forceAfter rs i earlier (end .answers)) ≤ length (b .found) - before .filled
         → Told (before .pool) (forceAfter rs i earlier (end .answers)) (before .filled) window (i + length earlier) (end .answers) (end .found)
     batch-search window s v room =
-        let holds : Holds (before .pool) (forceAfter rs i earlier (end .answers)) =
-        subst (Holds (before .pool)) same-force (batch-force lawful i earlier b rs k (omega (arith, inside))) in
+        let holds : HoldsRecords (before .pool) (forceAfter rs i earlier (end .answers)) =
+        subst (HoldsRecords (before .pool)) same-force (batch-force lawful i earlier b rs k (omega (arith, inside))) in
         subst (λ (x : Batch).
         Told (before .pool) (forceAfter rs i earlier (end .answers)) (before .filled) window (i + length earlier) (x .answers) (x .found))
         (sym (end-is (some (Search window)) s))

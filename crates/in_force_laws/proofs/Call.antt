@@ -31,9 +31,9 @@ use Rattle.rules_laws.proofs.Parts.{those-none}
 use Rattle.rules_laws.proofs.Splits.{ours-lawful}
 use Rattle.sound_laws.proofs.Blank.{blank-whole}
 use Rattle.in_force_laws.specs.Force.{forceAfter, filledAfter}
-use Rattle.in_force_laws.specs.Shows.{Holds}
-use Rattle.in_force_laws.specs.Batch.{meeting, Told}
-use Rattle.in_force_laws.specs.History.{poolAfter, forceOf, History}
+use Rattle.in_force_laws.specs.Shows.{HoldsRecords}
+use Rattle.in_force_laws.specs.Batch.{howManyMeet, Told}
+use Rattle.in_force_laws.specs.History.{poolServed, forceOf, CallsServed}
 use Rattle.in_force_laws.proofs.Written.{reads}
 use Rattle.in_force_laws.proofs.Faults.{EachGiven, given-none, given-row, no-row}
 use Rattle.in_force_laws.proofs.Batch.{batch-force, batch-search}
@@ -101,8 +101,8 @@ module _ (c : Choice) (l : Lent) where
   unfolding served
   left-found h = ap (λ (x : Left). x .found) (left-served h)
 
-  module _ (lawful : Lawful c) (rs : List Record) (k : Holds (read (l .pool)) rs) (z : callBy c l .number ≡ pos 0) where
-    start-holds : Holds (starting l .pool) rs
+  module _ (lawful : Lawful c) (rs : List Record) (k : HoldsRecords (read (l .pool)) rs) (z : callBy c l .number ≡ pos 0) where
+    start-holds : HoldsRecords (starting l .pool) rs
     unfolding starting
     start-holds = k
 
@@ -111,7 +111,7 @@ module _ (c : Choice) (l : Lent) where
     start-long = omega (arith, answers-long (no-fault z))
 
     -- the pool that a call leaves holds the records in force by its requests and answers
-    pub call-force : Holds (whole-batch .pool) (forceAfter rs 0 (l .requests) (callBy c l .answers))
+    pub call-force : HoldsRecords (whole-batch .pool) (forceAfter rs 0 (l .requests) (callBy c l .answers))
     call-force =
         rw (left-answers (no-fault z)) (batch-force c lawful 0 (l .requests) (starting l) rs start-holds start-long)
 
@@ -139,7 +139,7 @@ module _ (c : Choice) (l : Lent) where
       unfolding starting
       start-places = refl
 
-      pub call-search : meeting window then-force ≤ length (l .found) - so-far .filled
+      pub call-search : howManyMeet window then-force ≤ length (l .found) - so-far .filled
           → Told (so-far .pool) then-force (so-far .filled) window (0 + length earlier) (callBy c l .answers) (callBy c l .found)
       call-search =
           rw (parts, found-parts, ← start-places)
@@ -154,13 +154,13 @@ module _ (c : Choice) (l : Lent) where
       unfolding starting
       filled-then = rw parts (part-filled c 0 earlier (q ∷ later) (starting l) inside)
 
-      pub call-shows : meeting window then-force ≤ length (l .found) - filledAfter 0 0 earlier (callBy c l .answers)
+      pub call-shows : howManyMeet window then-force ≤ length (l .found) - filledAfter 0 0 earlier (callBy c l .answers)
           → Told (so-far .pool) then-force (filledAfter 0 0 earlier (callBy c l .answers)) window (length earlier) (callBy c l .answers)
           (callBy c l .found)
       call-shows =
-          subst (λ (n : ℕ). meeting window then-force ≤ length (l .found) - n
+          subst (λ (n : ℕ). howManyMeet window then-force ≤ length (l .found) - n
           → Told (so-far .pool) then-force n window (length earlier) (callBy c l .answers) (callBy c l .found)) filled-then
-          (subst (λ (i : ℕ). meeting window then-force ≤ length (l .found) - so-far .filled
+          (subst (λ (i : ℕ). howManyMeet window then-force ≤ length (l .found) - so-far .filled
           → Told (so-far .pool) then-force (so-far .filled) window i (callBy c l .answers) (callBy c l .found)) none-before call-search)
         where
           none-before : 0 + length earlier ≡ length earlier
@@ -168,7 +168,7 @@ module _ (c : Choice) (l : Lent) where
 
 -- ---- a history
 
-pub blank-holds : (n : ℕ) → Holds (blankPool n) []
+pub blank-holds : (n : ℕ) → HoldsRecords (blankPool n) []
 blank-holds n = record {
   whole = blank-whole n;
   alike = record { each = λ f. rw (nothing (stored (blankPool n)) (sym (blank-whole n .counted) ∙ none-yet)) };
@@ -180,35 +180,35 @@ blank-holds n = record {
 
 module _ (c : Choice) (lawful : Lawful c) where
   -- the pool that a history leaves holds the records in force
-  pub history-holds : (n : ℕ) (ls : List Lent) → History c n ls → Holds (read (poolAfter c n ls)) (forceOf c ls)
-  unfolding poolAfter forceOf
-  history-holds n [] h = subst (λ (p : Pool). Holds p []) (sym (reads (blankPool n) (blank-whole n))) (blank-holds n)
+  pub history-holds : (n : ℕ) (ls : List Lent) → CallsServed c n ls → HoldsRecords (read (poolServed c n ls)) (forceOf c ls)
+  unfolding poolServed forceOf
+  history-holds n [] h = subst (λ (p : Pool). HoldsRecords p []) (sym (reads (blankPool n) (blank-whole n))) (blank-holds n)
   history-holds n (l ∷ ls) h =
-      let k : Holds (read (l .pool)) (forceOf c ls) =
-      subst (λ (w : List ℤ). Holds (read w) (forceOf c ls)) (sym (h .0)) (history-holds n ls (h .2)) in
+      let k : HoldsRecords (read (l .pool)) (forceOf c ls) =
+      subst (λ (w : List ℤ). HoldsRecords (read w) (forceOf c ls)) (sym (h .0)) (history-holds n ls (h .2)) in
       let now = call-force c l lawful (forceOf c ls) k (h .1) in
-      subst (λ (p : Pool). Holds p (forceAfter (forceOf c ls) 0 (l .requests) (callBy c l .answers)))
+      subst (λ (p : Pool). HoldsRecords p (forceAfter (forceOf c ls) 0 (l .requests) (callBy c l .answers)))
       (sym (ap read (call-pool c l lawful (forceOf c ls) k (h .1)) ∙ reads (whole-batch c l .pool) (now .whole))) now
 
   -- "From a blank pool changed only by these requests, every search in a call that returns 0 (valid window, room in its list) shows the
   -- records in force that meet the window, each once, in record order; the nodes opened are one for the root and one for each other node
   -- whose cover meets the window; with n records and height h, h is 1 or 2·3^(h-1) ≤ n."
-  pub in-force : (n : ℕ) (ls : List Lent) (l : Lent) → History c n (l ∷ ls)
+  pub in-force : (n : ℕ) (ls : List Lent) (l : Lent) → CallsServed c n (l ∷ ls)
       → (earlier : List Request) (q : Request) (later : List Request) → l .requests ≡ earlier ++ q ∷ later
       → (window : Rect) → asked q ≡ some (Search window) → valid window ≡ true
-      → meeting window (forceAfter (forceOf c ls) 0 earlier (callBy c l .answers)) ≤ length (l .found) - filledAfter 0 0 earlier (callBy c l .answers)
+      → howManyMeet window (forceAfter (forceOf c ls) 0 earlier (callBy c l .answers)) ≤ length (l .found) - filledAfter 0 0 earlier (callBy c l .answers)
       → Told (doRequests c 0 earlier (starting l) .pool) (forceAfter (forceOf c ls) 0 earlier (callBy c l .answers))
       (filledAfter 0 0 earlier (callBy c l .answers)) window (length earlier) (callBy c l .answers) (callBy c l .found)
   in-force n ls l h earlier q later is window s v room =
-      let k : Holds (read (l .pool)) (forceOf c ls) =
-      subst (λ (w : List ℤ). Holds (read w) (forceOf c ls)) (sym (h .0)) (history-holds n ls (h .2)) in
+      let k : HoldsRecords (read (l .pool)) (forceOf c ls) =
+      subst (λ (w : List ℤ). HoldsRecords (read w) (forceOf c ls)) (sym (h .0)) (history-holds n ls (h .2)) in
       call-shows c l lawful (forceOf c ls) k (h .1) earlier q later is window s v room
 
 -- .. by document 01's choices
-pub ours-in-force : (n : ℕ) (ls : List Lent) (l : Lent) → History ours n (l ∷ ls)
+pub ours-in-force : (n : ℕ) (ls : List Lent) (l : Lent) → CallsServed ours n (l ∷ ls)
     → (earlier : List Request) (q : Request) (later : List Request) → l .requests ≡ earlier ++ q ∷ later
     → (window : Rect) → asked q ≡ some (Search window) → valid window ≡ true
-    → meeting window (forceAfter (forceOf ours ls) 0 earlier (call l .answers)) ≤ length (l .found) - filledAfter 0 0 earlier (call l .answers)
+    → howManyMeet window (forceAfter (forceOf ours ls) 0 earlier (call l .answers)) ≤ length (l .found) - filledAfter 0 0 earlier (call l .answers)
     → Told (doRequests ours 0 earlier (starting l) .pool) (forceAfter (forceOf ours ls) 0 earlier (call l .answers))
     (filledAfter 0 0 earlier (call l .answers)) window (length earlier) (call l .answers) (call l .found)
 unfolding call

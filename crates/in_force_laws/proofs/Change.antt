@@ -27,9 +27,9 @@ use Rattle.rules_laws.proofs.Parts.{count-cons}
 use Rattle.sound_laws.proofs.Same.{same-pair}
 use Rattle.insert_laws.proofs.Whole.{insert-whole, insert-stored}
 use Rattle.delete_laws.proofs.Delete.{delete-whole, delete-stored}
-use Rattle.delete_laws.proofs.Update.{moved, update-whole, update-stored}
+use Rattle.delete_laws.proofs.Update.{renewed, update-whole, update-stored}
 use Rattle.in_force_laws.specs.Force.{lessPair, change, inForce}
-use Rattle.in_force_laws.specs.Shows.{Holds}
+use Rattle.in_force_laws.specs.Shows.{HoldsRecords}
 use Rattle.in_force_laws.proofs.Pairs.{less-count, less-once, less-among, less-gone, more-once, held-in, in-held}
 use Rattle.in_force_laws.proofs.Faults.{EachGiven, given-none, given-row, no-row}
 
@@ -92,13 +92,13 @@ module _ (p : Pool) where
       not-false _ (d .0)
 
   pub update-passed : (old : Record) (new : Rect) → updateFault p old new ≡ none
-      → (valid new ≡ true) × (held p old ≡ true) × ((held p (moved old new) && not (samePair old (moved old new))) ≡ false)
+      → (valid new ≡ true) × (held p old ≡ true) × ((held p (renewed old new) && not (samePair old (renewed old new))) ≡ false)
   unfolding updateFault
   update-passed old new h =
       let a = no-row (not (valid (old .rect)) || not (valid new)) BadRectangle _ h in
       let b = no-row (not (goodNumber (old .number))) BadNumber _ (a .1) in
       let d = no-row (not (held p old)) NotHeld _ (b .1) in
-      let e = no-row (held p (moved old new) && not (samePair old (moved old new))) Held _ (d .1) in
+      let e = no-row (held p (renewed old new) && not (samePair old (renewed old new))) Held _ (d .1) in
       (or-none (valid (old .rect)) (valid new) (a .0) .1, not-false _ (d .0), e .0)
 
 -- ---- a request opened at its table
@@ -140,23 +140,23 @@ module _ (c : Choice) (p : Pool) (filled room : ℕ) where
 
 -- ---- each kind of change
 
-module _ (c : Choice) (lawful : Lawful c) (p : Pool) (rs : List Record) (k : Holds p rs) where
+module _ (c : Choice) (lawful : Lawful c) (p : Pool) (rs : List Record) (k : HoldsRecords p rs) where
   abbrev Good : Asked → Turn → Type 0
-  Good a t = Holds (t .pool) (inForce rs a (answerOf (t .reply)))
+  Good a t = HoldsRecords (t .pool) (inForce rs a (answerOf (t .reply)))
 
   refused-good : (a : Asked) (reply : Reply) → Refused reply → Good a (turn p reply [])
-  refused-good a reply h = subst (Holds p) (sym (force-refused rs a reply h)) k
+  refused-good a reply h = subst (HoldsRecords p) (sym (force-refused rs a reply h)) k
 
   none-refused : Refused NoSlot
   unfolding answerOf
   none-refused = refl
 
-  after-good : (a : Asked) (o : Change) → ((q : Pool) → o ≡ Done q → Holds q (change rs a)) → Good a (afterChange p o)
+  after-good : (a : Asked) (o : Change) → ((q : Pool) → o ≡ Done q → HoldsRecords q (change rs a)) → Good a (afterChange p o)
   unfolding afterChange
-  after-good a (Done q) h = subst (Holds q) (sym (force-changed rs a)) (h q refl)
+  after-good a (Done q) h = subst (HoldsRecords q) (sym (force-changed rs a)) (h q refl)
   after-good a NoneFree h = refused-good a NoSlot none-refused
 
-  insert-holds : (r : Record) → insertFault p r ≡ none → (q : Pool) → insertRecord c p r ≡ Done q → Holds q (change rs (Insert r))
+  insert-holds : (r : Record) → insertFault p r ≡ none → (q : Pool) → insertRecord c p r ≡ Done q → HoldsRecords q (change rs (Insert r))
   unfolding change
   insert-holds r h q d =
       let y = insert-passed p r h in
@@ -168,7 +168,7 @@ module _ (c : Choice) (lawful : Lawful c) (p : Pool) (rs : List Record) (k : Hol
         once = more-once r rs (λ m. never-both (in-held p rs (k .alike) r m) (y .2)) (k .once);
       }
 
-  delete-holds : (r : Record) → deleteFault p r ≡ none → (q : Pool) → deleteRecord c p r ≡ Done q → Holds q (change rs (Delete r))
+  delete-holds : (r : Record) → deleteFault p r ≡ none → (q : Pool) → deleteRecord c p r ≡ Done q → HoldsRecords q (change rs (Delete r))
   unfolding change
   delete-holds r h q d =
       let y = delete-passed p r h in
@@ -182,21 +182,21 @@ module _ (c : Choice) (lawful : Lawful c) (p : Pool) (rs : List Record) (k : Hol
       }
 
   -- the new pair is not there once the old is out: it was not there before, or it is the old one, which stood there once
-  moved-out : (old : Record) (new : Rect) → held p old ≡ true → (held p (moved old new) && not (samePair old (moved old new))) ≡ false
-      → Among (moved old new) (lessPair old rs) → ⊥
-  moved-out old new y n m = go (samePair old (moved old new)) refl
+  moved-out : (old : Record) (new : Rect) → held p old ≡ true → (held p (renewed old new) && not (samePair old (renewed old new))) ≡ false
+      → Among (renewed old new) (lessPair old rs) → ⊥
+  moved-out old new y n m = go (samePair old (renewed old new)) refl
     where
       there : Among old rs
       there = held-in p rs (k .alike) old y
 
-      go : (b : Bool) → samePair old (moved old new) ≡ b → ⊥
-      go true e = less-gone old rs there (k .once) (subst (λ (x : Record). Among x (lessPair old rs)) (sym (same-pair old (moved old new) .0 e)) m)
+      go : (b : Bool) → samePair old (renewed old new) ≡ b → ⊥
+      go true e = less-gone old rs there (k .once) (subst (λ (x : Record). Among x (lessPair old rs)) (sym (same-pair old (renewed old new) .0 e)) m)
       go false e =
-          never-both (in-held p rs (k .alike) (moved old new) (less-among (moved old new) old rs there m))
-          (and-unless (held p (moved old new)) (samePair old (moved old new)) n e)
+          never-both (in-held p rs (k .alike) (renewed old new) (less-among (renewed old new) old rs there m))
+          (and-unless (held p (renewed old new)) (samePair old (renewed old new)) n e)
 
   update-holds : (old : Record) (new : Rect) → updateFault p old new ≡ none → (q : Pool) → updateRecord c p old new ≡ Done q
-      → Holds q (change rs (Update old new))
+      → HoldsRecords q (change rs (Update old new))
   unfolding change
   update-holds old new h q d =
       let y = update-passed p old new h in
@@ -210,10 +210,10 @@ module _ (c : Choice) (lawful : Lawful c) (p : Pool) (rs : List Record) (k : Hol
                 update-stored c p old new lawful (k .whole) (y .1) (y .0) q d f,
                 k .alike .each f,
                 less-count f old rs m,
-                count-cons f (moved old new) (lessPair old rs),
+                count-cons f (renewed old new) (lessPair old rs),
               );
         };
-        once = more-once (moved old new) (lessPair old rs) (moved-out old new (y .1) (y .2)) (less-once old rs m (k .once));
+        once = more-once (renewed old new) (lessPair old rs) (moved-out old new (y .1) (y .2)) (less-once old rs m (k .once));
       }
 
   -- ---- the request
@@ -248,6 +248,6 @@ module _ (c : Choice) (lawful : Lawful c) (p : Pool) (rs : List Record) (k : Hol
         go (some reply) h g =
             subst (Good (Update old new)) (sym (update-some c p filled room old new reply h)) (refused-good (Update old new) reply g)
     request-force (Search window) =
-        subst (λ (q : Pool). Holds q (inForce rs (Search window) (answerOf (request c p filled room (Search window) .reply))))
+        subst (λ (q : Pool). HoldsRecords q (inForce rs (Search window) (answerOf (request c p filled room (Search window) .reply))))
         (sym (search-pool c p filled room window))
-        (subst (Holds p) (sym (search-force window (request c p filled room (Search window) .reply))) k)
+        (subst (HoldsRecords p) (sym (search-force window (request c p filled room (Search window) .reply))) k)

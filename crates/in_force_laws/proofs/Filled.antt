@@ -19,7 +19,7 @@ use Rattle.rules.specs.Insert.{Choice, Change, Done, NoneFree, insertRecord}
 use Rattle.rules.specs.Delete.{deleteRecord, updateRecord}
 use Rattle.rules.specs.Request.{Turn, turn, asked, afterChange, insertFault, deleteFault, updateFault, searchFault, request}
 use Rattle.rules.specs.Call.{Batch, afterTurn, doRequest, doRequests}
-use Rattle.in_force_laws.specs.Force.{placesOf, filledBy, filledAfter}
+use Rattle.in_force_laws.specs.Force.{placesFilled, filledBy, filledAfter}
 use Rattle.in_force_laws.proofs.Faults.{EachGiven, given-none, given-row}
 use Rattle.in_force_laws.proofs.Change.{Refused, insert-refused, delete-refused, update-refused, insert-some, insert-none, delete-some, delete-none, update-some, update-none}
 use Rattle.in_force_laws.proofs.Batch.{noAnswer, kept, step-long, two-parts}
@@ -27,14 +27,14 @@ use Rattle.in_force_laws.proofs.Batch.{noAnswer, kept, step-long, two-p
 -- ---- one request
 
 abbrev Fills : Turn → Type 0
-Fills t = length (t .listed) ≡ placesOf (answerOf (t .reply))
+Fills t = length (t .listed) ≡ placesFilled (answerOf (t .reply))
 
 refused-fills : (p : Pool) (reply : Reply) → Refused reply → Fills (turn p reply [])
-unfolding placesOf
+unfolding placesFilled
 refused-fills p reply h = rw h
 
 after-fills : (p : Pool) (o : Change) → Fills (afterChange p o)
-unfolding afterChange placesOf answerOf
+unfolding afterChange placesFilled answerOf
 after-fills p (Done q) = refl
 after-fills p NoneFree = refl
 
@@ -49,7 +49,7 @@ module _ (c : Choice) (p : Pool) (filled room : ℕ) where
   search-some window reply h = rw (h, request)
 
   search-none : (window : Rect) → searchFault p room window ≡ none → Fills (request c p filled room (Search window))
-  unfolding request placesOf answerOf
+  unfolding request placesFilled answerOf
   search-none window h = rw (h, request)
 
   request-fills : (a : Asked) → Fills (request c p filled room a)
@@ -93,7 +93,7 @@ module _ (c : Choice) where
       let room = length (b .found) - b .filled in
       let t = request c (b .pool) (b .filled) room a in
       ap (λ (n : ℕ). b .filled + n) (request-fills c (b .pool) (b .filled) room a)
-      ∙ ap (λ (x : Answer). b .filled + placesOf x) (sym (getD-set-same (b .answers) i (answerOf (t .reply)) noAnswer h))
+      ∙ ap (λ (x : Answer). b .filled + placesFilled x) (sym (getD-set-same (b .answers) i (answerOf (t .reply)) noAnswer h))
 
   pub batch-filled : (i : ℕ) (qs : List Request) (b : Batch) → i + length qs ≤ length (b .answers)
       → doRequests c i qs b .filled ≡ filledAfter (b .filled) i qs (doRequests c i qs b .answers)

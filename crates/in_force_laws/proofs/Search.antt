@@ -26,7 +26,7 @@ use Rattle.search_laws.proofs.Lists.{those-and}
 use Rattle.search_laws.proofs.Order.{alike-length, ordered-alike, ordered-same}
 use Rattle.search_laws.proofs.Exact.{search-exact, opened-exact, found-once}
 use Rattle.sound_laws.proofs.Heights.{height-records}
-use Rattle.in_force_laws.specs.Shows.{EachOnce, Holds, Shows}
+use Rattle.in_force_laws.specs.Shows.{EachOnce, HoldsRecords, SearchShows}
 
 -- those of alike lists are alike
 pub those-alike : (t : Record → Bool) (xs ys : List Record) → Alike xs ys → Alike (those t xs) (those t ys)
@@ -34,7 +34,7 @@ those-alike t xs ys a = record {
   each = λ q. ap length (sym (those-and t q xs)) ∙ a .each _ ∙ ap length (those-and t q ys);
 }
 
-module _ (p : Pool) (rs : List Record) (k : Holds p rs) (window : Rect) where
+module _ (p : Pool) (rs : List Record) (k : HoldsRecords p rs) (window : Rect) where
   pub found-force : found p window ≡ ordered (those (recordMeets window) rs)
   found-force =
       search-exact p (k .whole) window
@@ -65,7 +65,7 @@ module _ (p : Pool) (rs : List Record) (k : Holds p rs) (window : Rect) where
       unfolding request
       search-is h = rw (h, request)
 
-      shown : Shows p rs filled window (turn p (Listed (length (found p window)) filled (opened p window)) (found p window))
+      shown : SearchShows p rs filled window (turn p (Listed (length (found p window)) filled (opened p window)) (found p window))
       shown = record {
         lists = found-force;
         once = found-each;
@@ -76,5 +76,5 @@ module _ (p : Pool) (rs : List Record) (k : Holds p rs) (window : Rect) where
 
       -- "valid window, room in its list"
       pub request-search : valid window ≡ true → length (those (recordMeets window) rs) ≤ room
-          → Shows p rs filled window (request c p filled room (Search window))
-      request-search v r = subst (Shows p rs filled window) (sym (search-is (no-fault v r))) shown
+          → SearchShows p rs filled window (request c p filled room (Search window))
+      request-search v r = subst (SearchShows p rs filled window) (sym (search-is (no-fault v r))) shown

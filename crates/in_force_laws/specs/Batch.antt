@@ -16,13 +16,13 @@ use Rattle.search_laws.specs.Window.{recordMeets}
 use Rattle.in_force_laws.specs.Shows.{EachOnce, nodesMeeting}
 
 -- how many of the records meet the window
-abbrev pub meeting : Rect → List Record → ℕ
-meeting window rs = length (those (recordMeets window) rs)
+abbrev pub howManyMeet : Rect → List Record → ℕ
+howManyMeet window rs = length (those (recordMeets window) rs)
 
 -- the search at place i of the batch, done in the pool p with the records rs in force and so many places of the found list filled, as the
 -- answer list and the found list show it when the call returns
 pub record Told (p : Pool) (rs : List Record) (filled : ℕ) (window : Rect) (i : ℕ) (answers : List Answer) (found : List Record) : Type 0 where
-  pub told : getD answers i (answer 0 0 0 0) ≡ answer 0 (meeting window rs) filled (suc (nodesMeeting p window))
-  pub shown : slice filled (filled + meeting window rs) found ≡ ordered (those (recordMeets window) rs)
-  pub once : EachOnce (slice filled (filled + meeting window rs) found)
+  pub told : getD answers i (answer 0 0 0 0) ≡ answer 0 (howManyMeet window rs) filled (suc (nodesMeeting p window))
+  pub shown : slice filled (filled + howManyMeet window rs) found ≡ ordered (those (recordMeets window) rs)
+  pub once : EachOnce (slice filled (filled + howManyMeet window rs) found)
   pub high : (p .height ≡ 1) ⊎ (2 * 3 ^ (p .height - 1) ≤ length rs)

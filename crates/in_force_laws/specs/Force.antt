@@ -44,12 +44,12 @@ forceAfter rs i (q ∷ qs) told = forceAfter (forceBy rs (asked q) (getD told i 
 -- ---- the places filled
 
 -- how many places of the found list an answer stands for: an accepted search's, and no other's ("8 reports found .. as they would have been")
-unfoldable pub placesOf : Answer → ℕ
-placesOf told = cond (eqb (told .number) 0) (told .found) 0
+unfoldable pub placesFilled : Answer → ℕ
+placesFilled told = cond (eqb (told .number) 0) (told .found) 0
 
 unfoldable pub filledBy : ℕ → Option Asked → Answer → ℕ
 filledBy n none told = n
-filledBy n (some a) told = n + placesOf told
+filledBy n (some a) told = n + placesFilled told
 
 -- "Accepted searches fill the found list one after another": the places filled after the requests from place i on, by their answers
 unfoldable pub filledAfter : ℕ → ℕ → List Request → List Answer → ℕ

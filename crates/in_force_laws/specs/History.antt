@@ -12,9 +12,9 @@ use Rattle.in_force_laws.specs.Force.{forceAfter}
 
 module _ (c : Choice) where
   -- the pool that the calls leave, the latest first in the list: at the start a blank one, of n slots and one more
-  unfoldable pub poolAfter : ℕ → List Lent → List ℤ
-  poolAfter n [] = words (blankPool n)
-  poolAfter n (l ∷ ls) = callBy c l .pool
+  unfoldable pub poolServed : ℕ → List Lent → List ℤ
+  poolServed n [] = words (blankPool n)
+  poolServed n (l ∷ ls) = callBy c l .pool
 
   -- the records in force after them, by their requests and answers: none in a blank pool
   unfoldable pub forceOf : List Lent → List Record
@@ -22,6 +22,6 @@ module _ (c : Choice) where
   forceOf (l ∷ ls) = forceAfter (forceOf ls) 0 (l .requests) (callBy c l .answers)
 
   -- each call was lent the pool that the ones before it left, and returned 0. ("A refused call .. writes nothing at all.")
-  abbrev pub History : ℕ → List Lent → Type 0
-  History n [] = Unit {0}
-  History n (l ∷ ls) = (l .pool ≡ poolAfter n ls) × (callBy c l .number ≡ pos 0) × History n ls
+  abbrev pub CallsServed : ℕ → List Lent → Type 0
+  CallsServed n [] = Unit {0}
+  CallsServed n (l ∷ ls) = (l .pool ≡ poolServed n ls) × (callBy c l .number ≡ pos 0) × CallsServed n ls

@@ -21,7 +21,7 @@ abbrev pub EachOnce : List Record → Type 0
 EachOnce rs = (x : Record) → length (those (samePair x) rs) ≤ 1
 
 -- the pool is one tree, and its records are those of the list, each as often and none twice
-pub record Holds (p : Pool) (rs : List Record) : Type 0 where
+pub record HoldsRecords (p : Pool) (rs : List Record) : Type 0 where
   pub whole : Whole p
   pub alike : Alike (stored p) rs
   pub once : EachOnce rs
@@ -33,7 +33,7 @@ nodesMeeting p window = length (those (nodeMeets p window) (those (otherNode p) 
 -- a search in a pool that holds the records rs, with so many places of the found list filled: it lists "the records in force that meet the
 -- window, each once, in record order"; it answers their number, the first place filled, and the nodes opened, "one for the root and one for
 -- each other node whose cover meets the window"; with n records and height h, "h is 1 or 2·3^(h-1) ≤ n"
-pub record Shows (p : Pool) (rs : List Record) (filled : ℕ) (window : Rect) (t : Turn) : Type 0 where
+pub record SearchShows (p : Pool) (rs : List Record) (filled : ℕ) (window : Rect) (t : Turn) : Type 0 where
   pub lists : t .listed ≡ ordered (those (recordMeets window) rs)
   pub once : EachOnce (t .listed)
   pub reply : t .reply ≡ Listed (length (those (recordMeets window) rs)) filled (suc (nodesMeeting p window))

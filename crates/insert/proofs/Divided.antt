@@ -21,7 +21,7 @@ use Rattle.rules.specs.Insert.{Grown, Split, ours, splitInto, install}
 use Rattle.rules.specs.Layout.{read}
 use Rattle.rules_laws.proofs.Places.{Among, at-place}
 use Rattle.split.specs.declared.Groups.{Groups}
-use Rattle.split.specs.State.{AllValid, Whole}
+use Rattle.split.specs.State.{AllValid, GroupsWhole}
 use Rattle.pool.specs.Slots.{Fit, SmallAll, KindAll}
 use Rattle.pool.proofs.Parts.{length-rects, rect-entry}
 use Rattle.free_slots.specs.declared.FreeSlots.{FreeSlots}
@@ -36,8 +36,8 @@ use Rattle.insert_laws.proofs.Under.{entries-are}
 use Rattle.insert_laws.proofs.Free.{lowest-slot}
 use Rattle.insert_laws.proofs.Install.{putTwo, all-fit, split-none, split-at, install-room, install-full}
 use Rattle.insert.specs.declared.Growth.the-variants.{One, Two, Stuck}
-use Rattle.insert.specs.Left.{Grows}
-use Rattle.insert.specs.State.{Here, Ready}
+use Rattle.insert.specs.Left.{GrewTo}
+use Rattle.insert.specs.State.{Here, Fitted}
 use Rattle.insert.proofs.Fitted.{Stored, fits-stored, fits-valid}
 
 all-fits : (p : Pool) (l : ℕ) (s : SlotNumber) (e : Entry) → Tree p l s → Fits p l e → (x : Entry) → Among x (entriesAt p s ++ e ∷ []) → Fits p l x
@@ -116,7 +116,7 @@ module _ {p : Pool} {s : SlotNumber} {e : Entry} (h : Here p s e) (full : 8 ≤ 
     pub rects-are : rs ≡ rects es
     pub one : take (g .ones) (g .one) ≡ quadraticGroups rs .one
     pub two : take (g .twos) (g .two) ≡ quadraticGroups rs .two
-    pub whole : Whole g
+    pub whole : GroupsWhole g
 
   module _ {es : List Entry} {rs : List Rect} {g : Groups} (a : Parts es rs g) where
     one-is : map (entryFrom es) (take (g .ones) (g .one)) ≡ quadraticSplit nine .one
@@ -157,7 +157,7 @@ module _ {p : Pool} {s : SlotNumber} {e : Entry} (h : Here p s e) (full : 8 ≤ 
 
 -- ---- what is known then
 
-module _ {w : List ℤ} {s : SlotNumber} {e : Entry} {f : FreeSlots} (r : Ready w f) (h : Here (read w) s e) where
+module _ {w : List ℤ} {s : SlotNumber} {e : Entry} {f : FreeSlots} (r : Fitted w f) (h : Here (read w) s e) where
   abbrev p : Pool
   p = read w
 
@@ -165,23 +165,23 @@ module _ {w : List ℤ} {s : SlotNumber} {e : Entry} {f : FreeSlots} (r : Ready 
   put-known es = known-put p f (r .known) s (here-node h .slot .low) (here-node h .slot .high) (here-used h) (node (nodeAt p s .level) es) (here-used h)
 
   pub room-grows : length (entriesAt p s) < most → (v : List ℤ) → Fit v → read v ≡ putEntries p s (entriesAt p s ++ e ∷ [])
-      → Grows (install ours p s e) (One f) v
+      → GrewTo (install ours p s e) (One f) v
   unfolding putEntries
   room-grows room v fit is =
-      subst⁻¹ (λ (o : Grown). Grows o (One f) v) (install-room ours p s e (lt-ltb (length (entriesAt p s)) most room))
+      subst⁻¹ (λ (o : Grown). GrewTo o (One f) v) (install-room ours p s e (lt-ltb (length (entriesAt p s)) most room))
       (record { fit = fit; is = is; known = put-known (entriesAt p s ++ e ∷ []) })
 
   module _ (full : 8 ≤ length (entriesAt p s)) where
-    pub none-grows : lowestFree p ≡ Nowhere → (v : List ℤ) → Grows (install ours p s e) Stuck v
+    pub none-grows : lowestFree p ≡ Nowhere → (v : List ℤ) → GrewTo (install ours p s e) Stuck v
     none-grows low v =
-        subst⁻¹ (λ (o : Grown). Grows o Stuck v)
+        subst⁻¹ (λ (o : Grown). GrewTo o Stuck v)
         (install-full ours p s e (le-ltb (length (entriesAt p s)) most full) ∙ ap (splitInto p s _) low ∙ split-none p s _) tt
 
     pub split-grows : (t : SlotNumber) → lowestFree p ≡ At t → (v : List ℤ) → Fit v → (x : Entry) → install ours p s e ≡ Split (read v) x
-        → (k : FreeSlots) → k ≡ lessSlot f t → Grows (install ours p s e) (Two x k) v
+        → (k : FreeSlots) → k ≡ lessSlot f t → GrewTo (install ours p s e) (Two x k) v
     split-grows t low v fit x is k less =
         let q : read v ≡ both h full low = split-pool (sym is ∙ split-is h full low) in
-        subst⁻¹ (λ (o : Grown). Grows o (Two x k) v) is (
+        subst⁻¹ (λ (o : Grown). GrewTo o (Two x k) v) is (
           refl,
           record {
             fit = fit;

@@ -16,7 +16,7 @@ use Rattle.rules.specs.declared.Entry.{Entry}
 use Rattle.rules.specs.Numbers.{mostSlots, goodNumber}
 use Rattle.rules.specs.Geometry.{valid}
 use Rattle.rules.specs.Pool.{Pool, entry, entriesAt, childOf, numberOf}
-use Rattle.rules.specs.Layout.{rightLength, natural, pointerOf, pointerWord, read}
+use Rattle.rules.specs.Layout.{validLength, natural, pointerOf, pointerWord, read}
 use Rattle.rules_laws.proofs.Orders.{never-both}
 use Rattle.pool.specs.Slots.{InPool, Small}
 use Rattle.pool.proofs.Parts.{few-slots}
@@ -28,10 +28,10 @@ use Rattle.insert_laws.specs.Grown.{Fits}
 use Rattle.insert_laws.proofs.Under.{no-fit, leaf-fits, inner-fits}
 
 -- a slot of the pool is a slot of its words
-pub slot-in : (w : List ℤ) (s : SlotNumber) → rightLength w ≡ true → Slot (read w) s → InPool w s
+pub slot-in : (w : List ℤ) (s : SlotNumber) → validLength w ≡ true → Slot (read w) s → InPool w s
 slot-in w s r k = record { right = r; low = k .low; high = omega (arith, k .high, read-slots w) }
 
-pub most-slots : (w : List ℤ) → rightLength w ≡ true → length (read w .slots) ≤ mostSlots
+pub most-slots : (w : List ℤ) → validLength w ≡ true → length (read w .slots) ≤ mostSlots
 most-slots w r = omega (arith, read-slots w, few-slots w r)
 
 -- a pointer that a word holds, of the level's kind

@@ -16,7 +16,7 @@ use Rattle.rules.specs.Numbers.{goodNumber}
 use Rattle.rules.specs.Geometry.{valid}
 use Rattle.rules.specs.Pool.{Node, Pool, entry, recordOf, leafEntry, isLeaf, stored, putRecords}
 use Rattle.rules.specs.Insert.{Change, Done, NoneFree, ours, insertAt, insertRecord}
-use Rattle.rules.specs.Layout.{rightLength, words, read}
+use Rattle.rules.specs.Layout.{validLength, words, read}
 use Rattle.rules_laws.proofs.Places.{Each}
 use Rattle.rules_laws.proofs.Parts.{those-yes, those-no, those-none}
 use Rattle.pool.specs.Slots.{Fit}
@@ -57,7 +57,7 @@ stored-few : (p : Pool) → Each Fine (p .slots) → length (stored p) ≤ 8 * l
 unfolding stored entries-of
 stored-few p f = omega (arith, length-map (joined (map entries-of (those isLeaf (p .slots)))) recordOf, leaves-few (p .slots) f)
 
-pub records-few : (w : List ℤ) → rightLength w ≡ true → Whole (read w) → read w .records ≤ 32768
+pub records-few : (w : List ℤ) → validLength w ≡ true → Whole (read w) → read w .records ≤ 32768
 records-few w r h = omega (arith, h .counted, stored-few (read w) (read-fine w), most-slots w r)
 
 -- ---- a change that was made, and one that was not
@@ -72,7 +72,7 @@ refused-is NoneFree a u x = (refl, x)
 
 -- ---- another number of records
 
-module _ (w : List ℤ) (right : rightLength w ≡ true) (h : Whole (read w)) (m : ℕ) (v : List ℤ) (put : read v ≡ putRecords (read w) m) where
+module _ (w : List ℤ) (right : validLength w ≡ true) (h : Whole (read w)) (m : ℕ) (v : List ℤ) (put : read v ≡ putRecords (read w) m) where
   pub head-upright : Upright (read v)
   head-upright =
       let s = head-standing (read w) m [] (whole-standing (read w) h) in

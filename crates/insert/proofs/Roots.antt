@@ -38,8 +38,8 @@ use Rattle.insert.specs.declared.Growth.{Growth}
 use Rattle.insert.specs.declared.Growth.the-variants.{One, Two, Stuck}
 use Rattle.insert.specs.declared.Outcome.{Outcome}
 use Rattle.insert.specs.declared.Outcome.the-variants.{Made, Refused}
-use Rattle.insert.specs.Left.{Grows, Leaves, Upright}
-use Rattle.insert.specs.State.{Way, Beside, Ready, grownOf, Risen}
+use Rattle.insert.specs.Left.{GrewTo, Leaves, Upright}
+use Rattle.insert.specs.State.{WayDown, Beside, Fitted, grownOf, Risen}
 use Rattle.insert.proofs.Fitted.{Stored, child-stored, fits-stored}
 use Rattle.insert.proofs.Steps.{grown-is, holds-ready}
 
@@ -72,7 +72,7 @@ module _ {p : Pool} {x : Entry} (h : Beside p x) (few : length (p .slots) ≤ mo
   pub partner-stored : Stored (height + 1) (x .pointer)
   partner-stored = subst⁻¹ (λ (k : ℕ). Stored k (x .pointer)) (ap (λ (k : ℕ). k + 1) high ∙ add-one (p .height)) (fits-stored p (suc (p .height)) x few (h .fits))
 
-module _ {w : List ℤ} {f : FreeSlots} (r : Ready w f) (x : Entry) where
+module _ {w : List ℤ} {f : FreeSlots} (r : Fitted w f) (x : Entry) where
   abbrev p : Pool
   p = read w
 
@@ -110,7 +110,7 @@ module _ {w : List ℤ} {f : FreeSlots} (r : Ready w f) (x : Entry) where
 
 -- ---- what became of the root
 
-pub grown-one : (w : List ℤ) (f : FreeSlots) → Ready w f → Leaves w (growTree (Kept (read w))) (Made f) w
+pub grown-one : (w : List ℤ) (f : FreeSlots) → Fitted w f → Leaves w (growTree (Kept (read w))) (Made f) w
 grown-one w f r = subst⁻¹ (λ (o : Change). Leaves w o (Made f) w) (grow-kept (read w)) (record { fit = r .fit; is = refl; known = r .known })
 
 pub grown-stuck : (w : List ℤ) → Leaves w (growTree Full) Refused w
@@ -127,7 +127,7 @@ module _ (p : Pool) (k : ℕ) (e : Entry) (low : 1 ≤ p .height) (high : p .hei
     fits = subst⁻¹ (λ (l : ℕ). G.Fits q (suc l) x) (g .2 .height) (g .1 .fit x (List·Memᴰ·head refl));
   }
 
-  pub on-risen : (o : Grown) (g : Growth) (v : List ℤ) → G.Grows p (p .height) (p .root) k e (treeSlots p) o → Grows o g v → Risen v g
+  pub on-risen : (o : Grown) (g : Growth) (v : List ℤ) → G.Grows p (p .height) (p .root) k e (treeSlots p) o → GrewTo o g v → Risen v g
   on-risen (Kept q) (One f) v a b = holds-ready b
   on-risen (Kept q) (Two y f) v a b = absurd b
   on-risen (Kept q) Stuck v a b = absurd b
@@ -169,11 +169,11 @@ leaves-made (Done q) Refused a b v n h = absurd h
 leaves-made NoneFree r a b v n h = absurd (n refl)
 
 module _ (p : Pool) (level : ℕ) (e : Entry) (u : Upright p) (low : level ≤ p .height) (high : p .height ≤ 64) (f : G.Fits p level e) where
-  pub root-way : (n : ℕ) → n ≡ p .height - level → (root : SlotNumber) → root ≡ p .root → Way p n root e
+  pub root-way : (n : ℕ) → n ≡ p .height - level → (root : SlotNumber) → root ≡ p .root → WayDown p n root e
   root-way n levels root top =
       let l = fits-level p level e f in
       let same : p .height ≡ n + level = omega arith in
-      subst⁻¹ (λ (s : SlotNumber). Way p n s e) top (record {
+      subst⁻¹ (λ (s : SlotNumber). WayDown p n s e) top (record {
         level = level;
         tree = subst (λ (k : ℕ). Tree p k (p .root)) same (u .tree);
         once = subst (λ (k : ℕ). Once (slotsIn p k (p .root))) same (u .once);
@@ -202,7 +202,7 @@ module _ (p : Pool) (level : ℕ) (e : Entry) (u : Upright p) (low : level ≤ p
 
     -- the entry went in from the root, and what became of the root has become of the pool
     module _ (n : ℕ) (levels : n ≡ p .height - level) (root : SlotNumber) (top : root ≡ p .root) (g : Growth) (v : List ℤ)
-        (grows : Grows (insertBelow ours n p root e) g v) where
+        (grows : GrewTo (insertBelow ours n p root e) g v) where
       below-is : insertBelow ours n p root e ≡ insertBelow ours (p .height - level) p (p .root) e
       below-is i = insertBelow ours (levels i) p (top i) e
 
@@ -211,7 +211,7 @@ module _ (p : Pool) (level : ℕ) (e : Entry) (u : Upright p) (low : level ≤ p
           let l = fits-level p level e f in
           on-risen p level e (omega arith) high (insertBelow ours (p .height - level) p (p .root) e) g v
           (below-grows ours ours-lawful p level e f (p .height - level) (p .height) (p .root) (omega arith) (u .tree) (u .once) (λ h. u .some (omega arith)))
-          (subst (λ (o : Grown). Grows o g v) below-is grows)
+          (subst (λ (o : Grown). GrewTo o g v) below-is grows)
 
       pub at-made : b ≡ false → (r : Outcome) (z : List ℤ) → Leaves v (growTree (grownOf (read v) g)) r z → Leaves w (insertAt ours level p e) r z
       unfolding insertAt

@@ -39,13 +39,13 @@ use Rattle.insert_laws.proofs.Below.{below-here, below-down, way, adjust-kept, 
 use Rattle.insert_laws.proofs.Taken.{way-here, run, run-ends, run-goes-on}
 use Rattle.insert.specs.declared.Growth.{Growth}
 use Rattle.insert.specs.declared.Growth.the-variants.{One, Two, Stuck}
-use Rattle.insert.specs.Left.{Holds, Grows}
-use Rattle.insert.specs.State.{Here, Way, Leads, Ready, grownOf, Back}
+use Rattle.insert.specs.Left.{HoldsPool, GrewTo}
+use Rattle.insert.specs.State.{Here, WayDown, LeadsOn, Fitted, grownOf, Back}
 use Rattle.insert.proofs.Fitted.{fits-valid}
 
 -- ---- the words stand for what the definitions give
 
-pub grown-is : (o : Grown) (g : Growth) (v : List ℤ) → Grows o g v → o ≡ grownOf (read v) g
+pub grown-is : (o : Grown) (g : Growth) (v : List ℤ) → GrewTo o g v → o ≡ grownOf (read v) g
 grown-is (Kept q) (One f) v h = ap Kept (sym (h .is))
 grown-is (Kept q) (Two y f) v h = absurd h
 grown-is (Kept q) Stuck v h = absurd h
@@ -56,7 +56,7 @@ grown-is Full (One f) v h = absurd h
 grown-is Full (Two y f) v h = absurd h
 grown-is Full Stuck v h = refl
 
-pub holds-ready : {q : Pool} {f : FreeSlots} {v : List ℤ} → Holds q f v → Ready v f
+pub holds-ready : {q : Pool} {f : FreeSlots} {v : List ℤ} → HoldsPool q f v → Fitted v f
 holds-ready {f = f} h = record { fit = h .fit; known = subst⁻¹ (λ (p : Pool). Known p f) (h .is) (h .known) }
 
 -- ---- an entry made tight
@@ -73,7 +73,7 @@ module _ (p : Pool) (s : SlotNumber) (i : ℕ) where
       ap (λ (x : Entry). putEntries p s (set (entriesAt p s) i x))
       (ap (λ (q : Rect). entry q (Child c)) k ∙ ap (λ (d : SlotNumber). entry (coverOf (entriesAt p d)) (Child d)) h)
 
-  pub tighten-known : (f : FreeSlots) → Known p f → Leads p s i → Known (tighten p s i) f
+  pub tighten-known : (f : FreeSlots) → Known p f → LeadsOn p s i → Known (tighten p s i) f
   unfolding tighten putEntries
   tighten-known f k h =
       known-put p f k s (h .slot .low) (h .slot .high) (λ e. omega (arith, h .inner)) (node (nodeAt p s .level) _) (λ e. omega (arith, h .inner))
@@ -82,28 +82,28 @@ module _ (p : Pool) (s : SlotNumber) (i : ℕ) where
 
 module _ (w : List ℤ) (s : SlotNumber) (i : ℕ) where
   pub back-one : (f : FreeSlots) → Back w s i (One f) → (v : List ℤ) → Fit v → read v ≡ tighten (read w) s i
-      → Grows (adjust ours s i (Kept (read w))) (One f) v
+      → GrewTo (adjust ours s i (Kept (read w))) (One f) v
   back-one f b v fit is =
-      subst⁻¹ (λ (o : Grown). Grows o (One f) v) (adjust-kept ours s i (read w))
+      subst⁻¹ (λ (o : Grown). GrewTo o (One f) v) (adjust-kept ours s i (read w))
       (record { fit = fit; is = is; known = tighten-known (read w) s i f (b .0 .known) (b .1) })
 
   module _ (x : Entry) (f : FreeSlots) (b : Back w s i (Two x f)) (v : List ℤ) (fit : Fit v) (is : read v ≡ tighten (read w) s i) where
-    pub two-ready : Ready v f
+    pub two-ready : Fitted v f
     two-ready = record { fit = fit; known = subst⁻¹ (λ (p : Pool). Known p f) is (tighten-known (read w) s i f (b .0 .known) (b .1)) }
 
     pub two-here : Here (read v) s x
     two-here = subst⁻¹ (λ (p : Pool). Here p s x) is (b .2)
 
-    pub back-two : (r : Growth) (u : List ℤ) → Grows (install ours (read v) s x) r u → Grows (adjust ours s i (Split (read w) x)) r u
+    pub back-two : (r : Growth) (u : List ℤ) → GrewTo (install ours (read v) s x) r u → GrewTo (adjust ours s i (Split (read w) x)) r u
     back-two r u h =
-        subst⁻¹ (λ (o : Grown). Grows o r u) (adjust-split ours s i (read w) x) (subst (λ (p : Pool). Grows (install ours p s x) r u) is h)
+        subst⁻¹ (λ (o : Grown). GrewTo o r u) (adjust-split ours s i (read w) x) (subst (λ (p : Pool). GrewTo (install ours p s x) r u) is h)
 
-  pub back-stuck : (v : List ℤ) → Grows (adjust ours s i Full) Stuck v
-  back-stuck v = subst⁻¹ (λ (o : Grown). Grows o Stuck v) (adjust-full ours s i) tt
+  pub back-stuck : (v : List ℤ) → GrewTo (adjust ours s i Full) Stuck v
+  back-stuck v = subst⁻¹ (λ (o : Grown). GrewTo o Stuck v) (adjust-full ours s i) tt
 
 -- ---- down
 
-module _ {p : Pool} {n : ℕ} {s : SlotNumber} {e : Entry} (h : Way p n s e) where
+module _ {p : Pool} {n : ℕ} {s : SlotNumber} {e : Entry} (h : WayDown p n s e) where
   pub way-node : NodeIn p (n + h .level) s
   way-node = tree-node p (n + h .level) s (h .tree)
 
@@ -158,7 +158,7 @@ module _ {p : Pool} {n : ℕ} {s : SlotNumber} {e : Entry} (h : Way p n s e) whe
     child-once : Once (slotsIn p (suc below) child)
     child-once = once-child p below s once (entryAt p s at) (among-here p below s tree at there at there)
 
-    down : Way p (n - 1) child e
+    down : WayDown p (n - 1) child e
     down = record {
       level = h .level;
       tree = subst (λ (k : ℕ). Tree p k child) (omega (arith, levels)) (inner .child);
@@ -186,7 +186,7 @@ module _ {p : Pool} {n : ℕ} {s : SlotNumber} {e : Entry} (h : Way p n s e) whe
       unfolding entryAt
       same-entry = ap (λ (es : List Entry). entryFrom es at) (sym (entries-same p q s same))
 
-      leads : Leads q s at
+      leads : LeadsOn q s at
       leads = record {
         slot = record { low = way-node .slot .low; high = omega (arith, way-node .slot .high, g .long) };
         inner = omega (arith, ap (λ (m : Node). m .level) same, way-node .level, levels);
@@ -196,16 +196,16 @@ module _ {p : Pool} {n : ℕ} {s : SlotNumber} {e : Entry} (h : Way p n s e) whe
       }
 
     kept-back : (q : Pool) (f : FreeSlots) (v : List ℤ) → G.Grows p (suc below) child (h .level) e (slotsIn p (suc below) child) (Kept q)
-        → Holds q f v → Back v s at (One f)
+        → HoldsPool q f v → Back v s at (One f)
     kept-back q f v a b =
-        (holds-ready b, subst⁻¹ (λ (x : Pool). Leads x s at) (b .is) (leads q (a .1) (omega arith) (omega (arith, inner .enough, a .3))))
+        (holds-ready b, subst⁻¹ (λ (x : Pool). LeadsOn x s at) (b .is) (leads q (a .1) (omega arith) (omega (arith, inner .enough, a .3))))
 
     split-back : (q : Pool) (x y : Entry) (f : FreeSlots) (v : List ℤ)
-        → G.Grows p (suc below) child (h .level) e (slotsIn p (suc below) child) (Split q x) → y ≡ x → Holds q f v → Back v s at (Two y f)
+        → G.Grows p (suc below) child (h .level) e (slotsIn p (suc below) child) (Split q x) → y ≡ x → HoldsPool q f v → Back v s at (Two y f)
     split-back q x y f v a z b =
         let t = tighten-grew p below s tree at there once q (a .1) (omega arith) (a .3) in (
           holds-ready b,
-          subst⁻¹ (λ (u : Pool). Leads u s at) (b .is) (leads q (a .1) (omega arith) (a .3)),
+          subst⁻¹ (λ (u : Pool). LeadsOn u s at) (b .is) (leads q (a .1) (omega arith) (a .3)),
           subst⁻¹ (λ (u : Pool). Here (tighten u s at) s y) (b .is) (subst⁻¹ (Here (tighten q s at) s) z (record {
             level = suc (suc below);
             tree = t .tree;
@@ -214,7 +214,7 @@ module _ {p : Pool} {n : ℕ} {s : SlotNumber} {e : Entry} (h : Way p n s e) whe
           })),
         )
 
-    on-back : (o : Grown) (g : Growth) (v : List ℤ) → G.Grows p (suc below) child (h .level) e (slotsIn p (suc below) child) o → Grows o g v → Back v s at g
+    on-back : (o : Grown) (g : Growth) (v : List ℤ) → G.Grows p (suc below) child (h .level) e (slotsIn p (suc below) child) o → GrewTo o g v → Back v s at g
     on-back (Kept q) (One f) v a b = kept-back q f v a b
     on-back (Kept q) (Two y f) v a b = absurd b
     on-back (Kept q) Stuck v a b = absurd b
@@ -230,19 +230,19 @@ module _ {p : Pool} {n : ℕ} {s : SlotNumber} {e : Entry} (h : Way p n s e) whe
       child-is : c ≡ child
       child-is = leads-to ∙ ap (λ (k : ℕ). childOf (entryAt p s k)) place
 
-      pub way-down : Way p (n - 1) c e
-      way-down = subst⁻¹ (λ (t : SlotNumber). Way p (n - 1) t e) child-is down
+      pub way-down : WayDown p (n - 1) c e
+      way-down = subst⁻¹ (λ (t : SlotNumber). WayDown p (n - 1) t e) child-is down
 
-      pub way-back : (g : Growth) (v : List ℤ) → Grows (insertBelow ours (n - 1) p c e) g v → Back v s i g
+      pub way-back : (g : Growth) (v : List ℤ) → GrewTo (insertBelow ours (n - 1) p c e) g v → Back v s i g
       way-back g v b =
           subst⁻¹ (λ (k : ℕ). Back v s k g) place
-          (on-back (insertBelow ours (n - 1) p child e) g v grew (subst (λ (t : SlotNumber). Grows (insertBelow ours (n - 1) p t e) g v) child-is b))
+          (on-back (insertBelow ours (n - 1) p child e) g v grew (subst (λ (t : SlotNumber). GrewTo (insertBelow ours (n - 1) p t e) g v) child-is b))
 
-      pub way-up : (g : Growth) (v : List ℤ) → Grows (insertBelow ours (n - 1) p c e) g v → (r : Growth) (u : List ℤ)
-          → Grows (adjust ours s i (grownOf (read v) g)) r u → Grows (insertBelow ours n p s e) r u
+      pub way-up : (g : Growth) (v : List ℤ) → GrewTo (insertBelow ours (n - 1) p c e) g v → (r : Growth) (u : List ℤ)
+          → GrewTo (adjust ours s i (grownOf (read v) g)) r u → GrewTo (insertBelow ours n p s e) r u
       way-up g v b r u a =
           let k : n ≡ suc (n - 1) = omega arith in
-          subst⁻¹ (λ (o : Grown). Grows o r u)
+          subst⁻¹ (λ (o : Grown). GrewTo o r u)
           (ap (λ (m : ℕ). insertBelow ours m p s e) k ∙ below-down ours (n - 1) p s e
           ∙ ap (λ (t : SlotNumber). adjust ours s at (insertBelow ours (n - 1) p t e)) (sym child-is)
           ∙ ap (adjust ours s at) (grown-is (insertBelow ours (n - 1) p c e) g v b)

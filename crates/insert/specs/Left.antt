@@ -17,26 +17,26 @@ use Rattle.insert.specs.declared.Outcome.{Outcome}
 use Rattle.insert.specs.declared.Outcome.the-variants.{Made, Refused}
 
 -- the words hold the pool q, and f is what is known of its free slots
-pub record Holds (q : Pool) (f : FreeSlots) (w : List ℤ) : Type 0 where
+pub record HoldsPool (q : Pool) (f : FreeSlots) (w : List ℤ) : Type 0 where
   pub fit : Fit w
   pub is : read w ≡ q
   pub known : Known q f
 
 -- the node that an entry came to is one node still, or two
-abbrev pub Grows : I.Grown → Growth → List ℤ → Type 0
-Grows (I.Kept q) (One f) w = Holds q f w
-Grows (I.Kept q) (Two y f) w = ⊥
-Grows (I.Kept q) Stuck w = ⊥
-Grows (I.Split q x) (One f) w = ⊥
-Grows (I.Split q x) (Two y f) w = (y ≡ x) × Holds q f w
-Grows (I.Split q x) Stuck w = ⊥
-Grows I.Full (One f) w = ⊥
-Grows I.Full (Two y f) w = ⊥
-Grows I.Full Stuck w = Unit {0}
+abbrev pub GrewTo : I.Grown → Growth → List ℤ → Type 0
+GrewTo (I.Kept q) (One f) w = HoldsPool q f w
+GrewTo (I.Kept q) (Two y f) w = ⊥
+GrewTo (I.Kept q) Stuck w = ⊥
+GrewTo (I.Split q x) (One f) w = ⊥
+GrewTo (I.Split q x) (Two y f) w = (y ≡ x) × HoldsPool q f w
+GrewTo (I.Split q x) Stuck w = ⊥
+GrewTo I.Full (One f) w = ⊥
+GrewTo I.Full (Two y f) w = ⊥
+GrewTo I.Full Stuck w = Unit {0}
 
 -- a change is made as the definition has it; where no slot is free, nothing is written
 abbrev pub Leaves : List ℤ → I.Change → Outcome → List ℤ → Type 0
-Leaves before (I.Done q) (Made f) w = Holds q f w
+Leaves before (I.Done q) (Made f) w = HoldsPool q f w
 Leaves before (I.Done q) Refused w = ⊥
 Leaves before I.NoneFree (Made f) w = ⊥
 Leaves before I.NoneFree Refused w = w ≡ before

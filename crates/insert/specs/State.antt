@@ -30,7 +30,7 @@ pub record Here (p : Pool) (s : SlotNumber) (e : Entry) : Type 0 where
   pub few : level ≤ 64
 
 -- .. and the entry goes into a node n levels below
-pub record Way (p : Pool) (n : ℕ) (s : SlotNumber) (e : Entry) : Type 0 where
+pub record WayDown (p : Pool) (n : ℕ) (s : SlotNumber) (e : Entry) : Type 0 where
   pub level : ℕ
   pub tree : Tree p (n + level) s
   pub once : Once (slotsIn p (n + level) s)
@@ -39,7 +39,7 @@ pub record Way (p : Pool) (n : ℕ) (s : SlotNumber) (e : Entry) : Type 0 where
   pub few : n + level ≤ 64
 
 -- entry i of the node at s leads to a node with entries
-pub record Leads (p : Pool) (s : SlotNumber) (i : ℕ) : Type 0 where
+pub record LeadsOn (p : Pool) (s : SlotNumber) (i : ℕ) : Type 0 where
   pub slot : Slot p s
   pub inner : 2 ≤ nodeAt p s .level
   pub there : i < length (entriesAt p s)
@@ -55,7 +55,7 @@ pub record Beside (p : Pool) (x : Entry) : Type 0 where
   pub fits : Fits p (suc (p .height)) x
 
 -- words that are a pool's, with what is known of its free slots
-pub record Ready (w : List ℤ) (f : FreeSlots) : Type 0 where
+pub record Fitted (w : List ℤ) (f : FreeSlots) : Type 0 where
   pub fit : Fit w
   pub known : Known (read w) f
 
@@ -67,12 +67,12 @@ grownOf p Stuck = I.Full
 
 -- the child of entry i of the node at s has become one node or two
 abbrev pub Back : List ℤ → SlotNumber → ℕ → Growth → Type 0
-Back w s i (One f) = Ready w f × Leads (read w) s i
-Back w s i (Two x f) = Ready w f × Leads (read w) s i × Here (tighten (read w) s i) s x
+Back w s i (One f) = Fitted w f × LeadsOn (read w) s i
+Back w s i (Two x f) = Fitted w f × LeadsOn (read w) s i × Here (tighten (read w) s i) s x
 Back w s i Stuck = Unit {0}
 
 -- the root has become one node or two
 abbrev pub Risen : List ℤ → Growth → Type 0
-Risen w (One f) = Ready w f
-Risen w (Two x f) = Ready w f × Beside (read w) x
+Risen w (One f) = Fitted w f
+Risen w (Two x f) = Fitted w f × Beside (read w) x
 Risen w Stuck = Unit {0}

@@ -16,15 +16,15 @@ ghost use Rattle.free_slots.specs.Known.{Known};
 ghost use Rattle.sound_laws.specs.Tree.{Whole};
 ghost use Rattle.insert_laws.specs.Grown.{Fits};
 ghost use Rattle.insert_laws.specs.Slots.{leading, isFull, wayUp, slotsNeeded};
-ghost use Rattle.insert.specs.Left.{Grows, Leaves, Upright};
-ghost use Rattle.insert.specs.State.{Inside, Here, Way, Leads, Beside, Ready, grownOf, Back, Risen};
+ghost use Rattle.insert.specs.Left.{GrewTo, Leaves, Upright};
+ghost use Rattle.insert.specs.State.{Inside, Here, WayDown, LeadsOn, Beside, Fitted, grownOf, Back, Risen};
+use free_slots::FreeSlots;
 use rules::Entry;
 use rules::FreeSlot;
 use rules::Pointer;
 use rules::Record;
 use rules::Rect;
 use rules::SlotNumber;
-use free_slots::FreeSlots;
 
 // What became of a node that an entry came to: it is one node still; it is two, and the partner's entry is for the parent; or there was no
 // free slot.
@@ -142,9 +142,9 @@ fn split_node(pool: &mut [i32], s: SlotNumber, e: Entry, t: SlotNumber) -> Entry
 
 // I2 and AT4: "A new entry goes last." A full node is split.
 fn install(pool: &mut [i32], s: SlotNumber, e: Entry, free: FreeSlots) -> Growth
-    requires { ⌜ Ready (now pool) free ⌝ }
+    requires { ⌜ Fitted (now pool) free ⌝ }
     requires { ⌜ Here (L.read (now pool)) s e ⌝ }
-    ensures { λ r. ⌜ Grows (I.install I.ours (L.read (now (pool .entry))) s e) r (now (pool .exit)) ⌝ }
+    ensures { λ r. ⌜ GrewTo (I.install I.ours (L.read (now (pool .entry))) s e) r (now (pool .exit)) ⌝ }
 {
     if pool::count_of(pool, s) < 8 {
         pool::add_entry(pool, s, e);
@@ -164,7 +164,7 @@ fn install(pool: &mut [i32], s: SlotNumber, e: Entry, free: FreeSlots) -> Growth
 // AT3: entry i of the node at s gets the smallest rectangle that holds its child's entries.
 fn tighten(pool: &mut [i32], s: SlotNumber, i: usize)
     requires { ⌜ Fit (now pool) ⌝ }
-    requires { ⌜ Leads (L.read (now pool)) s i ⌝ }
+    requires { ⌜ LeadsOn (L.read (now pool)) s i ⌝ }
     ensures is { λ _. ⌜ L.read (now (pool .exit)) ≡ P.tighten (L.read (now (pool .entry))) s i ⌝ }
     ensures fit { λ _. ⌜ Fit (now (pool .exit)) ⌝ }
 {
@@ -180,7 +180,7 @@ fn tighten(pool: &mut [i32], s: SlotNumber, i: usize)
 // "AdjustTree sets each path cover tight and adds the partner last in the parent.": at the parent s, whose entry i leads to the child.
 fn adjust(pool: &mut [i32], s: SlotNumber, i: usize, grown: Growth) -> Growth
     requires { ⌜ Back (now pool) s i grown ⌝ }
-    ensures { λ r. ⌜ Grows (I.adjust I.ours s i (grownOf (L.read (now (pool .entry))) grown)) r (now (pool .exit)) ⌝ }
+    ensures { λ r. ⌜ GrewTo (I.adjust I.ours s i (grownOf (L.read (now (pool .entry))) grown)) r (now (pool .exit)) ⌝ }
 {
     match grown {
         Growth::One(free) => {
@@ -197,9 +197,9 @@ fn adjust(pool: &mut [i32], s: SlotNumber, i: usize, grown: Growth) -> Growth
 
 // CL2 to CL4, then AT1 to AT5 on the way back: e goes into a node n levels below the node at s.
 fn insert_below(pool: &mut [i32], n: usize, s: SlotNumber, e: Entry, free: FreeSlots) -> Growth
-    requires { ⌜ Ready (now pool) free ⌝ }
-    requires { ⌜ Way (L.read (now pool)) n s e ⌝ }
-    ensures { λ r. ⌜ Grows (I.insertBelow I.ours n (L.read (now (pool .entry))) s e) r (now (pool .exit)) ⌝ }
+    requires { ⌜ Fitted (now pool) free ⌝ }
+    requires { ⌜ WayDown (L.read (now pool)) n s e ⌝ }
+    ensures { λ r. ⌜ GrewTo (I.insertBelow I.ours n (L.read (now (pool .entry))) s e) r (now (pool .exit)) ⌝ }
 {
     if n == 0 {
         return install(pool, s, e, free);
@@ -215,7 +215,7 @@ fn insert_below(pool: &mut [i32], n: usize, s: SlotNumber, e: Entry, free: FreeS
 
 // I4: "If the root splits, a new root takes the lowest free slot then left, with entries for old root and partner in that order."
 fn new_root(pool: &mut [i32], partner: Entry, free: FreeSlots) -> Outcome
-    requires { ⌜ Ready (now pool) free ⌝ }
+    requires { ⌜ Fitted (now pool) free ⌝ }
     requires { ⌜ Beside (L.read (now pool)) partner ⌝ }
     ensures { λ r. ⌜ Leaves (now (pool .entry)) (I.growTree (I.Split (L.read (now (pool .entry))) partner)) r (now (pool .exit)) ⌝ }
 {
@@ -265,8 +265,8 @@ fn one_if_full(pool: &[i32], s: SlotNumber) -> usize
 
 // With how many full nodes the way up begins: from the node that the entry goes into, n levels below the node at s, up to that.
 fn full_run(pool: &[i32], n: usize, s: SlotNumber, e: Entry) -> usize
-    requires { ⌜ L.rightLength (now pool) ≡ true ⌝ }
-    requires { ⌜ Way (L.read (now pool)) n s e ⌝ }
+    requires { ⌜ L.validLength (now pool) ≡ true ⌝ }
+    requires { ⌜ WayDown (L.read (now pool)) n s e ⌝ }
     ensures is { λ r. ⌜ r ≡ leading (isFull (L.read (now (pool .entry)))) (wayUp I.ours n (L.read (now (pool .entry))) s e) ⌝ }
     ensures most { λ r. ⌜ r ≤ suc n ⌝ }
 {
@@ -285,9 +285,9 @@ fn full_run(pool: &[i32], n: usize, s: SlotNumber, e: Entry) -> usize
 
 // "the run of full nodes from the chosen leaf upward, plus one if the run includes the root"
 fn needed(pool: &[i32], level: usize, e: Entry) -> usize
-    requires { ⌜ L.rightLength (now pool) ≡ true ⌝ }
+    requires { ⌜ L.validLength (now pool) ≡ true ⌝ }
     requires { ⌜ level ≤ L.read (now pool) .height ⌝ }
-    requires { ⌜ Way (L.read (now pool)) (L.read (now pool) .height - level) (L.read (now pool) .root) e ⌝ }
+    requires { ⌜ WayDown (L.read (now pool)) (L.read (now pool) .height - level) (L.read (now pool) .root) e ⌝ }
     ensures { λ r. ⌜ r ≡ slotsNeeded I.ours level (L.read (now (pool .entry))) e ⌝ }
 {
     let n = pool::height_of(pool) - level;
@@ -299,7 +299,7 @@ fn needed(pool: &[i32], level: usize, e: Entry) -> usize
 // Whether the free slots are fewer than it takes. No entry takes more than one for each level and one more, so where there are as many the
 // way is not looked at.
 fn too_few(pool: &[i32], level: usize, e: Entry, free: FreeSlots) -> bool
-    requires { ⌜ L.rightLength (now pool) ≡ true ⌝ }
+    requires { ⌜ L.validLength (now pool) ≡ true ⌝ }
     requires { ⌜ Upright (L.read (now pool)) ⌝ }
     requires { ⌜ (level ≤ L.read (now pool) .height) × (L.read (now pool) .height ≤ 64) ⌝ }
     requires { ⌜ Fits (L.read (now pool)) level e ⌝ }

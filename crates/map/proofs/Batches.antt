@@ -20,7 +20,7 @@ use Rattle.rules.specs.declared.Answer.{Answer}
 use Rattle.rules.specs.declared.Verdict.the-variants.{BadLists, BadLength, NotSound, NoRequest}
 use Rattle.rules.specs.Lists.{every}
 use Rattle.rules.specs.Numbers.{mostRequests}
-use Rattle.rules.specs.Layout.{rightLength, words, read}
+use Rattle.rules.specs.Layout.{validLength, words, read}
 use Rattle.rules.specs.Sound.{sound}
 use Rattle.rules.specs.Insert.{ours}
 use Rattle.rules.specs.Request.{Turn, asked, request}
@@ -45,7 +45,7 @@ use Rattle.map.proofs.Listed.{Placed, request-placed}
 pub record Fine (l : Lent) : Type 0 where
   pub many : length (l .requests) ≤ 1024
   pub answers : length (l .answers) ≡ length (l .requests)
-  pub right : rightLength (l .pool) ≡ true
+  pub right : validLength (l .pool) ≡ true
   pub workspace : length (l .workspace) ≡ length (l .pool)
   pub sound : sound (l .pool) ≡ true
   pub asked : every isRequest (l .requests) ≡ true
@@ -58,11 +58,11 @@ pub fine : (l : Lent) → callFault l ≡ none → Fine l
 unfolding callFault
 fine l h =
     let a = no-row (ltb mostRequests (length (l .requests)) || not (eqb (length (l .answers)) (length (l .requests)))) BadLists _ h in
-    let b = no-row (not (rightLength (l .pool)) || not (eqb (length (l .workspace)) (length (l .pool)))) BadLength _ (a .1) in
+    let b = no-row (not (validLength (l .pool)) || not (eqb (length (l .workspace)) (length (l .pool)))) BadLength _ (a .1) in
     let c = no-row (not (sound (l .pool))) NotSound _ (b .1) in
     let d = no-row (not (every isRequest (l .requests))) NoRequest _ (c .1) in
     let lists = neither (ltb mostRequests (length (l .requests))) (not (eqb (length (l .answers)) (length (l .requests)))) (a .0) in
-    let lengths = neither (not (rightLength (l .pool))) (not (eqb (length (l .workspace)) (length (l .pool)))) (b .0) in
+    let lengths = neither (not (validLength (l .pool))) (not (eqb (length (l .workspace)) (length (l .pool)))) (b .0) in
     record {
       many = ltb-false mostRequests (length (l .requests)) (lists .0);
       answers = eqb-true (length (l .answers)) (length (l .requests)) (not-false _ (lists .1));

@@ -17,7 +17,7 @@ use Rattle.rules.specs.Answers.{verdictNumber}
 use Rattle.rules.specs.Call.{Lent, Left, isRequest, callFault, refused, served}
 use Rattle.in_force_laws.proofs.Faults.{EachGiven, given-none, given-row}
 use Rattle.map.specs.Asking.{left, Allowed}
-use Rattle.map.specs.Batching.{numberOf, refusalOf, batchOf, Batched}
+use Rattle.map.specs.Batching.{faultNumber, refusalOf, batchOf, Batched}
 use Rattle.map.proofs.Refusals.{refusal-is, call-number, call-refused, call-served}
 
 -- ---- once
@@ -49,16 +49,16 @@ module _ (l : Lent) (all : Bool) (asked : all ≡ every isRequest (l .requests))
   same : z ≡ refusalOf (l .pool) (length (l .workspace)) (length (l .requests)) (length (l .answers)) (every isRequest (l .requests))
   same = is ∙ ap (refusalOf (l .pool) (length (l .workspace)) (length (l .requests)) (length (l .answers))) asked
 
-  number-is : z ≡ numberOf (callFault l)
+  number-is : z ≡ faultNumber (callFault l)
   number-is = same ∙ refusal-is l
 
   pub not-refused : callFault l ≡ none → not (eqb (ofZ w32 z) 0) ≡ false
-  unfolding numberOf
-  not-refused h = ap (λ (x : ℤ). not (eqb (ofZ w32 x) 0)) (number-is ∙ ap numberOf h)
+  unfolding faultNumber
+  not-refused h = ap (λ (x : ℤ). not (eqb (ofZ w32 x) 0)) (number-is ∙ ap faultNumber h)
 
   pub is-refused : (v : Verdict) → callFault l ≡ some v → not (eqb (ofZ w32 z) 0) ≡ true
-  unfolding numberOf
-  is-refused v h = ap (λ (x : ℤ). not (eqb (ofZ w32 x) 0)) (number-is ∙ ap numberOf h) ∙ subst (EachGiven Told) h (told l)
+  unfolding faultNumber
+  is-refused v h = ap (λ (x : ℤ). not (eqb (ofZ w32 x) 0)) (number-is ∙ ap faultNumber h) ∙ subst (EachGiven Told) h (told l)
 
   -- "A refused call returns its number and writes nothing at all."
   pub left-alone : (v : Verdict) → callFault l ≡ some v → Allowed l (left z (l .pool) (l .workspace) (l .answers) (l .found))

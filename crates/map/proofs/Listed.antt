@@ -16,7 +16,7 @@ use Rattle.rules.specs.declared.Reply.{Reply}
 use Rattle.rules.specs.declared.Reply.the-variants.{BadRectangle, NoRoom}
 use Rattle.rules.specs.Geometry.{valid}
 use Rattle.rules.specs.Pool.{Pool}
-use Rattle.rules.specs.Layout.{rightLength, read}
+use Rattle.rules.specs.Layout.{validLength, read}
 use Rattle.rules.specs.Sound.{sound}
 use Rattle.rules.specs.Search.{found, foundIn, opened}
 use Rattle.rules.specs.Insert.{Choice, Change, Done, NoneFree, insertRecord}
@@ -42,7 +42,7 @@ module _ (room long : ℕ) where
   after-none p (Done q) = record { places = omega arith; words = omega arith }
   after-none p NoneFree = record { places = omega arith; words = omega arith }
 
-module _ (w : List ℤ) (right : rightLength w ≡ true) (s : sound w ≡ true) where
+module _ (w : List ℤ) (right : validLength w ≡ true) (s : sound w ≡ true) where
   found-size : (window : Rect) → 2 * length (found (read w) window) ≤ length w
   unfolding found
   found-size window =

@@ -14,39 +14,39 @@ use Rattle.rules.specs.declared.Request.{Request}
 use Rattle.rules.specs.declared.Verdict.{Verdict}
 use Rattle.rules.specs.Numbers.{mostRequests}
 use Rattle.rules.specs.Lists.{every, same}
-use Rattle.rules.specs.Layout.{rightLength}
+use Rattle.rules.specs.Layout.{validLength}
 use Rattle.rules.specs.Sound.{sound}
 use Rattle.rules.specs.Answers.{row, firstRow, verdictNumber}
 use Rattle.rules.specs.Request.{asked}
 use Rattle.rules.specs.Call.{Lent, Left, call, callBy, callFault, refused, served, isRequest}
 use Rattle.map.specs.Asking.{nothingAsked}
-use Rattle.map.specs.Batching.{numberOf, refusalOf, batchOf}
+use Rattle.map.specs.Batching.{faultNumber, refusalOf, batchOf}
 
 module _ (w : List ℤ) (ws qs rs : ℕ) (all : Bool) where
   abbrev lists : Bool
   lists = ltb mostRequests qs || not (eqb rs qs)
 
   abbrev lengths : Bool
-  lengths = not (rightLength w) || not (eqb ws (length w))
+  lengths = not (validLength w) || not (eqb ws (length w))
 
   pub bad-lists : lists ≡ true → refusalOf w ws qs rs all ≡ pos 9
-  unfolding refusalOf firstRow numberOf verdictNumber
+  unfolding refusalOf firstRow faultNumber verdictNumber
   bad-lists a = rw (refusalOf, a)
 
   pub bad-length : lists ≡ false → lengths ≡ true → refusalOf w ws qs rs all ≡ pos 1
-  unfolding refusalOf firstRow numberOf verdictNumber
+  unfolding refusalOf firstRow faultNumber verdictNumber
   bad-length a b = rw (refusalOf, a, b)
 
   pub not-sound : lists ≡ false → lengths ≡ false → sound w ≡ false → refusalOf w ws qs rs all ≡ pos 2
-  unfolding refusalOf firstRow numberOf verdictNumber
+  unfolding refusalOf firstRow faultNumber verdictNumber
   not-sound a b c = rw (refusalOf, a, b, c)
 
   pub no-request : lists ≡ false → lengths ≡ false → sound w ≡ true → all ≡ false → refusalOf w ws qs rs all ≡ negsuc 0
-  unfolding refusalOf firstRow numberOf verdictNumber
+  unfolding refusalOf firstRow faultNumber verdictNumber
   no-request a b c d = rw (refusalOf, a, b, c, d)
 
   pub none-refuses : lists ≡ false → lengths ≡ false → sound w ≡ true → all ≡ true → refusalOf w ws qs rs all ≡ pos 0
-  unfolding refusalOf firstRow numberOf verdictNumber
+  unfolding refusalOf firstRow faultNumber verdictNumber
   none-refuses a b c d = rw (refusalOf, a, b, c, d)
 
 pub right-first : (a b : Bool) → (not a || not b) ≡ false → a ≡ true
@@ -54,7 +54,7 @@ right-first true b h = refl
 right-first false b h = sym h
 
 -- the number of a call, by the row that refuses it
-pub refusal-is : (l : Lent) → refusalOf (l .pool) (length (l .workspace)) (length (l .requests)) (length (l .answers)) (every isRequest (l .requests)) ≡ numberOf (callFault l)
+pub refusal-is : (l : Lent) → refusalOf (l .pool) (length (l .workspace)) (length (l .requests)) (length (l .answers)) (every isRequest (l .requests)) ≡ faultNumber (callFault l)
 unfolding refusalOf callFault
 refusal-is l = refl
 
@@ -68,12 +68,12 @@ unfolding call callBy batchOf
 call-served l h = rw (call, callBy, h)
 
 pub call-number : (l : Lent) → refusalOf (l .pool) (length (l .workspace)) (length (l .requests)) (length (l .answers)) (every isRequest (l .requests)) ≡ call l .number
-unfolding numberOf refused served verdictNumber
+unfolding faultNumber refused served verdictNumber
 call-number l = refusal-is l ∙ go (callFault l) refl
   where
-    go : (o : Option Verdict) → callFault l ≡ o → numberOf (callFault l) ≡ call l .number
-    go none h = ap numberOf h ∙ ap (λ (x : Left). x .number) (sym (call-served l h))
-    go (some v) h = ap numberOf h ∙ ap (λ (x : Left). x .number) (sym (call-refused l v h))
+    go : (o : Option Verdict) → callFault l ≡ o → faultNumber (callFault l) ≡ call l .number
+    go none h = ap faultNumber h ∙ ap (λ (x : Left). x .number) (sym (call-served l h))
+    go (some v) h = ap faultNumber h ∙ ap (λ (x : Left). x .number) (sym (call-refused l v h))
 
 pub check-number : (w : List ℤ) → refusalOf w (length w) 0 0 true ≡ call (nothingAsked w) .number
 unfolding every

@@ -12,7 +12,7 @@ use Rattle.rules.specs.declared.Answer.{Answer}
 use Rattle.rules.specs.declared.Verdict.{Verdict}
 use Rattle.rules.specs.declared.Verdict.the-variants.{BadLists, BadLength, NotSound, NoRequest}
 use Rattle.rules.specs.Numbers.{mostRequests}
-use Rattle.rules.specs.Layout.{rightLength, read, words}
+use Rattle.rules.specs.Layout.{validLength, read, words}
 use Rattle.rules.specs.Sound.{sound}
 use Rattle.rules.specs.Answers.{verdictNumber, row, firstRow}
 use Rattle.rules.specs.Insert.{ours}
@@ -23,16 +23,16 @@ use Rattle.map.specs.declared.Progress.{Progress}
 use Rattle.map.specs.declared.Stepped.{Stepped}
 
 -- the number that a call returns: of the row that refuses it, or 0
-unfoldable pub numberOf : Option Verdict → ℤ
-numberOf none = pos 0
-numberOf (some v) = verdictNumber v
+unfoldable pub faultNumber : Option Verdict → ℤ
+faultNumber none = pos 0
+faultNumber (some v) = verdictNumber v
 
 -- `callFault`, of the pool's words, of how long the other lists are, and of whether all that is asked is a request
 unfoldable pub refusalOf : List ℤ → ℕ → ℕ → ℕ → Bool → ℤ
 refusalOf pool workspace requests answers asked =
-    numberOf (firstRow (
+    faultNumber (firstRow (
     row (ltb mostRequests requests || not (eqb answers requests)) BadLists
-    ∷ row (not (rightLength pool) || not (eqb workspace (length pool))) BadLength
+    ∷ row (not (validLength pool) || not (eqb workspace (length pool))) BadLength
     ∷ row (not (sound pool)) NotSound
     ∷ row (not asked) NoRequest
     ∷ []))

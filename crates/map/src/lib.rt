@@ -14,11 +14,11 @@ ghost use Rattle.rules.specs.Call as C;
 ghost use Rattle.found_items.specs.Items.{itemsFrom, Pointing};
 ghost use Rattle.map.specs.Asking.{lent, left, nothingAsked, Allowed};
 ghost use Rattle.map.specs.Batching.{refusalOf, Begun, stepOf, batchOf, Batched};
+use free_slots::FreeSlots;
 use request::Served;
 use rules::Answer;
 use rules::Record;
 use rules::Request;
-use free_slots::FreeSlots;
 
 // How far a batch has come: the requests done, the places of the found list filled, and what is known of the free slots.
 struct Progress {
@@ -66,9 +66,9 @@ fn lists_fit(requests: usize, answers: usize) -> bool
 
 // False where 1 is given: "pool length wrong, or workspace length differs from the pool's".
 fn lengths_fit(pool: &[i32], workspace: usize) -> bool
-    ensures { λ r. ⌜ not r ≡ (not (L.rightLength (now (pool .entry))) || not (eqb workspace (length (now (pool .entry))))) ⌝ }
+    ensures { λ r. ⌜ not r ≡ (not (L.validLength (now (pool .entry))) || not (eqb workspace (length (now (pool .entry))))) ⌝ }
 {
-    if !free_slots::right_length(pool) {
+    if !free_slots::valid_length(pool) {
         return false;
     }
     workspace == pool.len()
@@ -139,7 +139,7 @@ fn carry(pool: &[i32], work: &[i32], n: usize, found: &mut [Record], at: usize)
 
 // No request is done: every slot may be the lowest that is free.
 fn begun(pool: &[i32]) -> Progress
-    requires { ⌜ L.rightLength (now pool) ≡ true ⌝ }
+    requires { ⌜ L.validLength (now pool) ≡ true ⌝ }
     ensures { λ r. ⌜ Begun (now (pool .entry)) r ⌝ }
 {
     let free = free_slots::free_slots(pool);

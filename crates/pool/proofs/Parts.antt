@@ -15,7 +15,7 @@ use Rattle.rules.specs.declared.Entry.{Entry}
 use Rattle.rules.specs.Geometry.{noRect}
 use Rattle.rules.specs.Choose.{rectFrom}
 use Rattle.rules.specs.Pool.{Node, Pool, rectangle, entry, noEntry, freeNode, nodeAt, entriesAt, entryFrom, entryAt, rects}
-use Rattle.rules.specs.Layout.{headSize, slotSize, slotCount, rightLength, natural, wordAt, runs, rectOf, entryOf, nodeOf, read, pointerOf}
+use Rattle.rules.specs.Layout.{headSize, slotSize, slotCount, validLength, natural, wordAt, runs, rectOf, entryOf, nodeOf, read, pointerOf}
 use Rattle.rules_laws.proofs.Bools.{and-both}
 use Rattle.rules_laws.proofs.Places.{getD-any}
 use Rattle.pool.specs.Slots.{InPool}
@@ -44,9 +44,9 @@ length-rects es = length-map es _
 
 -- ---- sizes
 
-module _ (w : List ℤ) (r : rightLength w ≡ true) where
+module _ (w : List ℤ) (r : validLength w ≡ true) where
   sized : (length w ≡ headSize + slotSize * slotCount w) × (1 ≤ slotCount w) × (slotCount w ≤ 4096)
-  unfolding rightLength
+  unfolding validLength
   sized =
       let a = and-both _ _ r in
       let b = and-both _ _ (a .0) in

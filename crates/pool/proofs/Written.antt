@@ -15,7 +15,7 @@ use Rattle.rules.specs.declared.Pointer.the-variants.{Number, Child}
 use Rattle.rules.specs.declared.Entry.{Entry}
 use Rattle.rules.specs.Lists.{joined}
 use Rattle.rules.specs.Pool.{Node, Pool, slot, number, node, noEntry, childOf, isLeaf, putNode, putRoot, putRecords}
-use Rattle.rules.specs.Layout.{slotCount, rightLength, pointerWord, entryWords, padded, nodeWords, headWords, words, natural, wordAt, runs, rectOf, pointerOf, entryOf, nodeOf, read}
+use Rattle.rules.specs.Layout.{slotCount, validLength, pointerWord, entryWords, padded, nodeWords, headWords, words, natural, wordAt, runs, rectOf, pointerOf, entryOf, nodeOf, read}
 use Rattle.rules_laws.proofs.Places.{Each}
 use Rattle.pool.specs.Slots.{InPool, Fit, KindAll}
 use Rattle.pool.proofs.Parts.{startOf, node-count, length-runs}
@@ -167,8 +167,8 @@ unfolding pointerWord natural
 child-word z = refl
 
 -- the length alone decides whether it is right
-pub right-same : (v w : List ℤ) → length v ≡ length w → rightLength w ≡ true → rightLength v ≡ true
-unfolding rightLength slotCount
+pub right-same : (v w : List ℤ) → length v ≡ length w → validLength w ≡ true → validLength v ≡ true
+unfolding validLength slotCount
 right-same v w e r = rw e r
 
 pub pointer-number : (l : ℕ) (z : ℤ) → eqb l 1 ≡ true → pointerOf l z ≡ Number (number z)

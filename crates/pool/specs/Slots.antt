@@ -1,4 +1,4 @@
--- Words of a right length, and a slot in them.
+-- Words of a valid length, and a slot in them.
 use mathlib.Core.Path.{_≡_}
 use mathlib.Core.Bool.{true, cond}
 use mathlib.Core.List.{List}
@@ -12,11 +12,11 @@ use Rattle.rules.specs.declared.Pointer.the-variants.{Number, Child}
 use Rattle.rules.specs.declared.Entry.{Entry}
 use Rattle.rules.specs.Numbers.{mostSlots}
 use Rattle.rules.specs.Pool.{noEntry}
-use Rattle.rules.specs.Layout.{rightLength, slotCount, words, read, pointerOf, pointerWord}
+use Rattle.rules.specs.Layout.{validLength, slotCount, words, read, pointerOf, pointerWord}
 
 -- "a slot from 1 to N"
 pub record InPool (w : List ℤ) (s : SlotNumber) : Type 0 where
-  pub right : rightLength w ≡ true
+  pub right : validLength w ≡ true
   pub low : 1 ≤ s .0
   pub high : s .0 ≤ slotCount w
 
@@ -26,7 +26,7 @@ spotOf s i = 10 + 42 * (s .0 - 1) + 5 * i
 
 -- the words are those of a pool, and nothing else
 pub record Fit (w : List ℤ) : Type 0 where
-  pub right : rightLength w ≡ true
+  pub right : validLength w ≡ true
   pub same : words (read w) ≡ w
 
 -- a slot number that a word holds

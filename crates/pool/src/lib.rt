@@ -1,5 +1,5 @@
 // The pool, word by word: the one place of the code that knows where a word stands. What is read is what the definition `read` reads, of
-// any words of a right length.
+// any words of a valid length.
 ghost use mathlib.Core.Path.{_≡_};
 ghost use mathlib.Core.Bool.{true, false};
 ghost use mathlib.Core.List.{[], _∷_, _++_};
@@ -233,21 +233,21 @@ pub fn put_entry_of(pool: &mut [i32], s: SlotNumber, i: usize, e: Entry)
 // ---- the head
 
 pub fn root_of(pool: &[i32]) -> SlotNumber
-    requires { ⌜ L.rightLength (now pool) ≡ true ⌝ }
+    requires { ⌜ L.validLength (now pool) ≡ true ⌝ }
     ensures { λ r. ⌜ r ≡ L.read (now (pool .entry)) .root ⌝ }
 {
     SlotNumber(number_at(pool, 1))
 }
 
 pub fn height_of(pool: &[i32]) -> usize
-    requires { ⌜ L.rightLength (now pool) ≡ true ⌝ }
+    requires { ⌜ L.validLength (now pool) ≡ true ⌝ }
     ensures { λ r. ⌜ r ≡ L.read (now (pool .entry)) .height ⌝ }
 {
     number_at(pool, 2)
 }
 
 pub fn records_of(pool: &[i32]) -> usize
-    requires { ⌜ L.rightLength (now pool) ≡ true ⌝ }
+    requires { ⌜ L.validLength (now pool) ≡ true ⌝ }
     ensures { λ r. ⌜ r ≡ L.read (now (pool .entry)) .records ⌝ }
 {
     number_at(pool, 3)

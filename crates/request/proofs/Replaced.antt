@@ -15,7 +15,7 @@ use Rattle.sound_laws.specs.Tree.{Whole}
 use Rattle.free_slots.specs.declared.FreeSlots.{FreeSlots}
 use Rattle.free_slots.specs.Known.{Known}
 use Rattle.delete_laws.proofs.Delete.{delete-whole}
-use Rattle.delete_laws.proofs.Update.{moved, update-done, update-none}
+use Rattle.delete_laws.proofs.Update.{renewed, update-done, update-none}
 use Rattle.insert.specs.declared.Outcome.{Outcome}
 use Rattle.insert.specs.declared.Outcome.the-variants.{Made, Refused}
 use Rattle.insert.specs.Left.{Leaves}
@@ -60,13 +60,13 @@ module _ (w : List ℤ) (whole : Whole (read w)) (old : Record) (new : Rect) whe
         }
         go NoneFree e k = absurd k
 
-    pub replace-made : (o : Outcome) (u : List ℤ) → length u ≡ length w → Leaves v (insertRecord ours (read v) (moved old new)) o u
+    pub replace-made : (o : Outcome) (u : List ℤ) → length u ≡ length w → Leaves v (insertRecord ours (read v) (renewed old new)) o u
         → Removes w (updateRecord ours (read w) old new) o u
     replace-made o u e l = go deletes refl half
       where
         go : (c : Change) → deletes ≡ c → Removes w c (Made g) v → Removes w (updateRecord ours (read w) old new) o u
         go (Done q) d k =
             subst (λ (c : Change). Removes w c o u)
-            (ap (λ (p : Pool). insertRecord ours p (moved old new)) (k .is) ∙ sym (update-done ours (read w) old new q d))
-            (leaves-removes w v u (insertRecord ours (read v) (moved old new)) o e l)
+            (ap (λ (p : Pool). insertRecord ours p (renewed old new)) (k .is) ∙ sym (update-done ours (read w) old new q d))
+            (leaves-removes w v u (insertRecord ours (read v) (renewed old new)) o e l)
         go NoneFree d k = absurd k

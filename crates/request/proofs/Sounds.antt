@@ -11,7 +11,7 @@ use Rattle.rules.specs.declared.SlotNumber.{SlotNumber}
 use Rattle.rules.specs.Lists.{same, those, total, upFrom}
 use Rattle.rules.specs.Numbers.{most}
 use Rattle.rules.specs.Pool.{Pool, nodeAt, entriesAt, slot, isLeaf, recordOf, stored, slotNumbers}
-use Rattle.rules.specs.Layout.{rightLength, slotCount, words, read, sameWords}
+use Rattle.rules.specs.Layout.{validLength, slotCount, words, read, sameWords}
 use Rattle.rules.specs.Sound.{nothingElse, soundPool, sound}
 use Rattle.rules.specs.Search.{foundIn}
 use Rattle.rules_laws.proofs.Bools.{and-both, both-and}
@@ -54,7 +54,7 @@ module _ (w : List ℤ) where
   parts h = and-both (nothingElse w) (soundPool (read w)) h
 
   -- sound words are those of the pool read from them, and the pool is whole
-  pub sound-fit : rightLength w ≡ true → sound w ≡ true → Fit w
+  pub sound-fit : validLength w ≡ true → sound w ≡ true → Fit w
   unfolding nothingElse
   sound-fit right h = record { right = right; same = same-words (words (read w)) w (parts h .0) }
 
@@ -67,7 +67,7 @@ module _ (w : List ℤ) where
       both-and (sameWords (words (read w)) w) (soundPool (read w))
       (subst (λ (v : List ℤ). sameWords (words (read w)) v ≡ true) (f .same) (words-same (words (read w)))) (whole-sound (read w) t)
 
-  pub low-tree : rightLength w ≡ true → Whole (read w) → read w .height ≤ 8
+  pub low-tree : validLength w ≡ true → Whole (read w) → read w .height ≤ 8
   low-tree right whole = height-eight (read w) whole (omega (arith, few-slots w right, read-slots w))
 
 -- ---- how many records there are
@@ -92,7 +92,7 @@ size-slots : (p : Pool) → length (slotNumbers p) ≡ length (p .slots)
 unfolding slotNumbers
 size-slots p = length-map (upFrom 1 (length (p .slots))) slot ∙ length-upFrom 1 (length (p .slots))
 
-module _ (w : List ℤ) (right : rightLength w ≡ true) where
+module _ (w : List ℤ) (right : validLength w ≡ true) where
   -- 8 for each slot at most
   pub stored-few : length (stored (read w)) ≤ 8 * slotCount w
   stored-few =

@@ -30,7 +30,7 @@ use Rattle.delete_laws.specs.Shrunk.{EachPool, roomFor, deleteRoom}
 use Rattle.delete_laws.proofs.Spare.{room-least}
 use Rattle.insert.specs.declared.Outcome.{Outcome}
 use Rattle.insert.specs.declared.Outcome.the-variants.{Made, Refused}
-use Rattle.insert.specs.Left.{Holds, Leaves}
+use Rattle.insert.specs.Left.{HoldsPool, Leaves}
 use Rattle.delete.specs.Removed.{Removes}
 use Rattle.request.specs.Serving.{Ready, Changes, ChangesTo, replied, came, TakenBack, enoughFor, otherHeld}
 use Rattle.rules_laws.proofs.Splits.{ours-lawful}
@@ -49,7 +49,7 @@ module _ (w : List ℤ) (f : FreeSlots) (r : Ready w f) where
   pub ready-whole : Whole (read w)
   ready-whole = sound-tree w (r .sound)
 
-held-ready : (q : Pool) (f : FreeSlots) (w : List ℤ) → Whole q → Holds q f w → Ready w f
+held-ready : (q : Pool) (f : FreeSlots) (w : List ℤ) → Whole q → HoldsPool q f w → Ready w f
 held-ready q f w t h = record {
   right = h .fit .right;
   sound = fit-sound w (h .fit) (subst Whole (sym (h .is)) t);
@@ -65,7 +65,7 @@ module _ (w : List ℤ) (f : FreeSlots) (r : Ready w f) where
 
 -- ---- changed
 
-made : (q : Pool) (g : FreeSlots) (v : List ℤ) (n : ℕ) → Whole q → Holds q g v → length v ≡ n
+made : (q : Pool) (g : FreeSlots) (v : List ℤ) (n : ℕ) → Whole q → HoldsPool q g v → length v ≡ n
     → Changes n (turn q Changed []) (replied Changed g) v
 unfolding replied
 made q g v n t h e = record { ready = held-ready q g v t h; pool = h .is; answer = refl; none = refl; listed = refl; same = e }
@@ -87,7 +87,7 @@ module _ (w : List ℤ) (f : FreeSlots) (r : Ready w f) where
         → Removes w change o v → (u : List ℤ) → length u ≡ length w → TakenBack o v kept u
         → Changes (length w) (afterChange (read w) change) (came o f) u
     unfolding afterChange came
-    removed (Done q) t enough (Made g) v h u e back = made q g u (length w) t (subst (Holds q g) (sym back) h) e
+    removed (Done q) t enough (Made g) v h u e back = made q g u (length w) t (subst (HoldsPool q g) (sym back) h) e
     removed (Done q) t enough Refused v h u e back = absurd h
     removed NoneFree t enough (Made g) v h u e back = absurd h
     removed NoneFree t enough Refused v h u e back = go (ltb (f .count) room) refl

@@ -14,7 +14,7 @@ use Rattle.rules.specs.declared.Reply.{Reply}
 use Rattle.rules.specs.declared.Reply.the-variants.{Changed, NoSlot}
 use Rattle.rules.specs.Geometry.{samePair}
 use Rattle.rules.specs.Pool.{Pool, held}
-use Rattle.rules.specs.Layout.{rightLength, read}
+use Rattle.rules.specs.Layout.{validLength, read}
 use Rattle.rules.specs.Sound.{sound}
 use Rattle.rules.specs.Answers.{answerOf}
 use Rattle.rules.specs.Insert.{ours}
@@ -29,7 +29,7 @@ use Rattle.request.specs.declared.Served.{Served}
 
 -- a sound pool, and what is known of its free slots
 pub record Ready (w : List ℤ) (f : FreeSlots) : Type 0 where
-  pub right : rightLength w ≡ true
+  pub right : validLength w ≡ true
   pub sound : sound w ≡ true
   pub known : Known (read w) f
 

@@ -17,11 +17,12 @@ ghost use Rattle.rules.specs.Call.{isRequest};
 ghost use Rattle.pool.specs.Slots.{Fit};
 ghost use Rattle.free_slots.specs.Known.{Known};
 ghost use Rattle.sound_laws.specs.Tree.{Whole};
-ghost use Rattle.find_leaf.specs.Ways.{Shows};
+ghost use Rattle.find_leaf.specs.Ways.{Gives};
 ghost use Rattle.delete.specs.Removed.{Removes};
 ghost use Rattle.request.specs.Serving.{Ready, Serves, ChangesTo, ServesTo, replied, came, TakenBack, enoughFor, otherHeld};
-use insert::Outcome;
 use find_leaf::Way;
+use free_slots::FreeSlots;
+use insert::Outcome;
 use rules::Answer;
 use rules::Asked;
 use rules::Record;
@@ -29,7 +30,6 @@ use rules::RecordNumber;
 use rules::Rect;
 use rules::Reply;
 use rules::Request;
-use free_slots::FreeSlots;
 
 // What a request came to: its answer, how many items wait in the workspace for the found list, and what is known of the free slots now.
 pub struct Served {
@@ -203,7 +203,7 @@ fn most_back(h: usize) -> usize
 // Whether free slots are so few that an update or a delete may be refused halfway: each entry put back takes a slot for each level and one
 // more at most, and the tree grows by a level at most.
 fn scarce(pool: &[i32], free: FreeSlots) -> bool
-    requires { ⌜ L.rightLength (now pool) ≡ true ⌝ }
+    requires { ⌜ L.validLength (now pool) ≡ true ⌝ }
     requires { ⌜ L.read (now pool) .height ≤ 8 ⌝ }
     ensures { λ r. ⌜ r ≡ ltb (free .count) (enoughFor (L.read (now (pool .entry)) .height)) ⌝ }
 {
@@ -243,7 +243,7 @@ fn replace(pool: &mut [i32], old: Record, new: Rect, way: Way, free: FreeSlots) 
     requires { ⌜ Whole (L.read (now pool)) ⌝ }
     requires { ⌜ Known (L.read (now pool)) free ⌝ }
     requires { ⌜ way .found ≡ true ⌝ }
-    requires { ⌜ Shows (D.findLeaf (L.read (now pool)) old (L.read (now pool) .height) (L.read (now pool) .root)) (L.read (now pool) .height) way ⌝ }
+    requires { ⌜ Gives (D.pathTo (L.read (now pool)) old) (L.read (now pool) .height) way ⌝ }
     requires { ⌜ (G.valid new ≡ true) × (N.goodNumber (old .number) ≡ true) ⌝ }
     ensures { λ o. ⌜ Removes (now (pool .entry)) (D.updateRecord I.ours (L.read (now (pool .entry))) old new) o (now (pool .exit)) ⌝ }
 {
@@ -256,7 +256,7 @@ fn replace(pool: &mut [i32], old: Record, new: Rect, way: Way, free: FreeSlots) 
 
 // 6: "update: new pair held and not the old pair".
 fn other_held(pool: &[i32], old: Record, new: Rect) -> bool
-    requires { ⌜ L.rightLength (now pool) ≡ true ⌝ }
+    requires { ⌜ L.validLength (now pool) ≡ true ⌝ }
     requires { ⌜ Whole (L.read (now pool)) ⌝ }
     ensures { λ r. ⌜ r ≡ otherHeld (L.read (now (pool .entry))) old new ⌝ }
 {

@@ -16,7 +16,7 @@ use Rattle.rules.specs.declared.Verdict.the-variants.{Served, BadLists, 
 use Rattle.rules.specs.Lists.{every}
 use Rattle.rules.specs.Numbers.{mostRequests}
 use Rattle.rules.specs.Pool.{Pool}
-use Rattle.rules.specs.Layout.{rightLength, words, read}
+use Rattle.rules.specs.Layout.{validLength, words, read}
 use Rattle.rules.specs.Sound.{sound}
 use Rattle.rules.specs.Insert.{Choice, ours}
 use Rattle.rules.specs.Answers.{answerOf, verdictNumber, row, firstRow}
@@ -76,7 +76,7 @@ unfoldable pub callFault : Lent → Option Verdict
 callFault l =
     firstRow (
     row (ltb mostRequests (length (l .requests)) || not (eqb (length (l .answers)) (length (l .requests)))) BadLists
-    ∷ row (not (rightLength (l .pool)) || not (eqb (length (l .workspace)) (length (l .pool)))) BadLength
+    ∷ row (not (validLength (l .pool)) || not (eqb (length (l .workspace)) (length (l .pool)))) BadLength
     ∷ row (not (sound (l .pool))) NotSound
     ∷ row (not (every isRequest (l .requests))) NoRequest
     ∷ [])

@@ -54,6 +54,10 @@ findLeaf p r zero s = none
 findLeaf p r (suc zero) s = findEntry r s 0 (entriesAt p s)
 findLeaf p r (suc (suc l)) s = findChild (λ t. findLeaf p r (suc l) t) (r .rect) s 0 (entriesAt p s)
 
+-- .. from the root on
+abbrev pub pathTo : Pool → Record → Option Path
+pathTo p r = findLeaf p r (p .height) (p .root)
+
 -- ---- CondenseTree
 
 -- an entry set aside, with the level of the node that it was in
@@ -114,7 +118,7 @@ module _ (c : Choice) where
   -- D1 to D4: a record goes out, and is counted off. (A pair that is not held changes nothing: Request.antt refuses it before)
   unfoldable pub deleteRecord : Pool → Record → Change
   deleteRecord p r =
-      elim (findLeaf p r (p .height) (p .root)) [
+      elim (pathTo p r) [
         | none ↦ Done p
         | some path ↦ putBack (condense (putRecords p (p .records - 1)) path)
       ]

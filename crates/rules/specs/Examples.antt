@@ -12,14 +12,14 @@ use Rattle.rules.specs.declared.Pointer.the-variants.{Number}
 use Rattle.rules.specs.declared.Request.{Request}
 use Rattle.rules.specs.declared.Answer.{Answer}
 use Rattle.rules.specs.Geometry.{meets, enlargement, waste}
-use Rattle.rules.specs.Pool.{Node, Pool, slot, number, entry, node, freeNode}
-use Rattle.rules.specs.Layout.{words, read}
+use Rattle.rules.specs.Pool.{Node, Pool, slot, number, entry, node, freeNode, noRecord}
+use Rattle.rules.specs.Layout.{words, read, blankWords}
 use Rattle.rules.specs.Choose.{chooseChild}
 use Rattle.rules.specs.Split.{quadraticGroups}
 use Rattle.rules.specs.Answers.{answer}
 use Rattle.rules.specs.Call.{Left}
 use Rattle.rules.specs.Computed.{document01}
-use Rattle.rules.specs.Histories.{box, insert, delete, search, blankWords, history, noRecord, shown}
+use Rattle.rules.specs.Histories.{box, insert, delete, search, history, shown}
 
 -- ---- the table's columns
 
@@ -67,12 +67,12 @@ abbrev inserts : ℕ → List Rect → List Request
 inserts n [] = []
 inserts n (r ∷ rs) = insert n r ∷ inserts (suc n) rs
 
-abbrev stored : ℕ → Rect → Entry
-stored n r = entry r (Number (number (pos n)))
+abbrev recordEntry : ℕ → Rect → Entry
+recordEntry n r = entry r (Number (number (pos n)))
 
 abbrev leaf : ℕ → List Rect → List Entry
 leaf n [] = []
-leaf n (r ∷ rs) = stored n r ∷ leaf (suc n) rs
+leaf n (r ∷ rs) = recordEntry n r ∷ leaf (suc n) rs
 
 -- example 9's records from a blank pool of three slots, and then some requests, with `places` places in the found list
 abbrev then : ℕ → List Request → Left

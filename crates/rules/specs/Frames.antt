@@ -11,9 +11,9 @@ use Rattle.rules.specs.declared.Record.{Record}
 use Rattle.rules.specs.declared.Request.{Request}
 use Rattle.rules.specs.declared.Answer.{Answer}
 use Rattle.rules.specs.Lists.{joined}
-use Rattle.rules.specs.Pool.{number, rectangle}
+use Rattle.rules.specs.Pool.{number, rectangle, noRecord}
 use Rattle.rules.specs.Geometry.{noRect}
-use Rattle.rules.specs.Layout.{headSize, slotSize, wordAt, blank}
+use Rattle.rules.specs.Layout.{wordAt, blankWords}
 use Rattle.rules.specs.Answers.{row, firstRow, answer}
 use Rattle.rules.specs.Call.{Left, call}
 
@@ -44,17 +44,17 @@ pub record Frame : Type 0 where
   pub kind : ℕ
   pub body : List ℕ
 
--- what stands where the bytes begin: nothing more, a whole frame with the bytes behind it, or a frame that is cut
+-- what stands where the bytes begin: nothing more, a whole frame with the bytes after it, or a frame that is cut
 pub data Next : Type 0 where
   Ended : Next
-  Whole : Frame → List ℕ → Next
+  Complete : Frame → List ℕ → Next
   Cut : Next
 
 -- "two bytes length of what follows, two bytes kind". A length that has no room for a kind makes no frame
 unfoldable pub frameOf : ℕ → List ℕ → Next
 frameOf n bs =
     elim (leb 2 n && leb n (length bs)) [
-      | true ↦ Whole (record { kind = pairValue (take 2 bs); body = take (n - 2) (drop 2 bs) }) (drop n bs)
+      | true ↦ Complete (record { kind = pairValue (take 2 bs); body = take (n - 2) (drop 2 bs) }) (drop n bs)
       | false ↦ Cut
     ]
 
@@ -88,10 +88,10 @@ frameRequest f =
 
 -- ---- lines
 
--- the decimal digits of a number below 10 ^ k, in front of `behind`
+-- the decimal digits of a number below 10 ^ k, in front of `after`
 unfoldable pub digits : ℕ → ℕ → List ℕ → List ℕ
-digits zero n behind = behind
-digits (suc k) n behind = elim (ltb n 10) [ true ↦ (48 + n) ∷ behind | false ↦ digits k (n / 10) ((48 + n % 10) ∷ behind) ]
+digits zero n after = after
+digits (suc k) n after = elim (ltb n 10) [ true ↦ (48 + n) ∷ after | false ↦ digits k (n / 10) ((48 + n % 10) ∷ after) ]
 
 unfoldable pub natShown : ℕ → List ℕ
 natShown n = digits 20 n []
@@ -135,7 +135,7 @@ frameCall pool q =
       workspace = pool;
       requests = q ∷ [];
       answers = answer 0 0 0 0 ∷ [];
-      found = replicate 64 (record { number = number (pos 0); rect = noRect });
+      found = replicate 64 noRecord;
     })
 
 -- the lines of a call, and then what is printed after it with the pool that it left
@@ -150,13 +150,13 @@ printed (suc n) place pool bs =
     elim (nextFrame bs) [
       | Ended ↦ []
       | Cut ↦ badLine place
-      | Whole f behind ↦ elim (frameRequest f) [
+      | Complete f after ↦ elim (frameRequest f) [
         | none ↦ badLine place
-        | some q ↦ callPrinted place (frameCall pool q) (λ left. printed n (suc place) left behind)
+        | some q ↦ callPrinted place (frameCall pool q) (λ left. printed n (suc place) left after)
       ]
     ]
 
 -- "It reads frames from standard input into a 128-slot pool (5,384 words)"; "empty input prints nothing". There are no more frames than
 -- bytes
 unfoldable pub dustmap : List ℕ → List ℕ
-dustmap bs = printed (length bs) 1 (blank (replicate (headSize + slotSize * 128) (pos 0)) .pool) bs
+dustmap bs = printed (length bs) 1 (blankWords 128) bs

@@ -3,15 +3,14 @@ pub mod Mixed
 pub mod TwoLevels
 pub mod DeleteRefused
 use mathlib.Core.List.{List, _++_, map}
-use Prim.Native.Nat.{ℕ, _+_, _*_}
+use Prim.Native.Nat.{ℕ}
 use lib.ListN.{length, take, replicate}
 use lib.IntN.{ℤ, pos, negℤ}
 use Rattle.rules.specs.declared.Rect.{Rect}
 use Rattle.rules.specs.declared.Record.{Record}
 use Rattle.rules.specs.declared.Request.{Request}
-use Rattle.rules.specs.Pool.{number, rectangle}
+use Rattle.rules.specs.Pool.{number, rectangle, noRecord}
 use Rattle.rules.specs.Geometry.{noRect}
-use Rattle.rules.specs.Layout.{headSize, slotSize, blank}
 use Rattle.rules.specs.Answers.{answer}
 use Rattle.rules.specs.Call.{Left, call}
 
@@ -40,13 +39,6 @@ abbrev pub search : Rect → Request
 search window = asking 4 (pos 0) window noRect
 
 -- ---- histories
-
-abbrev pub noRecord : Record
-noRecord = record { number = number (pos 0); rect = noRect }
-
--- a blank pool of n slots
-abbrev pub blankWords : ℕ → List ℤ
-blankWords n = blank (replicate (headSize + slotSize * n) (pos 0)) .pool
 
 -- the requests in one call, with `places` places in the found list
 abbrev pub history : List ℤ → ℕ → List Request → Left

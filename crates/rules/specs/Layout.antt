@@ -6,6 +6,7 @@ use lib.ListN.{length, getD, take, drop, replicate}
 use lib.Dec.{leb, eqb}
 use lib.IntN.{ℤ, pos, negsuc}
 use Rattle.rules.specs.declared.Rect.{Rect}
+use Rattle.rules.specs.declared.SlotNumber.{SlotNumber}
 use Rattle.rules.specs.declared.Pointer.{Pointer}
 use Rattle.rules.specs.declared.Pointer.the-variants.{Number, Child}
 use Rattle.rules.specs.declared.Entry.{Entry}
@@ -13,24 +14,65 @@ use Rattle.rules.specs.Lists.{joined, same}
 use Rattle.rules.specs.Numbers.{most, mostSlots}
 use Rattle.rules.specs.Pool.{Node, Pool, slot, number, rectangle, entry, node, blankPool}
 
--- ---- sizes: "Head" of 8 words; "Slot s (from 1) takes 42 words .. level, count, then 8 entries of five words"
+-- ---- sizes
 
+-- "Head: word 0 edition, 1; word 1 root slot; word 2 height; word 3 number of records; words 4 to 7 zero."
 abbrev pub headSize : ℕ
 headSize = 8
 
+abbrev pub edition : ℕ
+edition = 1
+
+abbrev pub rootPlace : ℕ
+rootPlace = 1
+
+abbrev pub heightPlace : ℕ
+heightPlace = 2
+
+abbrev pub recordsPlace : ℕ
+recordsPlace = 3
+
+-- "8 entries of five words: low x, low y, high x, high y, pointer"
+abbrev pub rectSize : ℕ
+rectSize = 4
+
 abbrev pub entrySize : ℕ
-entrySize = 5
+entrySize = rectSize + 1
+
+-- "level, count, then 8 entries"
+abbrev pub slotHead : ℕ
+slotHead = 2
 
 abbrev pub slotSize : ℕ
-slotSize = 2 + most * entrySize
+slotSize = slotHead + most * entrySize
 
--- how many slots fit behind the head
+-- how many slots fit after the head
 unfoldable pub slotCount : List ℤ → ℕ
 slotCount w = (length w - headSize) / slotSize
 
 -- "A pool is 8 + 42N signed 32-bit words", N from 1 to 4,096
-unfoldable pub rightLength : List ℤ → Bool
-rightLength w = eqb (length w) (headSize + slotSize * slotCount w) && leb 1 (slotCount w) && leb (slotCount w) mostSlots
+unfoldable pub validLength : List ℤ → Bool
+validLength w = eqb (length w) (headSize + slotSize * slotCount w) && leb 1 (slotCount w) && leb (slotCount w) mostSlots
+
+-- ---- places, the first word being 0
+
+-- "Slot s (from 1) takes 42 words from word 8 + 42(s - 1)"
+abbrev pub slotStart : SlotNumber → ℕ
+slotStart s = headSize + slotSize * (s .0 - 1)
+
+-- "level, count, then 8 entries"
+abbrev pub levelPlace : SlotNumber → ℕ
+levelPlace s = slotStart s
+
+abbrev pub countPlace : SlotNumber → ℕ
+countPlace s = slotStart s + 1
+
+-- where the words of the entry at place i, from 0, begin, and where its pointer stands
+abbrev pub entryPlace : SlotNumber → ℕ → ℕ
+entryPlace s i = slotStart s + slotHead + entrySize * i
+
+abbrev pub pointerPlace : SlotNumber → ℕ → ℕ
+pointerPlace s i = entryPlace s i + rectSize
 
 -- ---- written
 
@@ -42,7 +84,7 @@ pointerWord (Child s) = pos (s .0)
 unfoldable pub entryWords : Entry → List ℤ
 entryWords e = e .rect .lowX ∷ e .rect .lowY ∷ e .rect .highX ∷ e .rect .highY ∷ pointerWord (e .pointer) ∷ []
 
--- n words, zero behind those given: "unused entries .. are all zero"
+-- n words, zero after those given: "unused entries .. are all zero"
 unfoldable pub padded : ℕ → List ℤ → List ℤ
 padded n ws = take n (ws ++ replicate n (pos 0))
 
@@ -51,7 +93,7 @@ nodeWords n = pos (n .level) ∷ pos (length (n .entries)) ∷ padded (most * en
 
 -- "word 0 edition, 1; word 1 root slot; word 2 height; word 3 number of records; words 4 to 7 zero"
 unfoldable pub headWords : Pool → List ℤ
-headWords p = padded headSize (pos 1 ∷ pos (p .root .0) ∷ pos (p .height) ∷ pos (p .records) ∷ [])
+headWords p = padded headSize (pos edition ∷ pos (p .root .0) ∷ pos (p .height) ∷ pos (p .records) ∷ [])
 
 unfoldable pub words : Pool → List ℤ
 words p = headWords p ++ joined (map nodeWords (p .slots))
@@ -66,7 +108,7 @@ natural (negsuc n) = 0
 unfoldable pub wordAt : List ℤ → ℕ → ℤ
 wordAt ws i = getD ws i (pos 0)
 
--- n runs of a width, one behind the other
+-- n runs of a width, one after another
 unfoldable pub runs : ℕ → ℕ → List ℤ → List (List ℤ)
 runs width zero ws = []
 runs width (suc n) ws = take width ws ∷ runs width n (drop width ws)
@@ -80,20 +122,20 @@ unfoldable pub rectOf : List ℤ → Rect
 rectOf ws = rectangle (wordAt ws 0) (wordAt ws 1) (wordAt ws 2) (wordAt ws 3)
 
 unfoldable pub entryOf : ℕ → List ℤ → Entry
-entryOf level ws = entry (rectOf ws) (pointerOf level (wordAt ws 4))
+entryOf level ws = entry (rectOf ws) (pointerOf level (wordAt ws rectSize))
 
 -- a node from its 42 words: as many of the 8 entries as the count says
 unfoldable pub nodeOf : List ℤ → Node
 nodeOf ws =
     node (natural (wordAt ws 0))
-    (map (entryOf (natural (wordAt ws 0))) (take (natural (wordAt ws 1)) (runs entrySize most (drop 2 ws))))
+    (map (entryOf (natural (wordAt ws 0))) (take (natural (wordAt ws 1)) (runs entrySize most (drop slotHead ws))))
 
 unfoldable pub read : List ℤ → Pool
 read w =
     record {
-      root = slot (natural (wordAt w 1));
-      height = natural (wordAt w 2);
-      records = natural (wordAt w 3);
+      root = slot (natural (wordAt w rootPlace));
+      height = natural (wordAt w heightPlace);
+      records = natural (wordAt w recordsPlace);
       slots = map nodeOf (runs slotSize (slotCount w) (drop headSize w));
     }
 
@@ -113,7 +155,11 @@ pub record Blanked : Type 0 where
 
 unfoldable pub blank : List ℤ → Blanked
 blank w =
-    elim (rightLength w) [
+    elim (validLength w) [
       | true ↦ record { number = 0; pool = words (blankPool (slotCount w - 1)) }
       | false ↦ record { number = 1; pool = w }
     ]
+
+-- a blank pool of n slots
+abbrev pub blankWords : ℕ → List ℤ
+blankWords n = blank (replicate (headSize + slotSize * n) (pos 0)) .pool

@@ -21,7 +21,7 @@ module _ {A : Type 0} where
   oneOf p [] = false
   oneOf p (x ∷ xs) = p x || oneOf p xs
 
-  -- the lists one behind the other
+  -- the lists, one after another
   unfoldable pub joined : List (List A) → List A
   joined [] = []
   joined (l ∷ ls) = l ++ joined ls

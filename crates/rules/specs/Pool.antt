@@ -46,6 +46,10 @@ entry r p = record { rect = r; pointer = p }
 abbrev pub noEntry : Entry
 noEntry = entry noRect (Child (slot 0))
 
+-- a place of the found list before anything is found
+abbrev pub noRecord : Record
+noRecord = record { number = number (pos 0); rect = noRect }
+
 abbrev pub node : ℕ → List Entry → Node
 node l es = record { level = l; entries = es }
 
@@ -127,7 +131,7 @@ freeCount p = length (those (λ (n : Node). eqb (n .level) 0) (p .slots))
 unfoldable pub putNode : Pool → SlotNumber → Node → Pool
 putNode p s n = record { root = p .root; height = p .height; records = p .records; slots = set (p .slots) (s .0 - 1) n }
 
--- the entries of a node anew, at the level that it has
+-- other entries in a node, at the level that it has
 unfoldable pub putEntries : Pool → SlotNumber → List Entry → Pool
 putEntries p s es = putNode p s (node (nodeAt p s .level) es)
 

@@ -44,9 +44,13 @@ unfoldable pub ordered : List Record → List Record
 ordered [] = []
 ordered (r ∷ rs) = placed r (ordered rs)
 
--- "The root is always opened."
-unfoldable pub found : Pool → Rect → List Record
-found p window = ordered (foundIn p window (p .height) (p .root))
+-- what is found from the root on, in the order in which search comes to it
+abbrev pub foundFromRoot : Pool → Rect → List Record
+foundFromRoot p window = foundIn p window (p .height) (p .root)
 
+unfoldable pub found : Pool → Rect → List Record
+found p window = ordered (foundFromRoot p window)
+
+-- "The root is always opened."
 unfoldable pub opened : Pool → Rect → ℕ
 opened p window = openedIn p window (p .height) (p .root)

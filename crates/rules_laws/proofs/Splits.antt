@@ -68,9 +68,9 @@ parting-length {whole} {n} {g} s = omega (arith, simp those-all at (s .each (λ 
 flip : Groups → Groups
 flip g = record { one = g .two; two = g .one; left = g .left }
 
-flipped : {whole : List ℕ} {n : ℕ} {g : Groups} → Parting whole n g → Parting whole n (flip g)
+parting-flipped : {whole : List ℕ} {n : ℕ} {g : Groups} → Parting whole n g → Parting whole n (flip g)
 unfolding flip
-flipped s = record {
+parting-flipped s = record {
   each = λ p. omega (arith, s .each p);
   many = s .many;
   some-one = s .some-two;
@@ -110,7 +110,7 @@ module _ (whole : List ℕ) (once : (i : ℕ) → length (those (is i) whole) �
   pub join-two : {n : ℕ} {g : Groups} → Parting whole (suc n) g → (i : ℕ) → Among i (g .left) → least < length (g .one) + length (g .left)
       → Parting whole n (joinTwo i g)
   unfolding joinOne joinTwo flip
-  join-two s i m more = flipped (join-one (flipped s) i m more)
+  join-two s i m more = parting-flipped (join-one (parting-flipped s) i m more)
 
   pub all-join-one : {n : ℕ} {g : Groups} → Parting whole (suc n) g → needsAll (g .one) (g .left) ≡ true → Parting whole 0 (allJoinOne g)
   unfolding allJoinOne needsAll
@@ -128,7 +128,7 @@ module _ (whole : List ℕ) (once : (i : ℕ) → length (those (is i) whole) �
 
   pub all-join-two : {n : ℕ} {g : Groups} → Parting whole (suc n) g → needsAll (g .two) (g .left) ≡ true → Parting whole 0 (allJoinTwo g)
   unfolding allJoinOne allJoinTwo flip
-  all-join-two s h = flipped (all-join-one (flipped s) h)
+  all-join-two s h = parting-flipped (all-join-one (parting-flipped s) h)
 
   module _ (next : Groups → ℕ) (member : (g : Groups) → 0 < length (g .left) → Among (next g) (g .left)) (toTwo : Groups → ℕ → Bool) where
     pub distribute-parting : (n : ℕ) (g : Groups) → Parting whole n g → Parting whole 0 (distribute next toTwo n g)

@@ -13,7 +13,7 @@ use Rattle.rules.specs.declared.Pointer.{Pointer}
 use Rattle.rules.specs.declared.Pointer.the-variants.{Number, Child}
 use Rattle.rules.specs.declared.Entry.{Entry}
 use Rattle.rules.specs.Pool.{Node, Pool, slot, number, freeNode, nodeAt, entriesAt, childOf, numberOf}
-use Rattle.rules.specs.Layout.{rightLength, slotCount, read}
+use Rattle.rules.specs.Layout.{validLength, slotCount, read}
 use Rattle.pool.specs.Slots.{InPool}
 use Rattle.pool.proofs.Parts.{slot-few}
 use Rattle.pool.proofs.Written.{read-slots}
@@ -28,21 +28,21 @@ unfolding entriesAt nodeAt
 none-beyond w s h = ap (λ (n : Node). n .entries) (List·getD-eq-default (read w .slots) freeNode (omega (arith, read-slots w)))
 
 -- where an entry stands, there is a slot
-pub some-within : (w : List ℤ) (s : SlotNumber) (i : ℕ) → rightLength w ≡ true → 1 ≤ s .0 → i < length (entriesAt (read w) s) → InPool w s
+pub some-within : (w : List ℤ) (s : SlotNumber) (i : ℕ) → validLength w ≡ true → 1 ≤ s .0 → i < length (entriesAt (read w) s) → InPool w s
 some-within w s i r l h = record { right = r; low = l; high = go (decLe (s .0) (slotCount w)) }
   where
     go : Dec (s .0 ≤ slotCount w) → s .0 ≤ slotCount w
     go (yes q) = q
     go (no q) = absurd (omega (arith, ap length (none-beyond w s (omega arith))))
 
-pub few-entries : (w : List ℤ) (s : SlotNumber) → rightLength w ≡ true → 1 ≤ s .0 → length (entriesAt (read w) s) ≤ 8
+pub few-entries : (w : List ℤ) (s : SlotNumber) → validLength w ≡ true → 1 ≤ s .0 → length (entriesAt (read w) s) ≤ 8
 few-entries w s r l = go (decLe (s .0) (slotCount w))
   where
     go : Dec (s .0 ≤ slotCount w) → length (entriesAt (read w) s) ≤ 8
     go (yes q) = slot-few (record { right = r; low = l; high = q })
     go (no q) = omega (arith, ap length (none-beyond w s (omega arith)))
 
-pub most-entries : (w : List ℤ) → rightLength w ≡ true → (s : SlotNumber) → length (entriesAt (read w) s) ≤ 8
+pub most-entries : (w : List ℤ) → validLength w ≡ true → (s : SlotNumber) → length (entriesAt (read w) s) ≤ 8
 most-entries w r s = go (decLe 1 (s .0))
   where
     go : Dec (1 ≤ s .0) → length (entriesAt (read w) s) ≤ 8

@@ -13,7 +13,7 @@ use Rattle.rules.specs.declared.SlotNumber.{SlotNumber}
 use Rattle.rules.specs.declared.RecordNumber.{RecordNumber}
 use Rattle.rules.specs.declared.Record.{Record}
 use Rattle.rules.specs.Pool.{Pool, entriesAt, entryAt, numberOf, recordOf}
-use Rattle.rules.specs.Layout.{rightLength, rectOf, read}
+use Rattle.rules.specs.Layout.{validLength, rectOf, read}
 use Rattle.rules.specs.Search.{foundIn, openedIn, opened}
 use Rattle.pool.specs.Slots.{InPool, spotOf}
 use Rattle.pool.proofs.Parts.{slot-few}
@@ -21,7 +21,7 @@ use Rattle.pool.proofs.Stores.{spot-inside, spot-entry}
 use Rattle.found_items.specs.Items.{spotAt, itemsFrom, Pointing}
 use Rattle.found_items.proofs.Words.{SameItems, put-before, spot-put, item-put, items-none, items-one, items-append, items-same, pointing-none, pointing-same, pointing-append}
 use Rattle.search.specs.declared.Walked.{Walked}
-use Rattle.search.specs.Walk.{Room, Went}
+use Rattle.search.specs.Walk.{ItemRoom, Went}
 use Rattle.search.proofs.Walks.{opened-most}
 
 abbrev pub walked : ℕ → ℕ → Walked
@@ -29,7 +29,7 @@ walked next opened = record { next = next; opened = opened }
 
 -- ---- what is found and opened, said otherwise
 
-pub room-same : {items : List ℤ} {a : Walked} {rs ts : List Record} {m n : ℕ} → rs ≡ ts → m ≡ n → Room items a rs m → Room items a ts n
+pub room-same : {items : List ℤ} {a : Walked} {rs ts : List Record} {m n : ℕ} → rs ≡ ts → m ≡ n → ItemRoom items a rs m → ItemRoom items a ts n
 room-same {a = a} d e r = record { room = omega (arith, ap length d, r .room); opened = omega (arith, e, r .opened) }
 
 pub went-same : {pool u v : List ℤ} {a b : Walked} {rs ts : List Record} {m n : ℕ} → rs ≡ ts → m ≡ n → Went pool u v a b rs m → Went pool u v a b ts n
@@ -51,11 +51,11 @@ went-none pool u a rs n d e =
 
 -- ---- one walk behind another
 
-pub room-first : {u : List ℤ} {a : Walked} {all : List Record} {both : ℕ} (rs ts : List Record) (m n : ℕ) → all ≡ rs ++ ts → both ≡ m + n → Room u a all both → Room u a rs m
+pub room-first : {u : List ℤ} {a : Walked} {all : List Record} {both : ℕ} (rs ts : List Record) (m n : ℕ) → all ≡ rs ++ ts → both ≡ m + n → ItemRoom u a all both → ItemRoom u a rs m
 room-first rs ts m n d e r = record { room = omega (arith, ap length d, length-append rs ts, r .room); opened = omega (arith, e, r .opened) }
 
-pub room-rest : {pool u v : List ℤ} {a b : Walked} {rs ts all : List Record} {m n both : ℕ} → all ≡ rs ++ ts → both ≡ m + n → Room u a all both
-    → Went pool u v a b rs m → Room v b ts n
+pub room-rest : {pool u v : List ℤ} {a b : Walked} {rs ts all : List Record} {m n both : ℕ} → all ≡ rs ++ ts → both ≡ m + n → ItemRoom u a all both
+    → Went pool u v a b rs m → ItemRoom v b ts n
 room-rest {rs = rs} {ts = ts} d e r w = record {
   room = omega (arith, ap length d, length-append rs ts, r .room, w .next, w .long);
   opened = omega (arith, e, r .opened, w .opened);
@@ -86,7 +86,7 @@ went-both {pool} {u} {v} {x} {a} {b} {c} {rs} {ts} {all} {m} {n} {both} d e h k 
 
 -- ---- a node opened
 
-pub room-opens : {items : List ℤ} {a : Walked} {rs : List Record} {n : ℕ} → Room items a rs (1 + n) → Room items a rs n
+pub room-opens : {items : List ℤ} {a : Walked} {rs : List Record} {n : ℕ} → ItemRoom items a rs (1 + n) → ItemRoom items a rs n
 room-opens r = record { room = r .room; opened = omega (arith, r .opened) }
 
 pub went-opens : {pool u v : List ℤ} {a b : Walked} {rs : List Record} {n : ℕ} → Went pool u v a b rs n → Went pool u v a (walked (b .next) (b .opened + 1)) rs (1 + n)
@@ -125,7 +125,7 @@ module _ {w : List ℤ} {s : SlotNumber} (u : List ℤ) (p : InPool w s) (i : �
   }
 
 pub went-one : {w u : List ℤ} {s : SlotNumber} {a : Walked} (p : InPool w s) (i : ℕ) → i < length (entriesAt (read w) s)
-    → Room u a (recordOf (entryAt (read w) s i) ∷ []) 0
+    → ItemRoom u a (recordOf (entryAt (read w) s i) ∷ []) 0
     → (v : List ℤ) (z : RecordNumber) (at : ℕ) → z ≡ numberOf (entryAt (read w) s i) → at ≡ spotOf s i → v ≡ sets u (2 * a .next) (z .0 ∷ pos at ∷ [])
     → Went w u v a (walked (a .next + 1) (a .opened)) (recordOf (entryAt (read w) s i) ∷ []) 0
 went-one {w} {u} {s} {a} p i h room v z at d e f =
@@ -145,7 +145,7 @@ went-one {w} {u} {s} {a} p i h room v z at d e f =
 
 -- ---- from the root on
 
-module _ (w : List ℤ) (window : Rect) (right : rightLength w ≡ true) (h : ℕ) (s : SlotNumber) (low : read w .height ≤ 8) (d : h ≡ read w .height) (e : s ≡ read w .root) where
+module _ (w : List ℤ) (window : Rect) (right : validLength w ≡ true) (h : ℕ) (s : SlotNumber) (low : read w .height ≤ 8) (d : h ≡ read w .height) (e : s ≡ read w .root) where
   abbrev all : List Record
   all = foundIn (read w) window (read w .height) (read w .root)
 
@@ -156,7 +156,7 @@ module _ (w : List ℤ) (window : Rect) (right : rightLength w ≡ true) (h : �
   unfolding opened
   same-opened = ap₂ (openedIn (read w) window) d e
 
-  pub top-room : (u : List ℤ) → 2 * length all ≤ length u → Room u (walked 0 0) (foundIn (read w) window h s) (openedIn (read w) window h s)
+  pub top-room : (u : List ℤ) → 2 * length all ≤ length u → ItemRoom u (walked 0 0) (foundIn (read w) window h s) (openedIn (read w) window h s)
   top-room u g = record {
     room = omega (arith, ap length same-found);
     opened = omega (arith, opened-most w right window h s (omega arith));

@@ -17,7 +17,7 @@ use Rattle.rules.specs.Lists.{those, joined, total}
 use Rattle.rules.specs.Geometry.{meets}
 use Rattle.rules.specs.Choose.{rectFrom}
 use Rattle.rules.specs.Pool.{Pool, rects, noEntry, entriesAt, entryFrom, entryAt, childOf, recordOf}
-use Rattle.rules.specs.Layout.{rightLength, read}
+use Rattle.rules.specs.Layout.{validLength, read}
 use Rattle.rules.specs.Search.{meeting, foundIn, openedIn}
 use Rattle.pool.proofs.Parts.{rect-entry}
 use Rattle.search_laws.proofs.Lists.{total-those}
@@ -202,7 +202,7 @@ nine-some (suc l) = omega (arith, pow-suc 9 l, nine-some l)
 nine-most : (l : ℕ) → l ≤ 8 → 9 ^ l ≤ 43046721
 nine-most l h = pow-le-pow-right {n = 9} (omega arith) h
 
-module _ (w : List ℤ) (r : rightLength w ≡ true) (window : Rect) where
+module _ (w : List ℤ) (r : validLength w ≡ true) (window : Rect) where
   opened-power : (l : ℕ) (s : SlotNumber) → openedIn (read w) window l s ≤ 9 ^ l
   opened-power zero s = omega (arith, opened-none (read w) window s)
   opened-power (suc zero) s = omega (arith, opened-leaf (read w) window s, pow-suc 9 0)

@@ -11,7 +11,7 @@ use Rattle.found_items.specs.Items.{itemsFrom, Pointing}
 use Rattle.search.specs.declared.Walked.{Walked}
 
 -- the items have room, and the count stays below what 8 levels can open
-pub record Room (items : List ℤ) (a : Walked) (rs : List Record) (n : ℕ) : Type 0 where
+pub record ItemRoom (items : List ℤ) (a : Walked) (rs : List Record) (n : ℕ) : Type 0 where
   pub room : 2 * (a .next + length rs) ≤ length items
   pub opened : a .opened + n ≤ 43046721
 

@@ -1,4 +1,4 @@
-// Search, over any words of a right length: what it finds and how many nodes it opens, in one pass. The node function calls the entries
+// Search, over any words of a valid length: what it finds and how many nodes it opens, in one pass. The node function calls the entries
 // function, that calls the function of one entry, and that calls the node function; the level and the entries left fall.
 ghost use mathlib.Core.Path.{_≡_};
 ghost use mathlib.Core.Bool.{true};
@@ -12,7 +12,7 @@ ghost use Rattle.rules.specs.Search as F;
 ghost use Rattle.pool.specs.Slots.{InPool};
 ghost use Rattle.found_items.specs.Items.{itemsFrom, Pointing};
 ghost use Rattle.search.specs.State.{openedBelow, foundBelow, openedFrom, foundFrom};
-ghost use Rattle.search.specs.Walk.{Room, Went};
+ghost use Rattle.search.specs.Walk.{ItemRoom, Went};
 use rules::Pointer;
 use rules::RecordNumber;
 use rules::Rect;
@@ -40,7 +40,7 @@ fn slot_read(s: SlotNumber) -> SlotNumber
 
 // How many entries are in use; beyond the last slot there are none.
 fn count_at(pool: &[i32], s: SlotNumber) -> usize
-    requires { ⌜ L.rightLength (now pool) ≡ true ⌝ }
+    requires { ⌜ L.validLength (now pool) ≡ true ⌝ }
     requires { ⌜ 1 ≤ s .0 ⌝ }
     ensures is { λ r. ⌜ r ≡ length (P.entriesAt (L.read (now (pool .entry))) s) ⌝ }
     ensures most { λ r. ⌜ r ≤ 8 ⌝ }
@@ -91,7 +91,7 @@ fn meets_window(r: Rect, window: Rect) -> bool
 fn list_record(pool: &[i32], s: SlotNumber, i: usize, items: &mut [i32], done: Walked) -> Walked
     requires { ⌜ InPool (now pool) s ⌝ }
     requires { ⌜ i < length (P.entriesAt (L.read (now pool)) s) ⌝ }
-    requires { ⌜ Room (now items) done (P.recordOf (P.entryAt (L.read (now pool)) s i) ∷ []) 0 ⌝ }
+    requires { ⌜ ItemRoom (now items) done (P.recordOf (P.entryAt (L.read (now pool)) s i) ∷ []) 0 ⌝ }
     ensures { λ r. ⌜ Went (now (pool .entry)) (now (items .entry)) (now (items .exit)) done r (P.recordOf (P.entryAt (L.read (now (pool .entry))) s i) ∷ []) 0 ⌝ }
 {
     let at = done.next;
@@ -112,8 +112,8 @@ fn list_node(
     items: &mut [i32],
     done: Walked,
 ) -> Walked
-    requires { ⌜ L.rightLength (now pool) ≡ true ⌝ }
-    requires { ⌜ Room (now items) done (F.foundIn (L.read (now pool)) window level s) (F.openedIn (L.read (now pool)) window level s) ⌝ }
+    requires { ⌜ L.validLength (now pool) ≡ true ⌝ }
+    requires { ⌜ ItemRoom (now items) done (F.foundIn (L.read (now pool)) window level s) (F.openedIn (L.read (now pool)) window level s) ⌝ }
     ensures { λ r. ⌜ Went (now (pool .entry)) (now (items .entry)) (now (items .exit)) done r (F.foundIn (L.read (now (pool .entry))) window level s) (F.openedIn (L.read (now (pool .entry))) window level s) ⌝ }
 {
     if level == 0 {
@@ -139,10 +139,10 @@ fn list_entries(
     items: &mut [i32],
     done: Walked,
 ) -> Walked
-    requires { ⌜ L.rightLength (now pool) ≡ true ⌝ }
+    requires { ⌜ L.validLength (now pool) ≡ true ⌝ }
     requires { ⌜ 1 ≤ s .0 ⌝ }
     requires { ⌜ n ≡ length (P.entriesAt (L.read (now pool)) s) ⌝ }
-    requires { ⌜ Room (now items) done (foundFrom (L.read (now pool)) window below s i) (openedFrom (L.read (now pool)) window below s i) ⌝ }
+    requires { ⌜ ItemRoom (now items) done (foundFrom (L.read (now pool)) window below s i) (openedFrom (L.read (now pool)) window below s i) ⌝ }
     ensures { λ r. ⌜ Went (now (pool .entry)) (now (items .entry)) (now (items .exit)) done r (foundFrom (L.read (now (pool .entry))) window below s i) (openedFrom (L.read (now (pool .entry))) window below s i) ⌝ }
 {
     if n <= i {
@@ -165,7 +165,7 @@ fn list_entry(
 ) -> Walked
     requires { ⌜ InPool (now pool) s ⌝ }
     requires { ⌜ i < length (P.entriesAt (L.read (now pool)) s) ⌝ }
-    requires { ⌜ Room (now items) done (foundBelow (L.read (now pool)) window below (P.entryAt (L.read (now pool)) s i)) (openedBelow (L.read (now pool)) window below (P.entryAt (L.read (now pool)) s i)) ⌝ }
+    requires { ⌜ ItemRoom (now items) done (foundBelow (L.read (now pool)) window below (P.entryAt (L.read (now pool)) s i)) (openedBelow (L.read (now pool)) window below (P.entryAt (L.read (now pool)) s i)) ⌝ }
     ensures { λ r. ⌜ Went (now (pool .entry)) (now (items .entry)) (now (items .exit)) done r (foundBelow (L.read (now (pool .entry))) window below (P.entryAt (L.read (now (pool .entry))) s i)) (openedBelow (L.read (now (pool .entry))) window below (P.entryAt (L.read (now (pool .entry))) s i)) ⌝ }
 {
     let r = pool::rect_of(pool, s, i);
@@ -182,14 +182,14 @@ fn list_entry(
 // "Search descends from the root and opens every child whose entry rectangle meets the window." "The root is always opened." The records
 // found become items, in the order in which search comes to them.
 pub fn list(pool: &[i32], window: Rect, items: &mut [i32]) -> Walked
-    requires { ⌜ L.rightLength (now pool) ≡ true ⌝ }
+    requires { ⌜ L.validLength (now pool) ≡ true ⌝ }
     requires { ⌜ L.read (now pool) .height ≤ 8 ⌝ }
-    requires { ⌜ 2 * length (F.foundIn (L.read (now pool)) window (L.read (now pool) .height) (L.read (now pool) .root)) ≤ length (now items) ⌝ }
-    ensures found { λ r. ⌜ r .next ≡ length (F.foundIn (L.read (now (pool .entry))) window (L.read (now (pool .entry)) .height) (L.read (now (pool .entry)) .root)) ⌝ }
+    requires { ⌜ 2 * length (F.foundFromRoot (L.read (now pool)) window) ≤ length (now items) ⌝ }
+    ensures found { λ r. ⌜ r .next ≡ length (F.foundFromRoot (L.read (now (pool .entry))) window) ⌝ }
     ensures opened { λ r. ⌜ r .opened ≡ F.opened (L.read (now (pool .entry))) window ⌝ }
     ensures most { λ r. ⌜ r .opened ≤ 43046721 ⌝ }
-    ensures listed { λ _. ⌜ itemsFrom (now (pool .entry)) (now (items .exit)) 0 (length (F.foundIn (L.read (now (pool .entry))) window (L.read (now (pool .entry)) .height) (L.read (now (pool .entry)) .root))) ≡ F.foundIn (L.read (now (pool .entry))) window (L.read (now (pool .entry)) .height) (L.read (now (pool .entry)) .root) ⌝ }
-    ensures pointing { λ _. ⌜ Pointing (now (pool .entry)) (now (items .exit)) 0 (length (F.foundIn (L.read (now (pool .entry))) window (L.read (now (pool .entry)) .height) (L.read (now (pool .entry)) .root))) ⌝ }
+    ensures listed { λ _. ⌜ itemsFrom (now (pool .entry)) (now (items .exit)) 0 (length (F.foundFromRoot (L.read (now (pool .entry))) window)) ≡ F.foundFromRoot (L.read (now (pool .entry))) window ⌝ }
+    ensures pointing { λ _. ⌜ Pointing (now (pool .entry)) (now (items .exit)) 0 (length (F.foundFromRoot (L.read (now (pool .entry))) window)) ⌝ }
     ensures long { λ _. ⌜ length (now (items .exit)) ≡ length (now (items .entry)) ⌝ }
 {
     let h = pool::height_of(pool);

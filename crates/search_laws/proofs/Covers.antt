@@ -54,13 +54,13 @@ larger-both a b = go (leZ a b) refl
 -- ---- rectangles
 
 -- a holds b
-pub record Holds (a b : Rect) : Type 0 where
+pub record HoldsRect (a b : Rect) : Type 0 where
   pub lowX : leZ (a .lowX) (b .lowX) ≡ true
   pub lowY : leZ (a .lowY) (b .lowY) ≡ true
   pub highX : leZ (b .highX) (a .highX) ≡ true
   pub highY : leZ (b .highY) (a .highY) ≡ true
 
-pub holds-self : (a : Rect) → Holds a a
+pub holds-self : (a : Rect) → HoldsRect a a
 holds-self a = record {
   lowX = at-most-self (a .lowX);
   lowY = at-most-self (a .lowY);
@@ -68,7 +68,7 @@ holds-self a = record {
   highY = at-most-self (a .highY);
 }
 
-pub holds-on : {a b c : Rect} → Holds a b → Holds b c → Holds a c
+pub holds-on : {a b c : Rect} → HoldsRect a b → HoldsRect b c → HoldsRect a c
 holds-on {a} {b} {c} h k = record {
   lowX = at-most-on (a .lowX) (b .lowX) (c .lowX) (h .lowX) (k .lowX);
   lowY = at-most-on (a .lowY) (b .lowY) (c .lowY) (h .lowY) (k .lowY);
@@ -77,7 +77,7 @@ holds-on {a} {b} {c} h k = record {
 }
 
 -- what meets a window, meets it held by a larger one
-pub holds-meets : {a b : Rect} (window : Rect) → Holds a b → meets b window ≡ true → meets a window ≡ true
+pub holds-meets : {a b : Rect} (window : Rect) → HoldsRect a b → meets b window ≡ true → meets a window ≡ true
 unfolding meets
 holds-meets {a} {b} w h m =
     let q = and-both _ (leZ (w .lowY) (b .highY)) m in
@@ -90,7 +90,7 @@ holds-meets {a} {b} w h m =
       at-most-on (w .lowY) (b .highY) (a .highY) (q .1) (h .highY),
     )
 
-pub holds-misses : {a b : Rect} (window : Rect) → Holds a b → meets a window ≡ false → meets b window ≡ false
+pub holds-misses : {a b : Rect} (window : Rect) → HoldsRect a b → meets a window ≡ false → meets b window ≡ false
 holds-misses {a} {b} window h n = go (meets b window) refl
   where
     go : (t : Bool) → meets b window ≡ t → t ≡ false
@@ -100,7 +100,7 @@ holds-misses {a} {b} window h n = go (meets b window) refl
 -- ---- covers
 
 module _ (a b : Rect) where
-  cover-one : Holds (cover a b) a
+  cover-one : HoldsRect (cover a b) a
   unfolding cover
   cover-one = record {
     lowX = smaller-both (a .lowX) (b .lowX) .0;
@@ -109,7 +109,7 @@ module _ (a b : Rect) where
     highY = larger-both (a .highY) (b .highY) .0;
   }
 
-  cover-two : Holds (cover a b) b
+  cover-two : HoldsRect (cover a b) b
   unfolding cover
   cover-two = record {
     lowX = smaller-both (a .lowX) (b .lowX) .1;
@@ -118,20 +118,20 @@ module _ (a b : Rect) where
     highY = larger-both (a .highY) (b .highY) .1;
   }
 
-fold-first : (r : Rect) (rs : List Rect) → Holds (foldl cover r rs) r
+fold-first : (r : Rect) (rs : List Rect) → HoldsRect (foldl cover r rs) r
 fold-first r [] = holds-self r
 fold-first r (x ∷ rs) = holds-on (fold-first (cover r x) rs) (cover-one r x)
 
-fold-holds : (r : Rect) {x : Rect} {rs : List Rect} → Among x rs → Holds (foldl cover r rs) x
-fold-holds r {x} {rs = y ∷ ys} (List·Memᴰ·head e) = holds-on (fold-first (cover r y) ys) (subst (Holds (cover r y)) (sym e) (cover-two r y))
+fold-holds : (r : Rect) {x : Rect} {rs : List Rect} → Among x rs → HoldsRect (foldl cover r rs) x
+fold-holds r {x} {rs = y ∷ ys} (List·Memᴰ·head e) = holds-on (fold-first (cover r y) ys) (subst (HoldsRect (cover r y)) (sym e) (cover-two r y))
 fold-holds r {rs = y ∷ ys} (List·Memᴰ·tail m) = fold-holds (cover r y) m
 
-pub cover-all-holds : {x : Rect} {rs : List Rect} → Among x rs → Holds (coverAll rs) x
+pub cover-all-holds : {x : Rect} {rs : List Rect} → Among x rs → HoldsRect (coverAll rs) x
 unfolding coverAll
-cover-all-holds {x} {rs = y ∷ ys} (List·Memᴰ·head e) = subst (Holds (foldl cover y ys)) (sym e) (fold-first y ys)
+cover-all-holds {x} {rs = y ∷ ys} (List·Memᴰ·head e) = subst (HoldsRect (foldl cover y ys)) (sym e) (fold-first y ys)
 cover-all-holds {rs = y ∷ ys} (List·Memᴰ·tail m) = fold-holds y m
 
-pub cover-of-holds : {e : Entry} {es : List Entry} → Among e es → Holds (coverOf es) (e .rect)
+pub cover-of-holds : {e : Entry} {es : List Entry} → Among e es → HoldsRect (coverOf es) (e .rect)
 unfolding coverOf rects
 cover-of-holds m = cover-all-holds (Memᴰ·map (λ (e : Entry). e .rect) m)
 

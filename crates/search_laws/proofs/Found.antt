@@ -20,21 +20,21 @@ use Rattle.sound_laws.proofs.Walk.{records-leaf, records-inner, no-tree, inner-
 use Rattle.sound_laws.proofs.Whole.{stored-in}
 use Rattle.search_laws.specs.Window.{recordMeets, nodeMeets}
 use Rattle.search_laws.specs.Order.{Alike}
-use Rattle.search_laws.proofs.Covers.{Holds, holds-on, holds-misses, cover-of-holds}
+use Rattle.search_laws.proofs.Covers.{HoldsRect, holds-on, holds-misses, cover-of-holds}
 use Rattle.search_laws.proofs.Lists.{those-nothing, those-and, those-joined}
 
 module _ (p : Pool) where
   -- a tight entry's rectangle, and so its node's cover, holds what its child's cover holds
   pub child-holds : (l : ℕ) (s : SlotNumber) → Tree p (suc (suc l)) s → (e : Entry) → Among e (entriesAt p s)
-      → Holds (coverOf (entriesAt p s)) (coverOf (entriesAt p (childOf e)))
-  child-holds l s d e m = subst (Holds (coverOf (entriesAt p s))) (inner-of p l s d .each e m .tight) (cover-of-holds m)
+      → HoldsRect (coverOf (entriesAt p s)) (coverOf (entriesAt p (childOf e)))
+  child-holds l s d e m = subst (HoldsRect (coverOf (entriesAt p s))) (inner-of p l s d .each e m .tight) (cover-of-holds m)
 
-  pub record-held : (l : ℕ) (s : SlotNumber) → Tree p l s → (r : Record) → Among r (recordsIn p l s) → Holds (coverOf (entriesAt p s)) (r .rect)
+  pub record-held : (l : ℕ) (s : SlotNumber) → Tree p l s → (r : Record) → Among r (recordsIn p l s) → HoldsRect (coverOf (entriesAt p s)) (r .rect)
   unfolding recordOf
   record-held zero s d r m = absurd (no-tree p s d)
   record-held (suc zero) s d r m =
       let q = Memᴰ·of-map recordOf (entriesAt p s) (rw (records-leaf p s) at m) in
-      subst (λ (x : Record). Holds (coverOf (entriesAt p s)) (x .rect)) (q .2) (cover-of-holds (q .1))
+      subst (λ (x : Record). HoldsRect (coverOf (entriesAt p s)) (x .rect)) (q .2) (cover-of-holds (q .1))
   record-held (suc (suc l)) s d r m =
       let q = among-joined (λ (e : Entry). recordsIn p (suc l) (childOf e)) r (entriesAt p s) (rw (records-inner p s l) at m) in
       holds-on (child-holds l s d (q .0) (q .1)) (record-held (suc l) (childOf (q .0)) (inner-of p l s d .each (q .0) (q .1) .child) r (q .2))

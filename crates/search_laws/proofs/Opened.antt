@@ -23,12 +23,12 @@ use Rattle.sound_laws.proofs.Joins.{map-same, count-joined}
 use Rattle.sound_laws.proofs.Walk.{slots-leaf, slots-inner, no-tree, inner-of, among-cases}
 use Rattle.sound_laws.proofs.Whole.{all-once}
 use Rattle.search_laws.specs.Window.{nodeMeets}
-use Rattle.search_laws.proofs.Covers.{Holds, holds-self, holds-on, holds-misses}
+use Rattle.search_laws.proofs.Covers.{HoldsRect, holds-self, holds-on, holds-misses}
 use Rattle.search_laws.proofs.Lists.{those-nothing, total-those}
 use Rattle.search_laws.proofs.Found.{child-holds}
 
 module _ (p : Pool) where
-  pub node-held : (l : ℕ) (s t : SlotNumber) → Tree p l s → Among t (slotsIn p l s) → Holds (coverOf (entriesAt p s)) (coverOf (entriesAt p t))
+  pub node-held : (l : ℕ) (s t : SlotNumber) → Tree p l s → Among t (slotsIn p l s) → HoldsRect (coverOf (entriesAt p s)) (coverOf (entriesAt p t))
   node-held zero s t d m = absurd (no-tree p s d)
   node-held (suc zero) s t d m =
       let e : t ≡ s = List·Memᴰ·eq-of-singleton (rw (slots-leaf p s) at m) in
@@ -36,8 +36,8 @@ module _ (p : Pool) where
   node-held (suc (suc l)) s t d m = go (among-cases p l s t m) (node-held (suc l))
     where
       go : (t ≡ s) ⊎ ((e : Entry) × Among e (entriesAt p s) × Among t (slotsIn p (suc l) (childOf e)))
-          → ((u v : SlotNumber) → Tree p (suc l) u → Among v (slotsIn p (suc l) u) → Holds (coverOf (entriesAt p u)) (coverOf (entriesAt p v)))
-          → Holds (coverOf (entriesAt p s)) (coverOf (entriesAt p t))
+          → ((u v : SlotNumber) → Tree p (suc l) u → Among v (slotsIn p (suc l) u) → HoldsRect (coverOf (entriesAt p u)) (coverOf (entriesAt p v)))
+          → HoldsRect (coverOf (entriesAt p s)) (coverOf (entriesAt p t))
       go (inl e) ih = rw e (holds-self (coverOf (entriesAt p s)))
       go (inr h) ih =
           holds-on (child-holds p l s d (h .0) (h .1)) (ih (childOf (h .0)) t (inner-of p l s d .each (h .0) (h .1) .child) (h .2))

@@ -14,7 +14,7 @@ use Rattle.rules.specs.declared.Entry.{Entry}
 use Rattle.rules.specs.Lists.{every, upFrom}
 use Rattle.rules.specs.Geometry.{noRect, coverAll, sameRect}
 use Rattle.rules.specs.Pool.{Pool, slot, noEntry, slotNumbers, nodeAt, entriesAt, childOf, rects, coverOf}
-use Rattle.rules.specs.Layout.{rightLength, read}
+use Rattle.rules.specs.Layout.{validLength, read}
 use Rattle.rules.specs.Sound.{isSlot, leafEntrySound, innerEntrySound, nodeSound, inUse, usedSound}
 use Rattle.rules_laws.proofs.Bools.{and-both}
 use Rattle.rules_laws.proofs.Places.{length-upFrom, getD-upFrom}
@@ -24,7 +24,7 @@ use Rattle.sound.specs.State.{innerSound}
 use Rattle.sound.proofs.Everies.{every-fails, every-goes}
 
 -- a slot of the pool that is read is a slot of the words
-pub slot-in : (w : List ℤ) (s : SlotNumber) → rightLength w ≡ true → isSlot (read w) s ≡ true → InPool w s
+pub slot-in : (w : List ℤ) (s : SlotNumber) → validLength w ≡ true → isSlot (read w) s ≡ true → InPool w s
 unfolding isSlot
 slot-in w s r e =
     let b = and-both _ _ e in

@@ -1,4 +1,4 @@
-// Soundness of a pool, over any words of a right length. The node check calls the entry check and the entry check calls the node check;
+// Soundness of a pool, over any words of a valid length. The node check calls the entry check and the entry check calls the node check;
 // the level and the entries left fall.
 ghost use mathlib.Core.Path.{_≡_};
 ghost use mathlib.Core.Bool.{true, false, _&&_};
@@ -76,7 +76,7 @@ fn cover_at(pool: &[i32], s: SlotNumber) -> Rect
 
 // "its pointer is a slot from 1 to N whose node is .. one level lower, and its rectangle is the smallest holding that node's entries"
 fn entry_fits(pool: &[i32], e: Entry, below: usize) -> bool
-    requires { ⌜ L.rightLength (now pool) ≡ true ⌝ }
+    requires { ⌜ L.validLength (now pool) ≡ true ⌝ }
     ensures { λ r. ⌜ r ≡ (S.isSlot (L.read (now (pool .entry))) (P.childOf e) && eqb (P.nodeAt (L.read (now (pool .entry))) (P.childOf e) .level) below && G.sameRect (e .rect) (P.coverOf (P.entriesAt (L.read (now (pool .entry))) (P.childOf e)))) ⌝ }
 {
     let r = e.rect;
@@ -152,7 +152,7 @@ fn used_sound(pool: &[i32], s: SlotNumber) -> bool
 // "every node in use is sound". Each is asked by itself: with one parent each, which is asked before, a node is met once for each node
 // above it, and a sound tree is at most 8 high.
 fn all_sound(pool: &[i32]) -> bool
-    requires { ⌜ L.rightLength (now pool) ≡ true ⌝ }
+    requires { ⌜ L.validLength (now pool) ≡ true ⌝ }
     ensures { λ r. ⌜ r ≡ every (S.usedSound (L.read (now (pool .entry)))) (P.slotNumbers (L.read (now (pool .entry)))) ⌝ }
 {
     let n = pool::slot_count(pool);
@@ -169,7 +169,7 @@ fn all_sound(pool: &[i32]) -> bool
 // "A pool is sound when ..": each part of the sentence. A sound tree is at most 8 high, so a higher one is refused before the walk, which
 // then goes no deeper than that, whatever the words are.
 pub fn sound(pool: &[i32]) -> bool
-    requires { ⌜ L.rightLength (now pool) ≡ true ⌝ }
+    requires { ⌜ L.validLength (now pool) ≡ true ⌝ }
     ensures { λ r. ⌜ r ≡ S.sound (now (pool .entry)) ⌝ }
 {
     if !tidy::tidy(pool) {

@@ -14,7 +14,7 @@ use Rattle.rules.specs.Lists.{those, every, joined, upFrom}
 use Rattle.rules.specs.Pool.{Node, Pool, slot, freeNode, slotNumbers, nodeAt, entriesAt, recordOf, isLeaf, stored}
 use Rattle.rules.specs.Sound.{isSlot, inUse, isRoot, heightSound, rootSound, levelsSound, fewest, countSound, parents, oneParent, freeEmpty, recordsSound, shapeSound}
 use Rattle.rules_laws.proofs.Turns.{up-more, up-none}
-use Rattle.sound_shape.specs.Shapes.{slotShaped, recordsIn, recordsOf}
+use Rattle.sound_shape.specs.Shapes.{slotShaped, recordCount, recordCounts}
 use Rattle.tidy.proofs.Stand.{go-on, stop}
 
 -- ---- every
@@ -147,42 +147,42 @@ module _ (p : Pool) where
 
 -- ---- the records
 
-pub leaf-records : (n : Node) → n .level ≡ 1 → length (n .entries) ≡ recordsIn n
-unfolding recordsIn isLeaf
+pub leaf-records : (n : Node) → n .level ≡ 1 → length (n .entries) ≡ recordCount n
+unfolding recordCount isLeaf
 leaf-records n e = rw (eq-eqb (n .level) 1 e)
 
-pub no-records : (n : Node) → (n .level ≡ 1 → ⊥) → 0 ≡ recordsIn n
-unfolding recordsIn isLeaf
+pub no-records : (n : Node) → (n .level ≡ 1 → ⊥) → 0 ≡ recordCount n
+unfolding recordCount isLeaf
 no-records n e = rw (ne-eqb (n .level) 1 e)
 
-records-cons : (n : Node) (ns : List Node) → recordsOf (n ∷ ns) ≡ recordsIn n + recordsOf ns
-unfolding recordsOf recordsIn those joined
+records-cons : (n : Node) (ns : List Node) → recordCounts (n ∷ ns) ≡ recordCount n + recordCounts ns
+unfolding recordCounts recordCount those joined
 records-cons n ns = go (isLeaf n) refl
   where
-    go : (t : Bool) → isLeaf n ≡ t → recordsOf (n ∷ ns) ≡ recordsIn n + recordsOf ns
+    go : (t : Bool) → isLeaf n ≡ t → recordCounts (n ∷ ns) ≡ recordCount n + recordCounts ns
     go true e = rw e (length-append (n .entries) (joined (map (λ (m : Node). m .entries) (those isLeaf ns))))
     go false e = rw e (omega arith)
 
-records-none : recordsOf [] ≡ 0
-unfolding recordsOf those joined
+records-none : recordCounts [] ≡ 0
+unfolding recordCounts those joined
 records-none = refl
 
 module _ (p : Pool) (s : ℕ) where
-  pub records-more : 1 ≤ s → s ≤ length (p .slots) → recordsOf (drop (s - 1) (p .slots)) ≡ recordsIn (nodeAt p (slot s)) + recordsOf (drop (s + 1 - 1) (p .slots))
+  pub records-more : 1 ≤ s → s ≤ length (p .slots) → recordCounts (drop (s - 1) (p .slots)) ≡ recordCount (nodeAt p (slot s)) + recordCounts (drop (s + 1 - 1) (p .slots))
   unfolding nodeAt
   records-more low high =
       let e : suc (s - 1) ≡ s + 1 - 1 = omega arith in
-      ap recordsOf (drop-cons (p .slots) (s - 1) freeNode (omega arith) ∙ ap (λ (k : ℕ). getD (p .slots) (s - 1) freeNode ∷ drop k (p .slots)) e)
+      ap recordCounts (drop-cons (p .slots) (s - 1) freeNode (omega arith) ∙ ap (λ (k : ℕ). getD (p .slots) (s - 1) freeNode ∷ drop k (p .slots)) e)
       ∙ records-cons (getD (p .slots) (s - 1) freeNode) (drop (s + 1 - 1) (p .slots))
 
-  pub records-end : length (p .slots) < s → recordsOf (drop (s - 1) (p .slots)) ≡ 0
-  records-end h = ap recordsOf (drop-of-length-le (p .slots) {i = s - 1} (omega arith)) ∙ records-none
+  pub records-end : length (p .slots) < s → recordCounts (drop (s - 1) (p .slots)) ≡ 0
+  records-end h = ap recordCounts (drop-of-length-le (p .slots) {i = s - 1} (omega arith)) ∙ records-none
 
-pub records-stored : (p : Pool) → recordsOf (p .slots) ≡ length (stored p)
-unfolding recordsOf stored
+pub records-stored : (p : Pool) → recordCounts (p .slots) ≡ length (stored p)
+unfolding recordCounts stored
 records-stored p = sym (length-map (joined (map (λ (n : Node). n .entries) (those isLeaf (p .slots)))) recordOf)
 
-pub records-are : (p : Pool) → eqb (recordsOf (p .slots)) (p .records) ≡ recordsSound p
+pub records-are : (p : Pool) → eqb (recordCounts (p .slots)) (p .records) ≡ recordsSound p
 unfolding recordsSound
 records-are p = ap (λ (n : ℕ). eqb n (p .records)) (records-stored p)
 

@@ -15,25 +15,25 @@ use Rattle.rules.specs.Lists.{those, joined}
 use Rattle.rules.specs.Pool.{Node, Pool, slot, freeNode, sameSlot, childOf}
 use Rattle.rules.specs.Sound.{innerEntries, parents}
 use Rattle.rules_laws.proofs.Parts.{those-none, those-append, count-append}
-use Rattle.sound_shape.specs.Shapes.{innerOf, leading, Counted, Counting, OneMore}
+use Rattle.sound_shape.specs.Shapes.{innerOf, parentsAmong, Counted, Counting, OneMore}
 
 -- ---- how many lead to a slot
 
-leading-append : (s : SlotNumber) (xs ys : List Entry) → leading s (xs ++ ys) ≡ leading s xs + leading s ys
-unfolding leading
+leading-append : (s : SlotNumber) (xs ys : List Entry) → parentsAmong s (xs ++ ys) ≡ parentsAmong s xs + parentsAmong s ys
+unfolding parentsAmong
 leading-append s xs ys = count-append (λ (e : Entry). sameSlot (childOf e) s) xs ys
 
-leading-none : (s : SlotNumber) → leading s [] ≡ 0
-unfolding leading
+leading-none : (s : SlotNumber) → parentsAmong s [] ≡ 0
+unfolding parentsAmong
 leading-none s = ap length (those-none (λ (e : Entry). sameSlot (childOf e) s))
 
-leading-one : (t : ℕ) (e : Entry) (b : Bool) → eqb (childOf e .0) t ≡ b → leading (slot t) (e ∷ []) ≡ cond b 1 0
-unfolding leading those sameSlot
+leading-one : (t : ℕ) (e : Entry) (b : Bool) → eqb (childOf e .0) t ≡ b → parentsAmong (slot t) (e ∷ []) ≡ cond b 1 0
+unfolding parentsAmong those sameSlot
 leading-one t e true h = rw h
 leading-one t e false h = rw h
 
-pub all-leading : (p : Pool) (s : SlotNumber) → parents p s ≡ leading s (innerEntries p)
-unfolding parents leading
+pub all-leading : (p : Pool) (s : SlotNumber) → parents p s ≡ parentsAmong s (innerEntries p)
+unfolding parents parentsAmong
 all-leading p s = refl
 
 -- ---- counts
@@ -50,7 +50,7 @@ counting-more {xs} {ys} {a} {b} {c} f g = record { size = g .size ∙ f .size; o
 pub counting-one : {e : Entry} {a b : List ℕ} → OneMore (childOf e) a b → Counting (e ∷ []) a b
 counting-one {e} {a} {b} o = record { size = o .size; on = λ before k. record { is = λ t low high. at before k t low high (eqb (childOf e .0) t) refl } }
   where
-    at : (before : List Entry) → Counted before a → (t : ℕ) → 1 ≤ t → t ≤ 4096 → (x : Bool) → eqb (childOf e .0) t ≡ x → getD b (t - 1) 0 ≡ min (leading (slot t) (before ++ e ∷ [])) 2
+    at : (before : List Entry) → Counted before a → (t : ℕ) → 1 ≤ t → t ≤ 4096 → (x : Bool) → eqb (childOf e .0) t ≡ x → getD b (t - 1) 0 ≡ min (parentsAmong (slot t) (before ++ e ∷ [])) 2
     at before k t low high true h =
         let one = leading-one t e true h in
         let both = leading-append (slot t) before (e ∷ []) in

@@ -21,19 +21,19 @@ unfoldable pub innerOf : List Node → List Entry
 innerOf ns = joined (map (λ (n : Node). n .entries) (those (λ (n : Node). leb 2 (n .level)) ns))
 
 -- how many records a node has, and all of them
-unfoldable pub recordsIn : Node → ℕ
-recordsIn n = cond (isLeaf n) (length (n .entries)) 0
+unfoldable pub recordCount : Node → ℕ
+recordCount n = cond (isLeaf n) (length (n .entries)) 0
 
-unfoldable pub recordsOf : List Node → ℕ
-recordsOf ns = length (joined (map (λ (n : Node). n .entries) (those isLeaf ns)))
+unfoldable pub recordCounts : List Node → ℕ
+recordCounts ns = length (joined (map (λ (n : Node). n .entries) (those isLeaf ns)))
 
 -- how many of the entries lead to a slot
-unfoldable pub leading : SlotNumber → List Entry → ℕ
-leading s es = length (those (λ (e : Entry). sameSlot (childOf e) s) es)
+unfoldable pub parentsAmong : SlotNumber → List Entry → ℕ
+parentsAmong s es = length (those (λ (e : Entry). sameSlot (childOf e) s) es)
 
 -- of each slot, how many of the entries lead there: none, one, or more, which is 2
 pub record Counted (es : List Entry) (counts : List ℕ) : Type 0 where
-  pub is : (t : ℕ) → 1 ≤ t → t ≤ mostSlots → getD counts (t - 1) 0 ≡ min (leading (slot t) es) 2
+  pub is : (t : ℕ) → 1 ≤ t → t ≤ mostSlots → getD counts (t - 1) 0 ≡ min (parentsAmong (slot t) es) 2
 
 -- what is counted before, and then these
 pub record Counting (es : List Entry) (counts after : List ℕ) : Type 0 where

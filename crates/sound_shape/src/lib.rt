@@ -1,4 +1,4 @@
-// The questions of soundness that need no walk down a tree, of any words of a right length. Each asks of a word a bounded number of
+// The questions of soundness that need no walk down a tree, of any words of a valid length. Each asks of a word a bounded number of
 // times, whatever the words are.
 ghost use mathlib.Core.Path.{_≡_};
 ghost use mathlib.Core.Bool.{true, false};
@@ -11,7 +11,7 @@ ghost use Rattle.rules.specs.Layout as L;
 ghost use Rattle.rules.specs.Pool as P;
 ghost use Rattle.rules.specs.Sound as S;
 ghost use Rattle.pool.specs.Slots.{InPool};
-ghost use Rattle.sound_shape.specs.Shapes.{slotShaped, innerOf, recordsIn, recordsOf, Counted, Counting, OneMore};
+ghost use Rattle.sound_shape.specs.Shapes.{slotShaped, innerOf, recordCount, recordCounts, Counted, Counting, OneMore};
 use rules::SlotNumber;
 
 // ---- "each non-root node in use is the child of exactly one entry": counted in one pass
@@ -68,7 +68,7 @@ fn count_slot(pool: &[i32], s: SlotNumber, counts: &mut [u32; 4096])
 
 // The parents of every slot.
 fn count_parents(pool: &[i32], counts: &mut [u32; 4096])
-    requires { ⌜ L.rightLength (now pool) ≡ true ⌝ }
+    requires { ⌜ L.validLength (now pool) ≡ true ⌝ }
     requires { ⌜ length (now counts) ≡ 4096 ⌝ }
     ensures { λ _. ⌜ Counting (S.innerEntries (L.read (now (pool .entry)))) (now (counts .entry)) (now (counts .exit)) ⌝ }
 {
@@ -91,7 +91,7 @@ fn same_slot(a: SlotNumber, b: SlotNumber) -> bool
 }
 
 fn is_root(pool: &[i32], s: SlotNumber) -> bool
-    requires { ⌜ L.rightLength (now pool) ≡ true ⌝ }
+    requires { ⌜ L.validLength (now pool) ≡ true ⌝ }
     ensures { λ r. ⌜ r ≡ S.isRoot (L.read (now (pool .entry))) s ⌝ }
 {
     same_slot(s, pool::root_of(pool))
@@ -165,7 +165,7 @@ fn slot_shaped(pool: &[i32], s: SlotNumber, parents: u32) -> bool
 }
 
 fn shaped_slots(pool: &[i32], counts: &[u32; 4096]) -> bool
-    requires { ⌜ L.rightLength (now pool) ≡ true ⌝ }
+    requires { ⌜ L.validLength (now pool) ≡ true ⌝ }
     requires { ⌜ Counted (S.innerEntries (L.read (now pool))) (now counts) ⌝ }
     ensures { λ r. ⌜ r ≡ Li.every (slotShaped (L.read (now (pool .entry)))) (P.slotNumbers (L.read (now (pool .entry)))) ⌝ }
 {
@@ -182,7 +182,7 @@ fn shaped_slots(pool: &[i32], counts: &[u32; 4096]) -> bool
 
 // The questions of the slots, with the parents of each counted first.
 fn shaped_nodes(pool: &[i32]) -> bool
-    requires { ⌜ L.rightLength (now pool) ≡ true ⌝ }
+    requires { ⌜ L.validLength (now pool) ≡ true ⌝ }
     ensures { λ r. ⌜ r ≡ Li.every (slotShaped (L.read (now (pool .entry)))) (P.slotNumbers (L.read (now (pool .entry)))) ⌝ }
 {
     let mut counts = [0u32; 4096];
@@ -194,7 +194,7 @@ fn shaped_nodes(pool: &[i32]) -> bool
 
 // "height is 1 or more"
 fn height_sound(pool: &[i32]) -> bool
-    requires { ⌜ L.rightLength (now pool) ≡ true ⌝ }
+    requires { ⌜ L.validLength (now pool) ≡ true ⌝ }
     ensures { λ r. ⌜ r ≡ S.heightSound (L.read (now (pool .entry))) ⌝ }
 {
     1 <= pool::height_of(pool)
@@ -202,7 +202,7 @@ fn height_sound(pool: &[i32]) -> bool
 
 // "root is a slot of level equal to the height"
 fn root_sound(pool: &[i32]) -> bool
-    requires { ⌜ L.rightLength (now pool) ≡ true ⌝ }
+    requires { ⌜ L.validLength (now pool) ≡ true ⌝ }
     ensures { λ r. ⌜ r ≡ S.rootSound (L.read (now (pool .entry))) ⌝ }
 {
     let root = pool::root_of(pool);
@@ -219,7 +219,7 @@ fn root_sound(pool: &[i32]) -> bool
 // A leaf's entries are records.
 fn records_in(pool: &[i32], s: SlotNumber) -> usize
     requires { ⌜ InPool (now pool) s ⌝ }
-    ensures is { λ r. ⌜ r ≡ recordsIn (P.nodeAt (L.read (now (pool .entry))) s) ⌝ }
+    ensures is { λ r. ⌜ r ≡ recordCount (P.nodeAt (L.read (now (pool .entry))) s) ⌝ }
     ensures most { λ r. ⌜ r ≤ 8 ⌝ }
 {
     if pool::level_of(pool, s) == 1 {
@@ -229,8 +229,8 @@ fn records_in(pool: &[i32], s: SlotNumber) -> usize
 }
 
 fn leaf_records(pool: &[i32]) -> usize
-    requires { ⌜ L.rightLength (now pool) ≡ true ⌝ }
-    ensures { λ r. ⌜ r ≡ recordsOf (L.read (now (pool .entry)) .slots) ⌝ }
+    requires { ⌜ L.validLength (now pool) ≡ true ⌝ }
+    ensures { λ r. ⌜ r ≡ recordCounts (L.read (now (pool .entry)) .slots) ⌝ }
 {
     let n = pool::slot_count(pool);
     let mut sum: usize = 0;
@@ -244,7 +244,7 @@ fn leaf_records(pool: &[i32]) -> usize
 
 // "records counted in leaves equal word 3"
 fn records_sound(pool: &[i32]) -> bool
-    requires { ⌜ L.rightLength (now pool) ≡ true ⌝ }
+    requires { ⌜ L.validLength (now pool) ≡ true ⌝ }
     ensures { λ r. ⌜ r ≡ S.recordsSound (L.read (now (pool .entry))) ⌝ }
 {
     leaf_records(pool) == pool::records_of(pool)
@@ -252,7 +252,7 @@ fn records_sound(pool: &[i32]) -> bool
 
 // The questions that need no walk, linear in the words.
 pub fn shaped(pool: &[i32]) -> bool
-    requires { ⌜ L.rightLength (now pool) ≡ true ⌝ }
+    requires { ⌜ L.validLength (now pool) ≡ true ⌝ }
     ensures { λ r. ⌜ r ≡ S.shapeSound (L.read (now (pool .entry))) ⌝ }
 {
     let head = geometry::and(height_sound(pool), root_sound(pool));

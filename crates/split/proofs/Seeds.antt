@@ -13,7 +13,7 @@ use Rattle.rules.specs.Split.{Seeds, seeds, pairsFrom, wasteOf, pickSeeds}
 use Rattle.rules_laws.proofs.Earliest.{best-append}
 use Rattle.geometry.proofs.Measures.{waste-lt}
 use Rattle.split.specs.declared.Pair.{Pair}
-use Rattle.split.specs.State.{Keyed, wastesMore, placesOf}
+use Rattle.split.specs.State.{Keyed, wastesMore, seedsOf}
 use Rattle.rules_laws.proofs.Turns.{best-nil, best-cons, up-more, up-none}
 
 -- the pair that the code keeps
@@ -21,13 +21,13 @@ abbrev pub kept : Pair → Pair → Pair
 kept b p = cond (ltb (b .key) (p .key)) p b
 
 module _ {rs : List Rect} {b p : Pair} (k : Keyed rs b) (l : Keyed rs p) where
-  same-test : wastesMore rs (placesOf p) (placesOf b) ≡ ltb (b .key) (p .key)
-  same-test = waste-lt (b .key) (p .key) (wasteOf rs (placesOf b)) (wasteOf rs (placesOf p)) (k .key) (l .key)
+  same-test : wastesMore rs (seedsOf p) (seedsOf b) ≡ ltb (b .key) (p .key)
+  same-test = waste-lt (b .key) (p .key) (wasteOf rs (seedsOf b)) (wasteOf rs (seedsOf p)) (k .key) (l .key)
 
-  pub kept-places : placesOf (kept b p) ≡ cond (wastesMore rs (placesOf p) (placesOf b)) (placesOf p) (placesOf b)
+  pub kept-places : seedsOf (kept b p) ≡ cond (wastesMore rs (seedsOf p) (seedsOf b)) (seedsOf p) (seedsOf b)
   kept-places = rw same-test (go (ltb (b .key) (p .key)))
     where
-      go : (t : Bool) → placesOf (cond t p b) ≡ cond t (placesOf p) (placesOf b)
+      go : (t : Bool) → seedsOf (cond t p b) ≡ cond t (seedsOf p) (seedsOf b)
       go true = refl
       go false = refl
 

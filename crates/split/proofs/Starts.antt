@@ -13,7 +13,7 @@ use Rattle.rules.specs.Geometry.{coverAll}
 use Rattle.rules.specs.Choose.{rectFrom}
 use Rattle.rules.specs.Split as S
 use Rattle.split.specs.declared.Groups.{Groups}
-use Rattle.split.specs.State.{AllValid, unjoined, groupsOf, Fill, Ok, ends, Whole}
+use Rattle.split.specs.State.{AllValid, unjoined, groupsOf, Fill, Ok, ends, GroupsWhole}
 use Rattle.split.proofs.Joins.{unjoined-set, unjoined-less}
 use Rattle.split.proofs.Steps.{none}
 
@@ -98,7 +98,7 @@ pub ends-same : (rs : List Rect) (t : Groups) → t .ones + t .twos ≡ 9 → en
 unfolding ends
 ends-same rs t e = let z : 9 - (t .ones + t .twos) ≡ 0 = omega arith in rw z (none (S.pickNext rs) (S.joinsTwo rs) (groupsOf t))
 
-pub whole : {rs : List Rect} {t : Groups} → Ok rs t → Fill t → t .ones + t .twos ≡ 9 → Whole t
+pub whole : {rs : List Rect} {t : Groups} → Ok rs t → Fill t → t .ones + t .twos ≡ 9 → GroupsWhole t
 whole o f e = record {
   all = e;
   ones = omega (arith, f .one);

@@ -26,14 +26,14 @@ pub record AllValid (rs : List Rect) : Type 0 where
 abbrev pub wastesMore : List Rect → S.Seeds → S.Seeds → Bool
 wastesMore rs a b = ltZ (S.wasteOf rs b) (S.wasteOf rs a)
 
-abbrev pub placesOf : Pair → S.Seeds
-placesOf p = S.seeds (p .first) (p .second)
+abbrev pub seedsOf : Pair → S.Seeds
+seedsOf p = S.seeds (p .first) (p .second)
 
 -- two of the nine in order, and the key is their d
 pub record Keyed (rs : List Rect) (p : Pair) : Type 0 where
   pub order : p .first < p .second
   pub inside : p .second < 9
-  pub key : subℕ (p .key) 8000000000000000000 ≡ S.wasteOf rs (placesOf p)
+  pub key : subℕ (p .key) 8000000000000000000 ≡ S.wasteOf rs (seedsOf p)
 
 -- ---- groups
 
@@ -116,7 +116,7 @@ unfoldable pub ends : List Rect → Groups → S.Groups
 ends rs t = S.distribute (S.pickNext rs) (S.joinsTwo rs) (remaining t) (groupsOf t)
 
 -- what a caller may go by: 3 to 6 places in each group, all of them places of the nine
-pub record Whole (t : Groups) : Type 0 where
+pub record GroupsWhole (t : Groups) : Type 0 where
   pub all : t .ones + t .twos ≡ 9
   pub ones : 3 ≤ t .ones
   pub twos : 3 ≤ t .twos

@@ -10,7 +10,7 @@ ghost use lib.IntN.{pos, natAbs, _-ℤ_};
 ghost use Rattle.rules.specs.Lists.{earliestBest, upFrom, lessThen};
 ghost use Rattle.rules.specs.Geometry as G;
 ghost use Rattle.rules.specs.Split as S;
-ghost use Rattle.split.specs.State.{AllValid, Keyed, wastesMore, placesOf, widerNext, unjoined, firstOf, groupsOf, Free, Fill, Ok, flipped, withOne, ends, Whole};
+ghost use Rattle.split.specs.State.{AllValid, Keyed, wastesMore, seedsOf, widerNext, unjoined, firstOf, groupsOf, Free, Fill, Ok, flipped, withOne, ends, GroupsWhole};
 use rules::Rect;
 
 // ---- PickSeeds
@@ -34,7 +34,7 @@ fn pairs_of(nine: [Rect; 9], i: usize, best: Pair) -> Pair
     requires { ⌜ AllValid nine ⌝ }
     requires { ⌜ i < 9 ⌝ }
     requires { ⌜ Keyed nine best ⌝ }
-    ensures is { λ r. ⌜ placesOf r ≡ earliestBest (wastesMore nine) (placesOf best) (map (S.seeds i) (upFrom (i + 1) (9 - (i + 1)))) ⌝ }
+    ensures is { λ r. ⌜ seedsOf r ≡ earliestBest (wastesMore nine) (seedsOf best) (map (S.seeds i) (upFrom (i + 1) (9 - (i + 1)))) ⌝ }
     ensures keyed { λ r. ⌜ Keyed nine r ⌝ }
 {
     let a = nine[i];
@@ -58,7 +58,7 @@ fn pairs_of(nine: [Rect; 9], i: usize, best: Pair) -> Pair
 // Largest d, then earliest first member, then earliest second.
 fn pick_seeds(nine: [Rect; 9]) -> Pair
     requires { ⌜ AllValid nine ⌝ }
-    ensures is { λ r. ⌜ placesOf r ≡ S.pickSeeds nine ⌝ }
+    ensures is { λ r. ⌜ seedsOf r ≡ S.pickSeeds nine ⌝ }
     ensures keyed { λ r. ⌜ Keyed nine r ⌝ }
 {
     let key = geometry::waste(nine[0], nine[1]);
@@ -322,7 +322,7 @@ pub fn split_nine(nine: [Rect; 9]) -> Groups
     requires { ⌜ AllValid nine ⌝ }
     ensures one { λ r. ⌜ take (r .ones) (r .one) ≡ S.quadraticGroups nine .one ⌝ }
     ensures two { λ r. ⌜ take (r .twos) (r .two) ≡ S.quadraticGroups nine .two ⌝ }
-    ensures whole { λ r. ⌜ Whole r ⌝ }
+    ensures whole { λ r. ⌜ GroupsWhole r ⌝ }
 {
     let p = pick_seeds(nine);
     let i = p.first;

@@ -15,7 +15,7 @@ use Rattle.rules.specs.declared.Pointer.{Pointer}
 use Rattle.rules.specs.declared.Entry.{Entry}
 use Rattle.rules.specs.Lists.{joined, same}
 use Rattle.rules.specs.Pool.{Node, Pool, entry, nodeAt, entriesAt, entryAt, rects}
-use Rattle.rules.specs.Layout.{rightLength, pointerWord, entryWords, padded, nodeWords, headWords, words, natural, wordAt, pointerOf, read}
+use Rattle.rules.specs.Layout.{validLength, pointerWord, entryWords, padded, nodeWords, headWords, words, natural, wordAt, pointerOf, read}
 use Rattle.rules.specs.Choose.{rectFrom}
 use Rattle.rules.specs.Sound.{nothingElse}
 use Rattle.pool.specs.Slots.{InPool}
@@ -159,7 +159,7 @@ head-eight : (p : Pool) → length (headWords p) ≡ 8
 unfolding headWords padded
 head-eight p = refl
 
-pub nothing-is : (w : List ℤ) → rightLength w ≡ true
+pub nothing-is : (w : List ℤ) → validLength w ≡ true
     → (stand (headWords (read w)) w 0 && stand (joined (map nodeWords (read w .slots))) w 8) ≡ nothingElse w
 unfolding nothingElse words
 nothing-is w r =

@@ -1,4 +1,4 @@
-// The layout again, as a question: are the words of a right length those that the pool read from them would be written as, and nothing
+// The layout again, as a question: are the words of a valid length those that the pool read from them would be written as, and nothing
 // else? With `pool`, this is the room that knows where a word lies.
 ghost use mathlib.Core.Path.{_≡_};
 ghost use mathlib.Core.Bool.{true, false, _&&_};
@@ -72,7 +72,7 @@ fn tidy_numbers(pool: &[i32]) -> bool
 
 // "Head: word 0 edition, 1; .. words 4 to 7 zero."
 fn tidy_head(pool: &[i32]) -> bool
-    requires { ⌜ L.rightLength (now pool) ≡ true ⌝ }
+    requires { ⌜ L.validLength (now pool) ≡ true ⌝ }
     ensures { λ r. ⌜ r ≡ stand (L.headWords (L.read (now (pool .entry)))) (now (pool .entry)) 0 ⌝ }
 {
     let edition = is_word(pool, 0, 1);
@@ -144,7 +144,7 @@ fn tidy_slot(pool: &[i32], s: SlotNumber) -> bool
 }
 
 fn tidy_slots(pool: &[i32]) -> bool
-    requires { ⌜ L.rightLength (now pool) ≡ true ⌝ }
+    requires { ⌜ L.validLength (now pool) ≡ true ⌝ }
     ensures { λ r. ⌜ r ≡ stand (Li.joined (map L.nodeWords (L.read (now (pool .entry)) .slots))) (now (pool .entry)) 8 ⌝ }
 {
     let n = pool::slot_count(pool);
@@ -160,7 +160,7 @@ fn tidy_slots(pool: &[i32]) -> bool
 
 // "the head is as above", "unused entries and free slots are all zero": the words are those of the pool that is read from them.
 pub fn tidy(pool: &[i32]) -> bool
-    requires { ⌜ L.rightLength (now pool) ≡ true ⌝ }
+    requires { ⌜ L.validLength (now pool) ≡ true ⌝ }
     ensures { λ r. ⌜ r ≡ S.nothingElse (now (pool .entry)) ⌝ }
 {
     geometry::and(tidy_head(pool), tidy_slots(pool))

@@ -9,7 +9,7 @@ use lib.IntN.{ℤ}
 use borrow.Author.Needs.{needs}
 use Rattle.rules.specs.declared.Record.{Record}
 use Rattle.found_items.specs.Items.{itemsFrom}
-use Rattle.dustmap.specs.Running.{noRecord}
+use Rattle.rules.specs.Pool.{noRecord}
 use Rattle.dustmap.proofs.Calls.{found-none, found-more}
 use native.Mathlib.Omega.{arith}
 use Rattle.dustmap.proofs.found_list.Statement.{statement}

@@ -1,6 +1,6 @@
 -- `main` is safe and ends: the rounds that are left fall. The blank pool is sound, and a round keeps it so.
 use mathlib.Core.Path.{_≡_, ap, _∙_}
-use Rattle.rules.specs.Layout.{rightLength}
+use Rattle.rules.specs.Layout.{validLength}
 use Rattle.rules.specs.Sound.{sound}
 use Rattle.dustmap.proofs.First.{first-long, first-right, first-sound}
 use Rattle.dustmap.proofs.Rests.{rounds-stands}
@@ -45,10 +45,10 @@ slice-aggregate-free-slots : tie.Need-slice-aggregate-free-slots Inv-loop μ-loo
 slice-aggregate-free-slots c = search needs
 
 free-slots-requires : tie.Need-free-slots-requires Inv-loop μ-loop
-free-slots-requires c κs = ap rightLength (c .before .before .blank .ensures .1) ∙ first-right
+free-slots-requires c κs = ap validLength (c .before .before .blank .ensures .1) ∙ first-right
 
 loop-holds : tie.Need-loop-holds Inv-loop μ-loop
-loop-holds c = record { words = ap length (c .before .before .before .blank .ensures .1) ∙ first-long; space = search needs; inputs = search needs; outs = search needs; stands = record { ready = record { right = ap rightLength (c .before .before .before .blank .ensures .1) ∙ first-right; sound = ap sound (c .before .before .before .blank .ensures .1) ∙ first-sound; known = c .free-slots .ensures }; low = omega arith; high = omega arith; room = omega arith } }
+loop-holds c = record { words = ap length (c .before .before .before .blank .ensures .1) ∙ first-long; space = search needs; inputs = search needs; outs = search needs; stands = record { ready = record { right = ap validLength (c .before .before .before .blank .ensures .1) ∙ first-right; sound = ap sound (c .before .before .before .blank .ensures .1) ∙ first-sound; known = c .free-slots .ensures }; low = omega arith; high = omega arith; room = omega arith } }
 
 slice-aggregate-round : tie.Need-slice-aggregate-round Inv-loop μ-loop
 slice-aggregate-round c = search needs

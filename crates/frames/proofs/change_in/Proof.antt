@@ -1,7 +1,7 @@
 -- `change_in`: number and rectangle from the words behind the kind; the second rectangle is not used.
 use mathlib.Core.Path.{_∙_}
 use Rattle.frames.proofs.Requests.{change-made}
-use Rattle.frames.proofs.Words.{came}
+use Rattle.frames.proofs.Words.{word-kept}
 use borrow.Author.Needs.{needs}
 use Rattle.frames.proofs.change_in.Statement.{statement}
 use Rattle.frames.proofs.change_in.Tie as tie
@@ -16,7 +16,7 @@ no-rect-requires : tie.Need-no-rect-requires
 no-rect-requires c κs = search needs
 
 returns : tie.Need-returns
-returns c = change-made (c .before .before .before .before .args .bytes .now) (c .before .before .before .before .args .kind) (came (c .before .before .before .before .fits .kind .sfits)) (came (c .before .before .word-at .ok) ∙ c .before .before .word-at .ensures) (c .before .rect-at .ensures) (c .no-rect .ensures)
+returns c = change-made (c .before .before .before .before .args .bytes .now) (c .before .before .before .before .args .kind) (word-kept (c .before .before .before .before .fits .kind .sfits)) (word-kept (c .before .before .word-at .ok) ∙ c .before .before .word-at .ensures) (c .before .rect-at .ensures) (c .no-rect .ensures)
 
 pub change-in-spec : {M : Type 1} → statement M
 change-in-spec = tie.close (tie.spec word-at-requires rect-at-requires no-rect-requires returns)

@@ -1,7 +1,7 @@
 -- `rect_at`: four words, each where the definition finds it.
 use mathlib.Core.Path.{_∙_}
 use Rattle.frames.proofs.Requests.{rect-made}
-use Rattle.frames.proofs.Words.{came}
+use Rattle.frames.proofs.Words.{word-kept}
 use borrow.Author.Needs.{needs}
 use Rattle.frames.proofs.rect_at.Statement.{statement}
 use Rattle.frames.proofs.rect_at.Tie as tie
@@ -28,7 +28,7 @@ word-at-requires-4 : tie.Need-word-at-requires-4
 word-at-requires-4 c κs = search needs
 
 returns : tie.Need-returns
-returns c = rect-made (c .before .before .before .before .before .args .bytes .now) (c .before .before .before .before .before .args .at) (came (c .before .before .before .word-at .ok) ∙ c .before .before .before .word-at .ensures) (came (c .before .before .word-at2 .ok) ∙ c .before .before .word-at2 .ensures) (came (c .before .word-at3 .ok) ∙ c .before .word-at3 .ensures) (came (c .word-at4 .ok) ∙ c .word-at4 .ensures)
+returns c = rect-made (c .before .before .before .before .before .args .bytes .now) (c .before .before .before .before .before .args .at) (word-kept (c .before .before .before .word-at .ok) ∙ c .before .before .before .word-at .ensures) (word-kept (c .before .before .word-at2 .ok) ∙ c .before .before .word-at2 .ensures) (word-kept (c .before .word-at3 .ok) ∙ c .before .word-at3 .ensures) (word-kept (c .word-at4 .ok) ∙ c .word-at4 .ensures)
 
 pub rect-at-spec : {M : Type 1} → statement M
 rect-at-spec =

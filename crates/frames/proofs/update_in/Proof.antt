@@ -1,7 +1,7 @@
 -- `update_in`: number, old and new rectangle from the words behind the kind.
 use mathlib.Core.Path.{_∙_}
 use Rattle.frames.proofs.Requests.{update-made}
-use Rattle.frames.proofs.Words.{came}
+use Rattle.frames.proofs.Words.{word-kept}
 use borrow.Author.Needs.{needs}
 use Rattle.frames.proofs.update_in.Statement.{statement}
 use Rattle.frames.proofs.update_in.Tie as tie
@@ -16,7 +16,7 @@ rect-at-requires-2 : tie.Need-rect-at-requires-2
 rect-at-requires-2 c κs = search needs
 
 returns : tie.Need-returns
-returns c = update-made (c .before .before .before .before .args .bytes .now) (came (c .before .before .word-at .ok) ∙ c .before .before .word-at .ensures) (c .before .rect-at .ensures) (c .rect-at2 .ensures)
+returns c = update-made (c .before .before .before .before .args .bytes .now) (word-kept (c .before .before .word-at .ok) ∙ c .before .before .word-at .ensures) (c .before .rect-at .ensures) (c .rect-at2 .ensures)
 
 pub update-in-spec : {M : Type 1} → statement M
 update-in-spec = tie.close (tie.spec word-at-requires rect-at-requires rect-at-requires-2 returns)

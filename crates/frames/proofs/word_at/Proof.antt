@@ -1,7 +1,7 @@
 -- `word_at`: the four bytes that a word's definition takes are the four that `unsigned_at` adds up, and `signed` gives the sign.
 use mathlib.Core.Path.{sym, ap, _∙_}
 use Rattle.rules.specs.Frames.{signed}
-use Rattle.frames.proofs.Words.{came, word-is}
+use Rattle.frames.proofs.Words.{word-kept, word-is}
 use borrow.Author.Needs.{needs}
 use Rattle.frames.proofs.word_at.Statement.{statement}
 use Rattle.frames.proofs.word_at.Tie as tie
@@ -13,7 +13,7 @@ signed-requires : tie.Need-signed-requires
 signed-requires c κs = search needs
 
 returns : tie.Need-returns
-returns c = came (c .signed .ok) ∙ c .signed .ensures ∙ ap signed (c .before .unsigned-at .ensures .0) ∙ sym (word-is (c .before .before .before .args .bytes .now) (c .before .before .before .args .at))
+returns c = word-kept (c .signed .ok) ∙ c .signed .ensures ∙ ap signed (c .before .unsigned-at .ensures .0) ∙ sym (word-is (c .before .before .before .args .bytes .now) (c .before .before .before .args .at))
 
 pub word-at-spec : {M : Type 1} → statement M
 word-at-spec = tie.close (tie.spec unsigned-at-requires signed-requires returns)

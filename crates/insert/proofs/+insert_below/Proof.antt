@@ -6,7 +6,7 @@ use native.Mathlib.Omega.{arith}
 use borrow.Fn.Kinds.{In}
 use borrow.Fn.PlainCycle.{Measures, is, falls, and}
 use Rattle.rules.specs.Insert as I
-use Rattle.insert.specs.Left.{Grows}
+use Rattle.insert.specs.Left.{GrewTo}
 use Rattle.insert.proofs.Fitted.{slot-in}
 use Rattle.insert.proofs.Steps.{way-end, way-ends, way-node, way-choosable, way-valid, way-inner, way-down, way-back, way-up}
 use Rattle.insert.proofs.insert_below.Reads as insert-below
@@ -77,7 +77,7 @@ insert-below-returns : (t : ℕ) → insert-below-lts.Need-returns (
   adjust-reads.Asked,
   adjust-reads.Learnt,
 ) (insert-below-at t) insert-below.Post
-insert-below-returns t c = let s = c .before .before .before .before in let h = s .pre .1 .1 in subst⁻¹ (λ (o : I.Grown). Grows o (c .before .install .result) (c .before .install .last .0)) (way-ends h (c .before .before .before .if1 .taken)) (c .before .install .ensures)
+insert-below-returns t c = let s = c .before .before .before .before in let h = s .pre .1 .1 in subst⁻¹ (λ (o : I.Grown). GrewTo o (c .before .install .result) (c .before .install .last .0)) (way-ends h (c .before .before .before .if1 .taken)) (c .before .install .ensures)
 
 -- src/lib.rt:195:9
 insert-below-choose-child-requires : (t : ℕ) → insert-below-lts.Need-choose-child-requires (

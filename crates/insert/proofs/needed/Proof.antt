@@ -5,7 +5,7 @@ use Prim.Native.Nat.{ℕ, _-_}
 use native.Mathlib.Omega.{arith}
 use Rattle.rules.specs.Layout.{read}
 use Rattle.rules.specs.declared.SlotNumber.{SlotNumber}
-use Rattle.insert.specs.State.{Way}
+use Rattle.insert.specs.State.{WayDown}
 use Rattle.insert.proofs.Roots.{needs-run, needs-more}
 use Rattle.insert.proofs.needed.Statement.{statement}
 use Rattle.insert.proofs.needed.Tie as tie
@@ -29,7 +29,7 @@ root-of-requires c κs = search needs
 
 -- src/lib.rt:279:9
 full-run-requires : tie.Need-full-run-requires
-full-run-requires c κs = let s = c .before .before in let p = read (s .args .pool .now) in let n = c .before .height-of .result - s .args .level in let levels : n ≡ p .height - s .args .level = ap (λ (k : ℕ). k - s .args .level) (c .before .height-of .ensures) in (s .pre .0, subst⁻¹ (λ (k : ℕ). Way p k (c .root-of .result) (s .args .e)) levels (subst⁻¹ (λ (t : SlotNumber). Way p (p .height - s .args .level) t (s .args .e)) (c .root-of .ensures) (s .pre .1 .1)))
+full-run-requires c κs = let s = c .before .before in let p = read (s .args .pool .now) in let n = c .before .height-of .result - s .args .level in let levels : n ≡ p .height - s .args .level = ap (λ (k : ℕ). k - s .args .level) (c .before .height-of .ensures) in (s .pre .0, subst⁻¹ (λ (k : ℕ). WayDown p k (c .root-of .result) (s .args .e)) levels (subst⁻¹ (λ (t : SlotNumber). WayDown p (p .height - s .args .level) t (s .args .e)) (c .root-of .ensures) (s .pre .1 .1)))
 
 -- src/lib.rt:280:28
 add-result : tie.Need-add-result

@@ -5,19 +5,19 @@ use Rattle.map.proofs.lengths_fit.Statement.{statement}
 use Rattle.map.proofs.lengths_fit.Tie as tie
 use Rattle.map.proofs.lengths_fit.Reads as reads
 use Rattle.map.proofs.lengths_fit.Lts as lts
-use Rattle.free_slots.proofs.right_length.Reads as right-length-reads
+use Rattle.free_slots.proofs.valid_length.Reads as valid-length-reads
 
 -- src/lib.rt:71:9
-right-length-requires : tie.Need-right-length-requires
-right-length-requires c κs = search needs
+valid-length-requires : tie.Need-valid-length-requires
+valid-length-requires c κs = search needs
 
 -- src/lib.rt:72:9
 returns : tie.Need-returns
-returns c = let e = sym (c .before .right-length .ensures) ∙ not-true _ (c .if1 .taken) in rw e
+returns c = let e = sym (c .before .valid-length .ensures) ∙ not-true _ (c .if1 .taken) in rw e
 
 -- src/lib.rt:68:1
 returns-2 : tie.Need-returns-2
-returns-2 c = let e = sym (c .before .right-length .ensures) ∙ not-false _ (c .if1 .left) in rw e
+returns-2 c = let e = sym (c .before .valid-length .ensures) ∙ not-false _ (c .if1 .left) in rw e
 
 pub lengths-fit-spec : {M : Type 1} → statement M
-lengths-fit-spec = tie.close (tie.spec right-length-requires returns returns-2)
+lengths-fit-spec = tie.close (tie.spec valid-length-requires returns returns-2)

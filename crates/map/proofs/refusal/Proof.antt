@@ -1,7 +1,7 @@
 use mathlib.Core.Path.{sym, _∙_}
 use lib.Dec.{eqb}
 use lib.ListN.{length}
-use Rattle.rules.specs.Layout.{rightLength}
+use Rattle.rules.specs.Layout.{validLength}
 use Rattle.rules_laws.proofs.Bools.{not-true, not-false}
 use Rattle.map.proofs.Refusals.{bad-lists, bad-length, right-first, not-sound, no-request, none-refuses}
 use borrow.Author.Needs.{needs}
@@ -31,7 +31,7 @@ returns-2 c = sym (bad-length (c .before .before .before .before .args .pool .no
 
 -- src/lib.rt:89:9
 sound-requires : tie.Need-sound-requires
-sound-requires c κs = right-first (rightLength (c .before .before .before .before .args .pool .now)) (eqb (c .before .before .before .before .args .workspace) (length (c .before .before .before .before .args .pool .now))) (sym (c .before .before .lengths-fit .ensures) ∙ c .if2 .left)
+sound-requires c κs = right-first (validLength (c .before .before .before .before .args .pool .now)) (eqb (c .before .before .before .before .args .workspace) (length (c .before .before .before .before .args .pool .now))) (sym (c .before .before .lengths-fit .ensures) ∙ c .if2 .left)
 
 -- src/lib.rt:90:9
 returns-3 : tie.Need-returns-3

@@ -9,7 +9,9 @@ use Rattle.rules.specs.declared.Request.{Request}
 use Rattle.rules.specs.Answers.{answer}
 use Rattle.rules.specs.Call.{Left}
 use Rattle.rules.specs.Computed.{document01}
-use Rattle.rules.specs.Histories.{box, insert, delete, noRecord, blankWords, zeroTo, history}
+use Rattle.rules.specs.Histories.{box, insert, delete, zeroTo, history}
+use Rattle.rules.specs.Pool.{noRecord}
+use Rattle.rules.specs.Layout.{blankWords}
 
 -- the pool that is lent
 delete-refused-start : List ℤ

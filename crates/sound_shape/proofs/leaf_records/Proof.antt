@@ -7,7 +7,7 @@ use Rattle.rules.specs.Pool.{Node}
 use Rattle.rules.specs.Layout.{read}
 use Rattle.pool.proofs.Parts.{few-slots}
 use Rattle.pool.proofs.Written.{read-slots}
-use Rattle.sound_shape.specs.Shapes.{recordsOf}
+use Rattle.sound_shape.specs.Shapes.{recordCounts}
 use Rattle.sound_shape.proofs.Asked.{records-more, records-end}
 use Rattle.sound_shape.proofs.leaf_records.Statement.{statement}
 use Rattle.sound_shape.proofs.leaf_records.Tie as tie
@@ -22,7 +22,7 @@ record Turn (ns : List Node) (n sum s : ℕ) : Type 0 where
   low : 1 ≤ s
   most : s ≤ n + 1
   few : sum ≤ 8 * (s - 1)
-  all : sum + recordsOf (drop (s - 1) ns) ≡ recordsOf ns
+  all : sum + recordCounts (drop (s - 1) ns) ≡ recordCounts ns
 
 abbrev Inv-loop : tie.InvT-loop
 Inv-loop pool n sum₀ s₀ sum s = Turn (read pool .slots) n sum s

@@ -9,7 +9,7 @@ use native.Mathlib.Omega.{arith}
 use Rattle.rules.specs.declared.Rect.{Rect}
 use Rattle.rules.specs.Choose.{rectFrom}
 use Rattle.split.specs.declared.Pair.{Pair}
-use Rattle.split.specs.State.{Keyed, placesOf}
+use Rattle.split.specs.State.{Keyed, seedsOf}
 use Rattle.split.proofs.pairs_of.Statement.{statement}
 use Rattle.split.proofs.pairs_of.Tie as tie
 use Rattle.split.proofs.pairs_of.Reads as reads
@@ -22,7 +22,7 @@ record Pass (i : ℕ) (nine : List Rect) (b₀ b : Pair) (j : ℕ) : Type 0 wher
   most : j ≤ 9
   past : i < j
   keyed : Keyed nine b
-  rest : inner nine i (placesOf b) j ≡ inner nine i (placesOf b₀) (i + 1)
+  rest : inner nine i (seedsOf b) j ≡ inner nine i (seedsOf b₀) (i + 1)
 
 abbrev Inv-loop : tie.InvT-loop
 Inv-loop i nine a b₀ j₀ b j = Pass i nine b₀ b j
@@ -46,7 +46,7 @@ module _ {i : ℕ} {nine : List Rect} {b₀ b : Pair} {j : ℕ} (u : Pass i nine
     most = omega arith;
     past = omega arith;
     keyed = kept-keyed (u .keyed) new-keyed;
-    rest = rw (kept-places (u .keyed) new-keyed) (sym (inner-step nine i (placesOf b) j h) ∙ u .rest);
+    rest = rw (kept-places (u .keyed) new-keyed) (sym (inner-step nine i (seedsOf b) j h) ∙ u .rest);
   }
 
 -- src/lib.rt:40:13
@@ -97,7 +97,7 @@ loop-again c = let s = c .before .before .before .before .before .before in let 
 
 -- src/lib.rt:33:1
 returns : tie.Need-returns Inv-loop μ-loop
-returns c = let s = c .before .before .before in let l = c .before .loop in (sym (inner-none (s .args .t1) (s .args .i) (placesOf (l .b)) (l .j) (c .loop-test .left)) ∙ l .inv .rest, l .inv .keyed)
+returns c = let s = c .before .before .before in let l = c .before .loop in (sym (inner-none (s .args .t1) (s .args .i) (seedsOf (l .b)) (l .j) (c .loop-test .left)) ∙ l .inv .rest, l .inv .keyed)
 
 pub pairs-of-spec : {M : Type 1} → statement M
 pairs-of-spec =

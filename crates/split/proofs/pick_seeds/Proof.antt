@@ -7,7 +7,7 @@ use Rattle.rules.specs.declared.Rect.{Rect}
 use Rattle.rules.specs.Choose.{rectFrom}
 use Rattle.rules.specs.Split.{wasteOf, pickSeeds}
 use Rattle.split.specs.declared.Pair.{Pair}
-use Rattle.split.specs.State.{Keyed, placesOf}
+use Rattle.split.specs.State.{Keyed, seedsOf}
 use Rattle.split.proofs.Seeds.{outer, outer-step, outer-none, outer-all}
 use Rattle.split.proofs.pick_seeds.Statement.{statement}
 use Rattle.split.proofs.pick_seeds.Tie as tie
@@ -20,7 +20,7 @@ use Rattle.split.proofs.pairs_of.Reads as pairs-of-reads
 record Round (nine : List Rect) (b : Pair) (i : ℕ) : Type 0 where
   most : i ≤ 9
   keyed : Keyed nine b
-  rest : outer nine (placesOf b) i ≡ pickSeeds nine
+  rest : outer nine (seedsOf b) i ≡ pickSeeds nine
 
 abbrev Inv-loop : tie.InvT-loop
 Inv-loop nine key b₀ i₀ b i = Round nine b i
@@ -60,11 +60,11 @@ loop-less c = search needs
 
 -- src/lib.rt:71:5
 loop-again : tie.Need-loop-again Inv-loop μ-loop
-loop-again c = let s = c .before .before .before .before .before .before in let l = c .before .before .loop in record { most = omega arith; keyed = c .pairs-of .ensures .1; rest = rw (c .pairs-of .ensures .0) (sym (outer-step (s .args .t1) (placesOf (l .b)) (l .i) (c .before .loop-test .taken)) ∙ l .inv .rest) }
+loop-again c = let s = c .before .before .before .before .before .before in let l = c .before .before .loop in record { most = omega arith; keyed = c .pairs-of .ensures .1; rest = rw (c .pairs-of .ensures .0) (sym (outer-step (s .args .t1) (seedsOf (l .b)) (l .i) (c .before .loop-test .taken)) ∙ l .inv .rest) }
 
 -- src/lib.rt:59:1
 returns : tie.Need-returns Inv-loop μ-loop
-returns c = let s = c .before .before .before .before .before in let l = c .before .loop in (sym (outer-none (s .args .t1) (placesOf (l .b)) (l .i) (c .loop-test .left)) ∙ l .inv .rest, l .inv .keyed)
+returns c = let s = c .before .before .before .before .before in let l = c .before .loop in (sym (outer-none (s .args .t1) (seedsOf (l .b)) (l .i) (c .loop-test .left)) ∙ l .inv .rest, l .inv .keyed)
 
 pub pick-seeds-spec : {M : Type 1} → statement M
 pick-seeds-spec =

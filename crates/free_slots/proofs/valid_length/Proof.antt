@@ -1,12 +1,12 @@
--- `slots::right_length` meets its contract: with 1 to 4,096 slots the length alone decides.
+-- `slots::valid_length` meets its contract: with 1 to 4,096 slots the length alone decides.
 use mathlib.Core.Path.{sym}
 use native.Mathlib.Omega.{arith}
 use Rattle.free_slots.proofs.Lengths.{no-slots, many-slots, by-length}
 use borrow.Author.Needs.{needs}
-use Rattle.free_slots.proofs.right_length.Statement.{statement}
-use Rattle.free_slots.proofs.right_length.Tie as tie
-use Rattle.free_slots.proofs.right_length.Reads as reads
-use Rattle.free_slots.proofs.right_length.Lts as lts
+use Rattle.free_slots.proofs.valid_length.Statement.{statement}
+use Rattle.free_slots.proofs.valid_length.Tie as tie
+use Rattle.free_slots.proofs.valid_length.Reads as reads
+use Rattle.free_slots.proofs.valid_length.Lts as lts
 use Rattle.pool.proofs.slot_count.Reads as slot-count-reads
 
 -- src/lib.rt:83:9
@@ -33,6 +33,6 @@ add-result c = search needs
 returns-3 : tie.Need-returns-3
 returns-3 c = rw (c .before .before .slot-count .ensures) (sym (by-length (c .before .before .before .args .pool .now) (omega (arith, c .before .if1 .left, c .before .before .slot-count .ensures)) (omega (arith, c .if2 .left, c .before .before .slot-count .ensures))))
 
-pub right-length-spec : {M : Type 1} → statement M
-right-length-spec =
+pub valid-length-spec : {M : Type 1} → statement M
+valid-length-spec =
     tie.close (tie.spec slot-count-requires returns returns-2 mul-result add-result returns-3)
