@@ -269,4 +269,4 @@ carry-spec 𝓤 H 𝓜 𝓖 𝓡 =
     entered 𝓤 H (tripleOf 𝓤 H (𝓖 .A) carry′.signature (carry′.spec 𝓤 H (𝓖 .A) (𝓜 .mem) (𝓡 .run)))
     (tables 𝓤 H 𝓜 𝓡 code.env .C) (tables 𝓤 H 𝓜 𝓡 code.env .Λ) #map·carry code.function (code.unfolded 𝓤 H 𝓜 𝓡)
     (carry-meets 𝓤 H (𝓖 .A) (givenOf 𝓤 H 𝓜 𝓖) (𝓜 .mem) (𝓡 .run) (tablesOf 𝓤 H 𝓜 (tables 𝓤 H 𝓜 𝓡 code.env))
-    (cited 𝓤 H (ItemC 𝓤 H (𝓖 .A) (𝓜 .mem) (𝓡 .run)) 𝓜 𝓡 code.env #items·item item-def.routine code.calls-items·item (item-thm.met 𝓤 H 𝓜 𝓖 𝓡)))
+    (cited 𝓤 H (ItemC 𝓤 H (𝓖 .A) (𝓜 .mem) (𝓡 .run)) 𝓜 𝓡 code.env #items·item item-def.routine code.calls-found-items·item (item-thm.met 𝓤 H 𝓜 𝓖 𝓡)))
