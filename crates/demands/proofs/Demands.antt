@@ -182,7 +182,7 @@ pub demand-3 : (n : ℕ) (steps : List Step) (l : Lent) (o : Left) → History n
 unfolding call
 demand-3 n steps l o h z =
     let k = h .1 in
-    let holds = subst (λ (w : List ℤ). Rattle.in_force_laws.specs.Shows.Holds (read w) (inForceAfter steps)) (sym (h .0)) (history-holds n steps (h .2)) in
+    let holds = subst (λ (w : List ℤ). Rattle.in_force_laws.specs.Shows.HoldsRecords (read w) (inForceAfter steps)) (sym (h .0)) (history-holds n steps (h .2)) in
     rw (k .answers, k .found) (record {
       each = λ done q rest all window s v room. call-shows ours l ours-lawful (inForceAfter steps) holds (sym (k .number) ∙ z) done q rest all window s v room;
     })
