@@ -1,6 +1,7 @@
 //! Blanking and soundness: of blank, sound, damaged, garbage and hostile pools.
 
-use crate::lent::{lend, Lent};
+use crate::both::lend;
+use crate::lent::Lent;
 use crate::pools;
 use crate::seen::Seen;
 use crate::spoil::garbage_words;

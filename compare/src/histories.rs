@@ -1,6 +1,7 @@
 //! Histories from a blank pool, in batches; every call is made of both programs, and faulty calls come in between.
 
-use crate::lent::{lend, Lent};
+use crate::both::lend;
+use crate::lent::Lent;
 use crate::seen::Seen;
 use crate::spoil::{fill_unused, garbage_answers, garbage_found, garbage_words, muddle, spoil};
 use crate::tally::Tally;

@@ -1,6 +1,7 @@
 //! The largest pool, filled as far as it goes: calls over it, and the time of a search that finds everything.
 
-use crate::lent::{lend, Lent};
+use crate::both::lend;
+use crate::lent::Lent;
 use crate::seen::Seen;
 use crate::spoil::{garbage_answers, garbage_found, garbage_words};
 use crate::tally::Tally;

@@ -2,6 +2,7 @@
 //!
 //! usage: compare [SEED [ROUNDS]]
 
+mod both;
 mod checks;
 mod histories;
 mod largest;

@@ -1,6 +1,7 @@
 //! The worked scripts of the second program, each as one call: what is rare in drawn histories happens here for certain.
 
-use crate::lent::{lend, Lent};
+use crate::both::lend;
+use crate::lent::Lent;
 use crate::seen::Seen;
 use crate::tally::Tally;
 use second::script::parse;

@@ -1,7 +1,8 @@
 //! Pools that hold a pair twice. "Soundness doesn't ask that pairs differ": no requests make such a pool from blank, but one
 //! may be lent.
 
-use crate::lent::{lend, Left, Lent};
+use crate::both::lend;
+use crate::lent::{Left, Lent};
 use crate::seen::Seen;
 use crate::spoil::{garbage_answers, garbage_found, garbage_words};
 use crate::tally::Tally;
