@@ -1,9 +1,9 @@
 //! The legend beside the map: what the colours stand for, and what the window found and opened.
 
-use crate::picture::{colour, is_opened, EDGE, FOUND, RECORD};
+use crate::look::{colour, EDGE, FOUND, RECORD};
 use crate::svg::{rect, text, Place};
 use crate::tree::{Node, Tree};
-use crate::window::Shown;
+use crate::window::{is_opened, Shown};
 use dustmap::Rect;
 
 const PLAIN: &str = "font-size=\"13\" fill=\"#333333\"";

@@ -2,15 +2,18 @@
 //!
 //! usage: draw FRAMES [LOW-X LOW-Y HIGH-X HIGH-Y]
 
+mod batch;
 mod frames;
 mod labels;
 mod legend;
+mod look;
 mod picture;
 mod svg;
 mod tree;
 mod window;
 
-use dustmap::{Answer, Found, Rect, Request};
+use batch::one;
+use dustmap::{Found, Rect};
 use std::io::{Read, Write};
 use std::process::ExitCode;
 
@@ -78,13 +81,4 @@ fn after(bytes: &[u8]) -> Vec<i32> {
         eprintln!("bad frame {}: drawn is what the frames before it left", requests.len() + 1);
     }
     pool
-}
-
-/// A batch of one over the pool.
-fn one(pool: &mut [i32], request: Request, found: &mut [Found]) -> Answer {
-    let mut work = vec![0; pool.len()];
-    let mut answers = [Answer::default()];
-    let number = dustmap::call(pool, &mut work, &[request], &mut answers, found);
-    assert_eq!(number, 0, "a pool made by requests is sound");
-    answers[0]
 }

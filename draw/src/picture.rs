@@ -2,20 +2,15 @@
 
 use crate::labels::Labels;
 use crate::legend::legend;
+use crate::look::{colour, EDGE, FOUND, RECORD};
 use crate::svg::{circle, line, rect, text, titled, Place, Scale};
 use crate::tree::{joint, Node, Tree};
-use crate::window::Shown;
+use crate::window::{is_opened, Shown};
 use dustmap::{Found, Rect};
 
 const SHEET: (f64, f64) = (1280.0, 860.0);
-pub const EDGE: f64 = 24.0;
 const LEGEND: f64 = 270.0;
 const LEAST_HIGH: f64 = 560.0;
-
-/// The outline of a node of level 1, 2, .. Few trees in 128 slots have more than four levels.
-const LEVELS: [&str; 5] = ["#0a8f6a", "#0b6fb3", "#8e44ad", "#8c6d31", "#444444"];
-pub const RECORD: &str = "#6d7b8a";
-pub const FOUND: &str = "#d1480a";
 
 /// With more records than this, a window's numbers would be lost among all the others.
 const CROWD: usize = 200;
@@ -45,14 +40,6 @@ fn extent(tree: &Tree, shown: Option<&Shown>) -> Rect {
     let covers = tree.nodes.iter().filter_map(|node| node.cover);
     let all = covers.chain(shown.map(|s| s.window)).reduce(joint);
     all.unwrap_or(Rect::from_words([-500, -500, 500, 500]))
-}
-
-pub fn colour(level: i32) -> &'static str {
-    LEVELS[(level as usize - 1).min(LEVELS.len() - 1)]
-}
-
-pub fn is_opened(node: &Node, shown: Option<&Shown>) -> bool {
-    shown.is_some_and(|s| s.opened.contains(&node.slot))
 }
 
 /// The covers, highest level first.

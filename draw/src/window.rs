@@ -1,7 +1,7 @@
 //! A window on the map: what the proved search finds in it, and the nodes that it opens on its way.
 
-use crate::one;
-use crate::tree::{meets, Tree};
+use crate::batch::one;
+use crate::tree::{meets, Node, Tree};
 use dustmap::{Found, Rect, Request};
 
 pub struct Shown {
@@ -42,4 +42,9 @@ fn open(tree: &Tree, slot: usize, window: &Rect, opened: &mut Vec<usize>) {
     for entry in node.entries.iter().filter(|e| meets(&e.rect, window)) {
         open(tree, entry.pointer as usize, window, opened);
     }
+}
+
+/// Whether the search of the window, if there is one, opens the node.
+pub fn is_opened(node: &Node, shown: Option<&Shown>) -> bool {
+    shown.is_some_and(|s| s.opened.contains(&node.slot))
 }

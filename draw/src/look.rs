@@ -1,0 +1,12 @@
+//! What the map and its legend have in common: colours, and the margin of the sheet.
+
+pub const EDGE: f64 = 24.0;
+pub const RECORD: &str = "#6d7b8a";
+pub const FOUND: &str = "#d1480a";
+
+/// The outlines of nodes, by level from 1 up. Few trees in 128 slots have more than four levels.
+const LEVELS: [&str; 5] = ["#0a8f6a", "#0b6fb3", "#8e44ad", "#8c6d31", "#444444"];
+
+pub fn colour(level: i32) -> &'static str {
+    LEVELS[(level as usize - 1).min(LEVELS.len() - 1)]
+}
