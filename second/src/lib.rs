@@ -14,7 +14,6 @@ pub mod dustmap;
 pub mod events;
 pub mod generate;
 pub mod geometry;
-pub mod nine;
 pub mod pool;
 pub mod script;
 pub mod selftest;

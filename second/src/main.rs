@@ -1,20 +1,16 @@
-//! `second dustmap | script | generate STYLE SEED N COUNT | damage SEED N | selftest | nine |
-//! nine-sets SEED COUNT | nine-site`
+//! `second dustmap | script | generate STYLE SEED N COUNT | damage SEED N | selftest`
 
 use std::io::{Read, Write};
 use std::process::ExitCode;
 
 use second::style::Style;
-use second::{damage, dustmap, generate, nine, script, selftest};
+use second::{damage, dustmap, generate, script, selftest};
 
 const USAGE: &str = "usage: second dustmap
        second script
        second generate STYLE SEED N COUNT
        second damage SEED N
        second selftest
-       second nine
-       second nine-sets SEED COUNT
-       second nine-site
 styles: random clustered grid points lines duplicates limits churn";
 
 fn main() -> ExitCode {
@@ -44,11 +40,6 @@ fn run(arguments: &[&str]) -> Result<(Vec<u8>, ExitCode), String> {
         }
         ["damage", seed, slots] => damage::script(number(seed)?, slot_count(slots)?),
         ["selftest"] => return Ok(tested()),
-        ["nine"] => nine::run(&input()?),
-        ["nine-sets", seed, count] => {
-            return Ok((nine::sets(number(seed)?, number(count)? as usize), ExitCode::SUCCESS))
-        }
-        ["nine-site"] => return Ok((nine::site_sets(), ExitCode::SUCCESS)),
         _ => return Err(USAGE.to_string()),
     };
     Ok((output.into_bytes(), ExitCode::SUCCESS))
