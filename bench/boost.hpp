@@ -1,4 +1,4 @@
-// The R-tree of Boost.Geometry with the same split and the same node sizes, where its header is installed.
+// The R-tree of Boost.Geometry with the same split and the same node sizes, where its headers are installed.
 #pragma once
 
 #if __has_include(<boost/geometry/index/rtree.hpp>)

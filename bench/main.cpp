@@ -17,7 +17,7 @@ struct Size {
 constexpr Size sizes[] = {{128, 400, 200}, {4'096, 14'000, 1'024}};
 constexpr int times = 5;
 
-// The least time of several runs, in microseconds: what else runs at the time can only add. Each starts from a copy.
+// The least time of several runs, in microseconds, since anything else that runs at the time can only add. Each starts from a copy.
 template <class State, class Run> double least(const State &start, Run run) {
     double best = std::numeric_limits<double>::infinity();
     for (int k = 0; k < times; ++k) {
@@ -31,12 +31,12 @@ template <class State, class Run> double least(const State &start, Run run) {
 }
 
 #if HAVE_BOOST
-// Boost's time for a request of the workload, after a look that both show the same.
+// Boost's time per request of the workload, after a check that both find the same.
 double boost_time(const Workload &w, const Shown &ours) {
     Boost start;
     start.run(w.before);
     if (!(Boost(start).shown(w.timed) == ours)) {
-        std::fprintf(stderr, "bench: %s: the two do not show the same\n", w.name.c_str());
+        std::fprintf(stderr, "bench: %s: the two do not find the same\n", w.name.c_str());
         std::exit(1);
     }
     return least(start, [&](Boost &b) { b.run(w.timed); }) / static_cast<double>(w.timed.size());
@@ -71,7 +71,7 @@ void time_workload(const Size &size, const Workload &w) {
     start.make_room(w.timed);
     const double boost = boost_time(w, Map(start).shown(w.timed));
     const size_t all = w.timed.size();
-    // One at a time, the call costs far more than the request, and the same for each: a part of them will do.
+    // One at a time, the call costs far more than the request, and the same for each, so a part of them will do.
     print_times(size, w, 1, map_time(start, w, all / 8, 1), boost);
     print_times(size, w, all, map_time(start, w, all, all), boost);
     std::fflush(stdout);
@@ -103,16 +103,16 @@ void print_memory(const Size &size, const Requests &inserts) {
 Requests inserts(const Size &size) { return workload("", size.records, 0, [](Site &s) { return s.add(); }).before; }
 
 int main() {
-    if (!HAVE_BOOST) std::printf("Boost.Geometry's header is not installed (Debian: libboost-dev): its columns are empty.\n\n");
-    std::printf("Time for a request, in microseconds, the least of %d runs. A batch of 1 pays at each call for the check that the\n"
+    if (!HAVE_BOOST) std::printf("Boost.Geometry's headers are not installed (Debian: libboost-dev): its columns are empty.\n\n");
+    std::printf("Time per request, in microseconds, the least of %d runs. A batch of 1 pays at each call for the check that the\n"
                 "whole pool is sound and for its copy in the workspace, as document 01 demands.\n\n", times);
     std::printf("| Slots | Requests | In a batch | dustmap | Boost | dustmap / Boost |\n|---|---|---|---|---|---|\n");
     for (const Size &size : sizes) {
         for (const Workload &w : workloads(size.records, size.changes)) time_workload(size, w);
     }
-    std::printf("\nThe call alone, with a batch of 0, in microseconds.\n\n| Slots | A call that asks nothing |\n|---|---|\n");
+    std::printf("\nThe call alone, with a batch of 0, in microseconds.\n\n| Slots | A call with no request |\n|---|---|\n");
     for (const Size &size : sizes) print_call(size, inserts(size));
-    std::printf("\nMemory for a record. The workspace has as many words again as the pool.\n\n"
+    std::printf("\nMemory per record. The workspace has as many words again as the pool.\n\n"
                 "| Slots | Records | Words of the pool | Words of slots in use | Bytes of the pool | Bytes of slots in use | "
                 "Boost, bytes |\n|---|---|---|---|---|---|---|\n");
     for (const Size &size : sizes) print_memory(size, inserts(size));

@@ -7,7 +7,7 @@
 
 #include "workloads.hpp"
 
-// What the searches of a run showed: to see that two maps were asked the same and said the same.
+// What the searches of a run found, to see that two maps were given the same requests and gave the same answers.
 struct Shown {
     uint64_t records = 0;
     uint64_t numbers = 0;
@@ -36,7 +36,7 @@ public:
                           found.data(), found.size()) == 0);
     }
 
-    // The same requests in one batch: every one has to be accepted. Gives what the searches showed.
+    // The same requests in one batch: every one has to be accepted. Gives what the searches found.
     Shown shown(const Requests &requests) {
         Shown shown;
         for (size_t at = 0; at < requests.size(); at += most) {

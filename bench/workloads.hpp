@@ -112,7 +112,7 @@ template <class Draw> Workload workload(const char *name, int records, int count
     return w;
 }
 
-// The workloads for a map of so many records. As many as `changes` are inserted, or deleted; a pool has room for no more.
+// The workloads for a map of so many records. `changes` records are inserted or deleted; the pool has no room for more.
 inline std::vector<Workload> workloads(int records, int changes) {
     const int most = 1'024;
     const int32_t few = side_for(5, records), many = side_for(records / 20.0, records);

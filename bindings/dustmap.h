@@ -3,8 +3,8 @@
  * A pool is 8 + 42N words for N slots, N from 1 to 4,096. The caller lends every list and keeps it: nothing is allocated, and
  * the pool is all that one call leaves to the next.
  *
- * Nothing is asked of the words in the lists: any words have an answer. What C cannot check is asked of the caller: each
- * pointer is valid for its length, also where that is 0, and no list that is written overlaps another.
+ * The lists may hold any words: every input has an answer. The caller has to see to what C cannot check: each pointer is
+ * valid for its length, even where that is 0, and no list that is written overlaps another.
  */
 #ifndef DUSTMAP_H
 #define DUSTMAP_H
@@ -31,7 +31,7 @@ struct dustmap_request {
     struct dustmap_rect second; /* an update's new rectangle */
 };
 
-/* What comes back, of a call or in an answer. */
+/* What comes back, from a call or in an answer. */
 enum dustmap_number {
     DUSTMAP_ACCEPTED = 0,
     DUSTMAP_BAD_LISTS = 9,     /* call: more than 1,024 requests, or answer list of another length than the request list */
@@ -64,16 +64,16 @@ struct dustmap_found {
 /* The words of a pool of so many slots. */
 #define DUSTMAP_WORDS(slots) ((size_t)8 + (size_t)42 * (size_t)(slots))
 
-/* Makes a pool blank: 0; or 1 for a wrong length, and then nothing is written. */
+/* Makes a pool blank and returns 0; or returns 1 for a wrong length, and then nothing is written. */
 int32_t dustmap_blank(int32_t *pool, size_t pool_len);
 
-/* What a call would return that asks nothing: 1 for a wrong length, 2 for a pool that is not sound, else 0. Nothing is written. */
+/* What a call with no request would return: 1 for a wrong length, 2 for a pool that is not sound, else 0. Nothing is written. */
 int32_t dustmap_check(const int32_t *pool, size_t pool_len);
 
 /* Does each request in turn. Its answer goes to the same place in the answer list; accepted searches fill the found list one
  * after another, in order of record number, low x, low y, high x, high y, and places beyond stay.
  *
- * Returns 9, 1, 2 or -1, checked in that order, and then nothing at all is written; else 0, and the workspace equals the pool. */
+ * Returns 9, 1, 2 or -1, checked in that order, and then nothing at all is written; otherwise 0, and the workspace equals the pool. */
 int32_t dustmap_call(int32_t *pool, size_t pool_len, int32_t *work, size_t work_len,
                      const struct dustmap_request *requests, size_t n_requests,
                      struct dustmap_answer *answers, size_t n_answers,

@@ -1,4 +1,4 @@
-//! Blanking and soundness: of blank, sound, damaged, garbage and hostile pools.
+//! Blanking, and the check of soundness, on blank, sound, damaged, garbage and hostile pools.
 
 use crate::both::lend;
 use crate::lent::Lent;
@@ -15,7 +15,7 @@ use std::time::Instant;
 /// Slots, and how many pools of each sort.
 const PLAN: [(usize, usize); 6] = [(1, 150), (2, 150), (3, 150), (12, 150), (128, 40), (4096, 2)];
 
-/// What the second program says of a pool: 1, 2 or 0.
+/// What the second program says about a pool: 1, 2 or 0.
 fn expected(pool: &[i32]) -> i32 {
     match second::pool::slots_of(pool.len()) {
         None => 1,
@@ -24,7 +24,7 @@ fn expected(pool: &[i32]) -> i32 {
     }
 }
 
-/// Both programs about the soundness of a pool.
+/// Asks both programs whether a pool is sound.
 fn ask(what: &str, pool: &[i32], tally: &mut Tally, seen: &mut Seen) {
     let (ours, theirs) = (dustmap::check(pool), expected(pool));
     tally.hold(ours == theirs, || {
@@ -33,7 +33,7 @@ fn ask(what: &str, pool: &[i32], tally: &mut Tally, seen: &mut Seen) {
     seen.note(format!("check said {theirs}"));
 }
 
-/// Blanking, of every length up to four slots, and about the largest.
+/// Blanking, at every length up to four slots, and at lengths around the largest.
 pub fn blanking(tally: &mut Tally, seen: &mut Seen) {
     for length in (0..180).chain([8 + 42 * 4096, 8 + 42 * 4097, 8 + 42 * 4096 + 1]) {
         let mut ours: Vec<i32> = (0..length).map(|i| i * 7 - 3).collect();
@@ -86,7 +86,7 @@ fn call_over(what: &str, pool: Vec<i32>, dice: &mut Dice, tally: &mut Tally, see
     );
 }
 
-/// The time of a check, the least of several.
+/// The least time of several checks.
 fn time(pool: &[i32]) -> f64 {
     (0..25)
         .map(|_| {
@@ -97,7 +97,7 @@ fn time(pool: &[i32]) -> f64 {
         .fold(f64::INFINITY, f64::min)
 }
 
-/// A hostile pool of 4,096 slots is answered in the time of a sound one, within a factor of two.
+/// The check of a hostile pool of 4,096 slots takes at most twice as long as that of a sound one.
 pub fn times(sound: &[i32], tally: &mut Tally) {
     let full = time(sound);
     println!("a check of a full pool of 4,096 slots: {full:.0} us");

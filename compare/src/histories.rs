@@ -1,4 +1,4 @@
-//! Histories from a blank pool, in batches; every call is made of both programs, and faulty calls come in between.
+//! Histories from a blank pool, in batches; every call is made to both programs, and faulty calls come in between.
 
 use crate::both::lend;
 use crate::lent::Lent;
@@ -62,7 +62,7 @@ fn batch_size(dice: &mut Dice) -> usize {
     }
 }
 
-/// A history under way.
+/// A history in progress.
 struct History {
     title: String,
     generator: Generator,
@@ -102,8 +102,8 @@ impl History {
         self.probe(&title, tally, seen);
     }
 
-    /// "A delete can be refused 7", which is rare. Where no slot is free, the pairs of leaves that a delete would set aside are
-    /// deleted, each in a call of its own over the same pool.
+    /// "A delete can be refused 7", which is rare. Where no slot is free, a pair is deleted from each leaf that would then be too
+    /// thin, each in a call of its own over the same pool.
     fn probe(&mut self, title: &str, tally: &mut Tally, seen: &mut Seen) {
         for request in deletes_that_condense(&self.pool) {
             let lent = self.lists(Drawn { requests: vec![request], all_found: 0 });
@@ -153,7 +153,7 @@ impl History {
         }
     }
 
-    /// The workspace is scratch: what it holds before a call says nothing.
+    /// The workspace is scratch: what it holds before a call does not matter.
     fn workspace(&mut self) -> Vec<i32> {
         match self.dice.below(3) {
             0 => self.pool.clone(),

@@ -1,4 +1,4 @@
-//! The largest pool, filled as far as it goes: calls over it, and the time of a search that finds everything.
+//! The largest pool, as full as it gets: calls over it, and the time of a search that finds everything.
 
 use crate::both::lend;
 use crate::lent::Lent;
@@ -43,7 +43,7 @@ fn insert(dice: &mut Dice) -> Request {
     Request::insert(number, Rect::from_words(Style::Random.rect(dice).to_words()))
 }
 
-/// A batch of every kind over the full pool, of both programs.
+/// Batches with requests of every kind over the full pool, made to both programs.
 pub fn calls(full: &[i32], dice: &mut Dice, tally: &mut Tally, seen: &mut Seen) {
     let pairs = pairs_in_leaves(full);
     let mut requests = vec![second::Request::search(whole_site().to_words())];
@@ -68,10 +68,10 @@ pub fn calls(full: &[i32], dice: &mut Dice, tally: &mut Tally, seen: &mut Seen) 
     lend("the largest pool, full", &lent, tally, seen);
 }
 
-/// Prints how a search for everything compares with one sort of what it finds, from the order in which a walk meets it.
+/// Prints how a search for everything compares with one sort of what it finds, starting from the order in which a walk meets it.
 pub fn time(full: &[i32], tally: &mut Tally) {
     if !second::sound(full) {
-        // Said already, where it was filled; and a walk of it might not end.
+        // That was reported when it was filled, and a walk over it might not end.
         return;
     }
     let mut pool = full.to_vec();
@@ -80,7 +80,7 @@ pub fn time(full: &[i32], tally: &mut Tally) {
     walk(&pool, pool[1] as usize, &mut unsorted);
     let (mut found, mut sorted) = (vec![Found::default(); unsorted.len()], Vec::new());
     let (mut search, mut nothing, mut sort) = (f64::INFINITY, f64::INFINITY, f64::INFINITY);
-    // The least of many: what else runs at the time can only add. In turn, so that it adds to all three alike.
+    // The least of many, since anything else that runs at the time can only add. They take turns, so that it adds to all three.
     for _ in 0..40 {
         search = search.min(call(&mut pool, &[everything], &mut found));
         nothing = nothing.min(call(&mut pool, &[], &mut []));
@@ -88,17 +88,17 @@ pub fn time(full: &[i32], tally: &mut Tally) {
     }
     let ratio = (search - nothing) / sort;
     println!("a search that finds {} records: {search:.0} us", found.len());
+    println!("  a call with no request: {nothing:.0} us; the sort of Rust's library: {sort:.0} us");
     println!(
-        "  a call that asks nothing: {nothing:.0} us; the sort of Rust's library: {sort:.0} us"
+        "  the search, less a call with no request, takes {ratio:.1} times as long as the sort"
     );
-    println!("  the search, less a call that asks nothing, takes {ratio:.1} sorts");
     tally.hold(found == sorted, || "the search for everything: not what a sort gives".into());
     tally.hold(ratio <= MOST_SORTS, || {
-        format!("the search for everything: more than {MOST_SORTS} sorts")
+        format!("the search for everything: more than {MOST_SORTS} times as long as a sort")
     });
 }
 
-/// One call, timed in microseconds; without end where it is refused, so that the bound fails.
+/// One call, timed in microseconds; infinite where it is refused, so that the bound fails.
 fn call(pool: &mut [i32], requests: &[Request], found: &mut [Found]) -> f64 {
     let mut work = vec![0; pool.len()];
     let mut answers = vec![Answer::default(); requests.len()];

@@ -66,7 +66,7 @@ fn tower(slots: usize, top: usize, child: impl Fn(usize, usize) -> usize) -> Vec
 
 /// The same pool with its last leaf wrong, so that the fault is met late.
 pub fn wrong_at_the_end(mut pool: Vec<i32>) -> Vec<i32> {
-    let slots = slots_of(pool.len()).expect("a pool of right length");
+    let slots = slots_of(pool.len()).expect("a pool of valid length");
     let leaf = (1..=slots).rev().find(|&s| pool[slot_start(Slot(s))] == 1);
     if let Some(s) = leaf {
         pool[slot_start(Slot(s)) + 2] -= 1;

@@ -99,7 +99,7 @@ impl Seen {
         }
     }
 
-    /// Which other refusals were due, had the first check not come first.
+    /// Which other refusals would have been due, had the first check not come first.
     fn order_of_checks(&mut self, lent: &Lent, number: i32) {
         let Some(place) = CALL_REFUSALS.iter().position(|&n| n == number) else {
             return;
@@ -122,7 +122,7 @@ impl Seen {
         }
     }
 
-    /// How the lists of an accepted call stood.
+    /// What the lists of an accepted call were like.
     fn lists(&mut self, lent: &Lent, left: &Lent) {
         if lent.work != lent.pool {
             self.note("workspace unlike the pool");
@@ -183,11 +183,11 @@ impl Seen {
 
 /// Whether a row of the table that refuses a call is true of what was lent.
 fn due(number: i32, lent: &Lent) -> bool {
-    let right_length = slots_of(lent.pool.len()).is_some();
+    let valid_length = slots_of(lent.pool.len()).is_some();
     match number {
         9 => lent.requests.len() > MOST_REQUESTS || lent.answers.len() != lent.requests.len(),
-        1 => !right_length || lent.work.len() != lent.pool.len(),
-        2 => right_length && !sound(&lent.pool),
+        1 => !valid_length || lent.work.len() != lent.pool.len(),
+        2 => valid_length && !sound(&lent.pool),
         _ => lent.requests.iter().any(|r| !(INSERT..=SEARCH).contains(&r.kind)),
     }
 }

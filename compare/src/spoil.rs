@@ -46,7 +46,7 @@ pub fn fill_unused(dice: &mut Dice, request: &mut Request) {
     }
 }
 
-/// Several faults in one request, so that the order of its checks shows: the table's is the order of checks.
+/// Several faults in one request, so that the order of its checks shows: it has to be the table's.
 pub fn muddle(dice: &mut Dice, request: &mut Request, other: &Request) {
     if dice.chance(40) {
         request.kind = dice.pick(&[INSERT, DELETE, UPDATE, SEARCH]);

@@ -1,6 +1,6 @@
-//! What was asked and how often the answer was the right one.
+//! How many questions were asked, and how often the answer was right.
 
-/// So many differences are printed; the rest are only counted.
+/// This many differences are printed; the rest are only counted.
 const MOST_SHOWN: usize = 40;
 
 #[derive(Default)]
@@ -10,7 +10,7 @@ pub struct Tally {
 }
 
 impl Tally {
-    /// Counts one question. What it was is only said where the answer was wrong.
+    /// Counts one question. It is printed only where the answer was wrong.
     pub fn hold(&mut self, right: bool, what: impl FnOnce() -> String) {
         if right {
             self.passed += 1;

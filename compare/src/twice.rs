@@ -51,13 +51,13 @@ fn doubled(dice: &mut Dice, slots: usize) -> Vec<i32> {
     pool
 }
 
-/// One of so many times so many touching squares.
+/// A square of a grid of touching squares, with so many on each side.
 fn square(dice: &mut Dice, side: i64) -> [i32; 4] {
     let (x, y) = (dice.below(side as u64) as i32 * 10, dice.below(side as u64) as i32 * 10);
     [x, y, x + 10, y + 10]
 }
 
-/// A batch over the pairs that stand in the pool.
+/// A batch over the pairs that are in the pool.
 fn step(
     title: &str,
     pool: Vec<i32>,
@@ -68,7 +68,7 @@ fn step(
     let pairs = pairs_in_leaves(&pool);
     let size = dice.between(1, 6) as usize;
     let requests: Vec<Request> = (0..size).map(|_| draw(dice, &pairs)).collect();
-    let places = 10 * slots_of(pool.len()).expect("a pool of right length");
+    let places = 10 * slots_of(pool.len()).expect("a pool of valid length");
     let lent = Lent {
         work: garbage_words(dice, pool.len()),
         answers: garbage_answers(dice, size),
@@ -81,7 +81,7 @@ fn step(
     left.lent.pool
 }
 
-/// Mostly of a pair that is there.
+/// A request, mostly about a pair that is there.
 fn draw(dice: &mut Dice, pairs: &[Pair]) -> Request {
     let words = |p: Pair| (p.number.0 as i32, p.rect.to_words());
     let fresh = (dice.between(1, 3) as i32, square(dice, 4));
@@ -98,17 +98,17 @@ fn draw(dice: &mut Dice, pairs: &[Pair]) -> Request {
     }
 }
 
-/// What a call met of pairs that stood twice when it began: the first request that names one, and any search that shows one.
+/// What a call met of pairs that were held twice when it began: the first request that names one, and any search that shows one.
 fn note(lent: &Lent, left: &Left, before: &[Pair], seen: &mut Seen) {
     let Some((request, answer)) = lent.requests.iter().zip(&left.lent.answers).next() else {
         return;
     };
-    let stands_twice = |number: i32, rect: [i32; 4]| {
+    let held_twice = |number: i32, rect: [i32; 4]| {
         let same = |p: &&Pair| p.number.0 == i64::from(number) && p.rect.to_words() == rect;
         before.iter().filter(same).count() > 1
     };
     let (old, new) =
-        (stands_twice(request.number, request.first), stands_twice(request.number, request.second));
+        (held_twice(request.number, request.first), held_twice(request.number, request.second));
     match (request.kind, answer.number) {
         (INSERT, 6) if old => seen.note("pair held twice: insert 6"),
         (DELETE, 0) if old => seen.note("pair held twice: one deleted"),
@@ -119,7 +119,7 @@ fn note(lent: &Lent, left: &Left, before: &[Pair], seen: &mut Seen) {
     }
 }
 
-/// Whether the first search shows a pair twice: in found order equal pairs stand side by side.
+/// Whether the first search shows a pair twice: in found order equal pairs are side by side.
 fn twice_in(left: &Left, found: usize) -> bool {
     left.lent.found[..found].windows(2).any(|w| w[0] == w[1])
 }

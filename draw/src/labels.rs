@@ -2,7 +2,7 @@
 
 use crate::svg::Place;
 
-/// The size of a digit of the size that numbers are written in.
+/// How wide and how high a digit of a number is, and the gap beside a number.
 const DIGIT: f64 = 7.0;
 const HIGH: f64 = 11.0;
 const GAP: f64 = 3.0;

@@ -10,11 +10,11 @@ const PLAIN: &str = "font-size=\"13\" fill=\"#333333\"";
 const SMALL: &str = "font-size=\"11\" fill=\"#777777\"";
 const INDENT: f64 = 34.0;
 
-/// So many characters of small numbers fit on a line, and so many lines of them are written.
+/// How many characters of small numbers fit on a line, and how many lines of them are written at most.
 const LINE: usize = 34;
 const MOST_LINES: usize = 8;
 
-/// A legend under way: lines one below the other.
+/// A legend in progress: lines, one below the other.
 struct Legend {
     x: f64,
     y: f64,

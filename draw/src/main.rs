@@ -67,9 +67,9 @@ fn rect_of(sides: &[String]) -> Result<Rect, String> {
     Ok(Rect::from_words([words[0], words[1], words[2], words[3]]))
 }
 
-/// The pool that the frames leave, each a batch of one. What was refused is not drawn, so it is only said.
+/// The pool that the frames leave, each a batch of one. A refused request does not show in the drawing, so it is reported.
 fn after(bytes: &[u8]) -> Vec<i32> {
-    let mut pool = dustmap::blank_pool(SLOTS).expect("a right number of slots");
+    let mut pool = dustmap::blank_pool(SLOTS).expect("a valid number of slots");
     let (requests, bad) = frames::requests(bytes);
     for (index, request) in requests.iter().enumerate() {
         let number = one(&mut pool, *request, &mut [Found::default(); PLACES]).number;
@@ -78,7 +78,10 @@ fn after(bytes: &[u8]) -> Vec<i32> {
         }
     }
     if bad {
-        eprintln!("bad frame {}: drawn is what the frames before it left", requests.len() + 1);
+        eprintln!(
+            "bad frame {}: the drawing shows what the frames before it left",
+            requests.len() + 1
+        );
     }
     pool
 }

@@ -35,7 +35,7 @@ pub fn draw(tree: &Tree, shown: Option<&Shown>) -> String {
     out + "</svg>\n"
 }
 
-/// All records and the window; where there is neither, a metre about the middle.
+/// All records and the window; where there is neither, a square metre around the origin.
 fn extent(tree: &Tree, shown: Option<&Shown>) -> Rect {
     let covers = tree.nodes.iter().filter_map(|node| node.cover);
     let all = covers.chain(shown.map(|s| s.window)).reduce(joint);
@@ -80,7 +80,7 @@ fn sides(rect: &Rect) -> String {
 }
 
 /// The records, those found on top; then the numbers, those found first, since a number is left out where it has no room.
-/// A crowded map has the numbers of those found alone.
+/// A crowded map has only the numbers of those found.
 fn records(tree: &Tree, shown: Option<&Shown>, scale: &Scale, sheet: Place) -> String {
     let is_found = |record: &Found| shown.is_some_and(|s| s.found.contains(record));
     let mut all = tree.records();
@@ -130,7 +130,7 @@ fn number(at: (f64, f64), words: &str, found: bool) -> String {
     text(at, &look, words)
 }
 
-/// The window; one without area is still to be seen.
+/// The window; one without area is made large enough to see.
 fn window(shown: Option<&Shown>, scale: &Scale) -> String {
     let look =
         format!("fill=\"none\" stroke=\"{FOUND}\" stroke-width=\"2\" stroke-dasharray=\"8 5\"");

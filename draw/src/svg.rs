@@ -23,7 +23,7 @@ pub struct Place {
 }
 
 impl Scale {
-    /// Fits a rectangle into so much room at most, with a margin about it; the two axes keep their proportion.
+    /// Fits a rectangle into the room given, with a margin around it; both axes have the same scale.
     pub fn fit(rect: Rect, left: f64, top: f64, most_wide: f64, most_high: f64) -> Scale {
         let span = |low: i32, high: i32| (f64::from(high) - f64::from(low)).max(1.0);
         let (wide, high) = (span(rect.low_x, rect.high_x), span(rect.low_y, rect.high_y));
@@ -49,7 +49,7 @@ impl Scale {
         }
     }
 
-    /// A length for a scale bar: 1, 2 or 5 and zeros, the longest that takes a quarter of the width at most. In millimetres,
+    /// A length for a scale bar: 1, 2 or 5 and zeros, the longest that takes at most a quarter of the width. In millimetres,
     /// and on the sheet.
     pub fn bar(&self) -> (f64, f64) {
         let most = 0.25 * self.width / self.unit;
@@ -70,7 +70,7 @@ impl Place {
         }
     }
 
-    /// At least so wide and so high, about the same middle.
+    /// At least so wide and so high, around the same middle.
     pub fn at_least(self, side: f64) -> Place {
         let (x, y) = self.middle();
         let (width, height) = (self.width.max(side), self.height.max(side));

@@ -17,7 +17,7 @@ pub fn look(pool: &mut [i32], tree: &Tree, window: Rect) -> Result<Shown, String
     let answer = one(pool, Request::search(window), &mut found);
     if answer.number != 0 {
         return Err(format!(
-            "the window was answered {}: a side out of range, or low above high",
+            "the window was refused, {}: a side out of range, or low above high",
             answer.number
         ));
     }

@@ -154,7 +154,7 @@ fn call_refused(
     (!requests.iter().all(known)).then_some(NO_SUCH_KIND)
 }
 
-/// A batch under way: the map as the requests so far have left it, and the places filled.
+/// A batch in progress: the map as the requests so far have left it, and the places filled.
 struct Batch<'a> {
     map: Map,
     found: &'a mut [Found],

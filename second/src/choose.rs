@@ -1,4 +1,4 @@
-//! The choices of insert: which child takes a new entry, and how nine entries part in two.
+//! The choices of insert: which child takes a new entry, and how nine entries are divided into two groups.
 //!
 //! Places are counted from 1, as in the site examples.
 

@@ -33,7 +33,7 @@ pub fn damaged_pool(seed: u64, slots: usize) -> Vec<i32> {
 
 /// Changes one word: of the head, or of a slot, mostly one in use.
 fn damage(pool: &mut [i32], dice: &mut Dice) {
-    let slots = slots_of(pool.len()).expect("a pool of right length");
+    let slots = slots_of(pool.len()).expect("a pool of valid length");
     let place = if dice.chance(15) {
         dice.below(HEAD_WORDS as u64) as usize
     } else {
@@ -43,7 +43,7 @@ fn damage(pool: &mut [i32], dice: &mut Dice) {
     pool[place] = other_value(pool, place, slots, dice);
 }
 
-/// Nine times in ten a slot in use, if one drawn at random is.
+/// Nine times in ten a slot in use, if one is met in a few draws.
 fn slot_to_damage(pool: &[i32], slots: usize, dice: &mut Dice) -> Slot {
     let any = dice.chance(10);
     let mut slot = Slot(dice.between(1, slots as i64) as usize);

@@ -12,7 +12,7 @@ const FOUND_PLACES: usize = 64;
 /// A frame that is cut, of unknown kind or of wrong length.
 struct BadFrame;
 
-/// The pool and what stands beside it for batches of one.
+/// The pool, and the other lists of a batch of one.
 struct Station {
     pool: Vec<i32>,
     work: Vec<i32>,

@@ -7,7 +7,7 @@ use crate::pool::{Pair, RecordNumber};
 use crate::script::{blank_pool, request_line};
 use crate::style::Style;
 
-/// Draws requests one after another and keeps the pairs in force, so that deletes mostly hit.
+/// Draws requests one after another and keeps the pairs in force, so that most deletes find their pair.
 pub struct Generator {
     style: Style,
     dice: Dice,
@@ -46,7 +46,7 @@ impl Generator {
 
     /// Takes in how the last request was answered.
     pub fn answered(&mut self, request: &Request, number: i32) {
-        // One time in ten a full pool turns the tide: histories dwell where slots are short.
+        // A full pool turns the tide only one time in ten, so that histories stay where slots are short.
         if number == 7 && self.dice.chance(10) {
             self.filling = false;
         }
@@ -156,7 +156,7 @@ impl Generator {
         Pair { number: RecordNumber(i64::from(self.style.number(&mut self.dice))), rect }
     }
 
-    /// A rectangle of the style; one time in ten one that stands already.
+    /// A rectangle of the style; one time in ten one that is there already.
     fn new_rect(&mut self) -> Rect {
         if self.dice.chance(10) && !self.in_force.is_empty() {
             let place = self.dice.below(self.in_force.len() as u64) as usize;
@@ -177,7 +177,7 @@ impl Generator {
         make(number_word(&pair), pair.rect.to_words())
     }
 
-    /// A rectangle that stands under the number, if any, else any rectangle.
+    /// A rectangle held under the number, if there is one, else any rectangle.
     fn rect_in_force_under(&mut self, number: i32) -> [i32; 4] {
         let same = |p: &&Pair| number_word(p) == number;
         let rects: Vec<Rect> = self.in_force.iter().filter(same).map(|p| p.rect).collect();

@@ -100,7 +100,7 @@ impl Map {
 
     /// Reads a sound pool.
     pub fn read(pool: &[i32]) -> Map {
-        let slots = slots_of(pool.len()).expect("a pool of right length");
+        let slots = slots_of(pool.len()).expect("a pool of valid length");
         Map {
             root: Slot(usize::try_from(pool[1]).expect("a sound pool")),
             height: i64::from(pool[2]),
@@ -163,7 +163,7 @@ pub fn blank(pool: &mut [i32]) -> i32 {
     0
 }
 
-/// The pairs that stand in the leaves of a sound pool, read from the words.
+/// The pairs in the leaves of a sound pool, read from the words.
 pub fn pairs_in_leaves(pool: &[i32]) -> Vec<Pair> {
     let slots = slots_of(pool.len()).unwrap_or(0);
     let mut pairs = Vec::new();

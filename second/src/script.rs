@@ -1,4 +1,4 @@
-//! Text scripts: a pool and one batch, written as lines; and what the call made of them.
+//! Text scripts: a pool and one batch, written as lines; and what comes of them.
 
 use crate::call::{call_counting, Answer, Found, Request, DELETE, INSERT, SEARCH, UPDATE};
 use crate::events::Events;

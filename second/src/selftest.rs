@@ -29,7 +29,7 @@ const PLAN: [(usize, usize, u64); 7] = [
 /// More slots than any one request can call for in these histories.
 const SLOTS_TO_SPARE: usize = 64;
 
-/// What stands in a place of the found list before the call.
+/// What is in a place of the found list before the call.
 const UNTOUCHED: Found = Found { number: -77, low_x: -77, low_y: -77, high_x: -77, high_y: -77 };
 
 #[derive(Default)]
@@ -113,7 +113,7 @@ fn check_all_happened(report: &mut Report) {
     }
 }
 
-/// What the plain reading says of a request, and what a search finds and opens.
+/// What the plain reading says about a request, and what a search finds and opens.
 struct Outcome {
     request: Request,
     number: i32,
@@ -121,7 +121,7 @@ struct Outcome {
     opened: i32,
 }
 
-/// One history under way, in batches of one.
+/// One history in progress, in batches of one.
 struct Trial {
     generator: Generator,
     dice: Dice,
@@ -147,7 +147,7 @@ fn one_history(
 }
 
 impl Trial {
-    /// Draws a request, does it, and checks all that can be said of it.
+    /// Draws a request, does it, and checks all that can be said about it.
     fn step(&mut self, report: &mut Report) -> Result<(), String> {
         let request = self.generator.draw();
         let before = self.pool.clone();
@@ -267,7 +267,7 @@ fn rectangle_in_order(rect: [i32; 4]) -> bool {
 
 /// The same request in a pool with slots to spare: whether it needs no slot beyond the old
 /// ones, and the pool left. A slot once taken in a request stays in use to its end (what is
-/// freed at the end is a root that stood before), so this tells whether 7 is due.
+/// freed at the end is a root that was there before), so this tells whether 7 is due.
 fn in_a_bigger_pool(before: &[i32], request: Request) -> Result<(bool, Vec<i32>), String> {
     let mut bigger = before.to_vec();
     bigger.resize(before.len() + SLOT_WORDS * SLOTS_TO_SPARE, 0);
@@ -296,7 +296,7 @@ fn do_one(pool: &mut [i32], request: Request) -> i32 {
     }
 }
 
-/// What holds of the pool after every request.
+/// What is true of the pool after every request.
 fn check_pool(pool: &[i32], in_force: &[Pair]) -> Result<(), String> {
     ensure(sound(pool), "the pool is not sound")?;
     let mut held = pairs_in_leaves(pool);
@@ -330,7 +330,7 @@ fn brute_force(in_force: &[Pair], window: [i32; 4]) -> Vec<Found> {
 /// The root, and every other node in use whose cover meets the window.
 fn covers_met(pool: &[i32], window: [i32; 4]) -> i32 {
     let window = Rect::from_words(window);
-    let slots = slots_of(pool.len()).expect("a pool of right length");
+    let slots = slots_of(pool.len()).expect("a pool of valid length");
     let others = (1..=slots).filter(|&s| s as i32 != pool[1]);
     let met = others.filter(|&s| {
         let slot = slot_words(pool, Slot(s));
@@ -341,7 +341,7 @@ fn covers_met(pool: &[i32], window: [i32; 4]) -> i32 {
     1 + met.count() as i32
 }
 
-/// The list stands at the front; "places beyond stay".
+/// The list is at the front; "places beyond stay".
 fn check_found_list(found: &[Found], written: &[Found]) -> Result<(), String> {
     let (front, beyond) = found.split_at(written.len());
     ensure(front == written, "the found list is another")?;

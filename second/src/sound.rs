@@ -7,7 +7,7 @@
 use crate::geometry::{cover, Rect};
 use crate::pool::{entry_rect, entry_words, slot_words, slots_of, Slot, ENTRY_WORDS};
 
-/// Whether a pool of right length is sound. A pool of any other length is not.
+/// Whether a pool of valid length is sound. A pool of any other length is not.
 pub fn sound(pool: &[i32]) -> bool {
     let Some(slots) = slots_of(pool.len()) else {
         return false;

@@ -27,7 +27,7 @@ pub const STYLES: [(&str, Style); 8] = [
     ("churn", Style::Churn),
 ];
 
-/// Coordinates at the limits and about the middle.
+/// Coordinates at the limits and around the middle.
 const EDGE: [i64; 7] =
     [-COORDINATE_LIMIT, 1 - COORDINATE_LIMIT, -1, 0, 1, COORDINATE_LIMIT - 1, COORDINATE_LIMIT];
 
@@ -71,7 +71,7 @@ impl Style {
     }
 }
 
-/// Every place a valid rectangle can be.
+/// The largest valid rectangle, which holds all others.
 pub fn whole_site() -> Rect {
     let limit = COORDINATE_LIMIT;
     Rect::new(-limit, -limit, limit, limit)
@@ -82,7 +82,7 @@ fn sized(dice: &mut Dice, reach: i64, size: i64) -> Rect {
     Rect::new(x, y, x + dice.between(0, size), y + dice.between(0, size))
 }
 
-/// Small rectangles about one of six places.
+/// Small rectangles around one of six places.
 fn clustered(dice: &mut Dice) -> Rect {
     let centres = [(0, 0), (5_000, 0), (-40_000, 900), (5_000, 60_000), (70, 70), (9_999, -8)];
     let (x, y) = dice.pick(&centres);

@@ -233,7 +233,7 @@ impl Map {
         self.trace.root_shortened = true;
     }
 
-    /// Sets the cover at a step tight about the node below it.
+    /// Makes the cover at a step tight around the node below it.
     fn tighten(&mut self, step: Step, below: Slot) {
         let tight = self.node(below).cover();
         self.node_mut(step.node).entries[step.place - 1].rect = tight;

@@ -47,7 +47,7 @@ fn update_and_search() {
     assert_eq!(run(&input.concat()), "1 0 0 0\n2 0 0 0\n3 0 1 1\n7 -5 -5 -4 -4\n4 0 0 1\n");
 }
 
-/// Every cut of a frame is a bad frame, the lines before stay.
+/// A frame cut anywhere is a bad frame; the lines before it stay.
 #[test]
 fn cut_frames() {
     let first = insert(7, [0, 0, 10, 10]);

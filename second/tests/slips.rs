@@ -1,4 +1,4 @@
-//! "Slips this trade makes", each shut out.
+//! "Slips this trade makes", each ruled out.
 
 mod common;
 
@@ -56,7 +56,7 @@ fn covers_are_tight_after_a_delete() {
     assert_eq!(pool, three_levels());
 }
 
-/// With an unsigned d the two alike (d = -100) would be the seeds.
+/// With an unsigned d the two equal ones (d = -100) would be the seeds.
 #[test]
 fn identical_rectangles_are_not_the_most_wasteful() {
     let mut nine: Vec<Rect> = (0..9).map(|k| rect([20 * k, 0, 20 * k + 10, 10])).collect();

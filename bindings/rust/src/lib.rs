@@ -1,4 +1,4 @@
-//! The proved map, for Rust: the functions of `bindings/dustmap.h` behind safe ones.
+//! The proved map, for Rust: the functions of `bindings/dustmap.h` as safe ones.
 //!
 //! The numbers that come back are those of the header, which says what each means.
 
@@ -103,7 +103,7 @@ pub fn blank_pool(slots: usize) -> Option<Vec<i32>> {
 mod exported {
     use super::{Answer, Found, Request};
 
-    // A slice goes over as two parameters, a pointer and a count.
+    // A slice is passed as two parameters, a pointer and a count.
     extern "C" {
         pub fn dustmap_blank(pool: *mut i32, pool_len: usize) -> i32;
         pub fn dustmap_check(pool: *const i32, pool_len: usize) -> i32;
@@ -124,8 +124,8 @@ mod exported {
 
 /// Blanks a pool: 0, or 1 for a wrong length and nothing written.
 pub fn blank(pool: &mut [i32]) -> i32 {
-    // SAFETY: the pointer and the count are those of one slice, and the function asks nothing of its words: it is proved for
-    // any list of words, and a proved function reads and writes no place outside the lists that it is lent.
+    // SAFETY: the pointer and the count are those of one slice, and its words may be any: the function is proved for
+    // every list of words, and a proved function reads and writes no place outside the lists that it is lent.
     unsafe { exported::dustmap_blank(pool.as_mut_ptr(), pool.len()) }
 }
 

@@ -1,4 +1,4 @@
-//! Small helps for the tests.
+//! Small helpers for the tests.
 #![allow(dead_code)]
 
 use second::{blank, call, Answer, Found, Rect, Request};
