@@ -2,7 +2,7 @@
 -- is proved of boxes of naturals, where `omega` can work, and carried over.
 use mathlib.Core.Path.{_≡_, refl, sym, ap, ap₂, _∙_}
 use mathlib.Core.Bool.{Bool, true, false, cond}
-use Prim.Native.Nat.{ℕ, suc, _≤_, _*_, _-_, _+_, min, max}
+use Prim.Native.Nat.{ℕ, suc, _≤_, _<_, _*_, _-_, _+_, min, max}
 use native.Mathlib.Nat.{mul-le-mul}
 use native.Mathlib.Omega.{arith}
 use lib.Dec.{ltb}
@@ -85,21 +85,21 @@ size-grows g h = mul-le-mul (omega arith) (omega arith)
 
 -- ---- carried over
 
+-- what is so of two numbers in range by their order
+by-order : (C : Bool → Type 0) (a b : ℤ) → inRange a ≡ true → inRange b ≡ true → (off a ≤ off b → C true) → (off b < off a → C false) → C (leZ a b)
+by-order C a b h k first second = go (leZ a b) refl
+  where
+    go : (t : Bool) → leZ a b ≡ t → C t
+    go true e = first (leb-true (off a) (off b) (sym (le-off a b h k) ∙ e))
+    go false e = second (leb-false (off a) (off b) (sym (le-off a b h k) ∙ e))
+
 smaller-off : (a b : ℤ) → inRange a ≡ true → inRange b ≡ true → off (smaller a b) ≡ min (off a) (off b)
 unfolding smaller
-smaller-off a b h k = go (leZ a b) refl
-  where
-    go : (t : Bool) → leZ a b ≡ t → off (cond t a b) ≡ min (off a) (off b)
-    go true e = omega (arith, leb-true (off a) (off b) (sym (le-off a b h k) ∙ e))
-    go false e = omega (arith, leb-false (off a) (off b) (sym (le-off a b h k) ∙ e))
+smaller-off a b h k = by-order (λ t. off (cond t a b) ≡ min (off a) (off b)) a b h k (λ l. omega arith) (λ l. omega arith)
 
 larger-off : (a b : ℤ) → inRange a ≡ true → inRange b ≡ true → off (larger a b) ≡ max (off a) (off b)
 unfolding larger
-larger-off a b h k = go (leZ a b) refl
-  where
-    go : (t : Bool) → leZ a b ≡ t → off (cond t b a) ≡ max (off a) (off b)
-    go true e = omega (arith, leb-true (off a) (off b) (sym (le-off a b h k) ∙ e))
-    go false e = omega (arith, leb-false (off a) (off b) (sym (le-off a b h k) ∙ e))
+larger-off a b h k = by-order (λ t. off (cond t b a) ≡ max (off a) (off b)) a b h k (λ l. omega arith) (λ l. omega arith)
 
 one-of : (t : Bool) (a b : ℤ) → inRange a ≡ true → inRange b ≡ true → inRange (cond t a b) ≡ true
 one-of true a b h k = h
