@@ -6,11 +6,12 @@ ghost use mathlib.Core.List.{map};
 ghost use Prim.Native.Nat.{_+_, _-_, _<_};
 ghost use lib.Dec.{ltb};
 ghost use lib.ListN.{take};
-ghost use lib.IntN.{pos, natAbs, _-ℤ_};
-ghost use Rattle.rules.specs.Lists.{earliestBest, upFrom, lessThen};
+ghost use lib.IntN.{natAbs, _-ℤ_};
+ghost use Rattle.rules.specs.Lists.{earliestBest, upFrom};
 ghost use Rattle.rules.specs.Geometry as G;
 ghost use Rattle.rules.specs.Split as S;
 ghost use Rattle.split.specs.State.{AllValid, Keyed, wastesMore, seedsOf, widerNext, unjoined, firstOf, groupsOf, Free, Fill, Ok, flipped, withOne, ends, GroupsWhole};
+use geometry::less_then;
 use rules::Rect;
 
 // ---- PickSeeds
@@ -228,25 +229,6 @@ fn join_two(nine: [Rect; 9], t: Groups, k: usize) -> Groups
     swapped(join_one(nine, swapped(t), k))
 }
 
-// A rule and the next, twice: e below f; then a below b; then m below n.
-fn before(e: u64, f: u64, a: u64, b: u64, m: usize, n: usize) -> bool
-    ensures { λ r. ⌜ r ≡ lessThen (pos e) (pos f) (lessThen (pos a) (pos b) (ltb m n)) ⌝ }
-{
-    if e < f {
-        return true;
-    }
-    if f < e {
-        return false;
-    }
-    if a < b {
-        return true;
-    }
-    if b < a {
-        return false;
-    }
-    m < n
-}
-
 // Least enlargement, then smaller area, then fewer entries, then group 1: whether group 2 goes before group 1.
 fn second_first(r: Rect, one: Rect, two: Rect, ones: usize, twos: usize) -> bool
     requires { ⌜ G.valid r ≡ true ⌝ }
@@ -258,7 +240,7 @@ fn second_first(r: Rect, one: Rect, two: Rect, ones: usize, twos: usize) -> bool
     let f = geometry::enlargement(one, r);
     let a = geometry::area(two);
     let b = geometry::area(one);
-    before(e, f, a, b, twos, ones)
+    less_then(e < f, f < e, less_then(a < b, b < a, twos < ones))
 }
 
 // QS2 and QS3: one place joins a group. Where a group needs all that are left, the first of them joins it, and so on to the last.
