@@ -1,4 +1,4 @@
--- `read_more`: the bytes that wait are at the front, and what is read goes behind them.
+-- `read_more`: the bytes that wait are at the front, and what is read goes after them.
 use Prim.Native.Nat.{ℕ, _-_}
 use lib.ListN.{length, take}
 use borrow.Rule.Slice.PartMut.{putMid, take-put}

@@ -1,4 +1,4 @@
--- `answer_line`: four fields, each written behind the one before.
+-- `answer_line`: four fields, each written after the one before.
 use mathlib.Core.Path.{_∙_}
 use native.Mathlib.Omega.{arith}
 use mathlib.Core.List.{[], _∷_}

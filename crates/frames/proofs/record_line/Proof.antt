@@ -1,4 +1,4 @@
--- `record_line`: five fields, each written behind the one before. Every number fits 32 bits, so it is printed as it is.
+-- `record_line`: five fields, each written after the one before. Every number fits 32 bits, so it is printed as it is.
 use mir.Facts.{toZ-ofZ}
 use borrow.Author.Needs.{sfits-of}
 use mathlib.Core.List.{[], _∷_}
