@@ -1,2 +1,2 @@
--- Laws that the proofs of `choice` cite.
+-- Laws that the proofs of `choose` cite.
 pub mod Turns

@@ -1,6 +1,6 @@
 -- A turn of `choose_child`: the entry kept is the one that `earliestBest` keeps, since the struct holds its measures.
 use mathlib.Core.Path.{_≡_, refl, sym, ap, _∙_}
-use mathlib.Core.Bool.{Bool, true, false, cond}
+use mathlib.Core.Bool.{cond}
 use mathlib.Core.List.{List, _∷_}
 use Prim.Native.Nat.{ℕ, _+_, _-_, _≤_, _<_}
 use native.Mathlib.Omega.{arith}
@@ -9,6 +9,7 @@ use Rattle.rules.specs.declared.Rect.{Rect}
 use Rattle.rules.specs.Lists.{earliestBest, upFrom}
 use Rattle.rules.specs.Choose.{takesBetter, earliest, chooseChild}
 use Rattle.rules_laws.proofs.Turns.{best-nil, best-cons, up-more, up-none}
+use Rattle.geometry.proofs.Rules.{chosen, chosen-part}
 use Rattle.choose.specs.declared.Best.{Best}
 use Rattle.choose.specs.State.{Measured, beats}
 
@@ -23,18 +24,10 @@ module _ (rs : List Rect) (new : Rect) where
     same-test = rw (← (m .grows), ← (n .grows), ← (m .size), ← (n .size))
 
     pub kept : Measured rs new (cond (beats a b) a b)
-    kept = go (beats a b)
-      where
-        go : (t : Bool) → Measured rs new (cond t a b)
-        go true = m
-        go false = n
+    kept = chosen (Measured rs new) (beats a b) m n
 
     kept-at : cond (takesBetter rs new (a .at) (b .at)) (a .at) (b .at) ≡ (cond (beats a b) a b) .at
-    kept-at = rw same-test (go (beats a b))
-      where
-        go : (t : Bool) → cond t (a .at) (b .at) ≡ (cond t a b) .at
-        go true = refl
-        go false = refl
+    kept-at = rw same-test (sym (chosen-part (λ (c : Best). c .at) (beats a b) a b))
 
     pub step : (i : ℕ) → a .at ≡ i → i < length rs → ahead (b .at) i ≡ ahead ((cond (beats a b) a b) .at) (i + 1)
     step i e h =

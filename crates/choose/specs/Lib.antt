@@ -1,2 +1,2 @@
--- What `choice` asks of a node's rectangles.
+-- What `choose` asks of a node's rectangles.
 pub mod State

@@ -1,4 +1,4 @@
--- What `choice` asks of a node's rectangles, and what its struct stands for.
+-- What `choose` asks of a node's rectangles, and what its struct stands for.
 use mathlib.Core.Path.{_≡_}
 use mathlib.Core.Bool.{Bool, true, false}
 use mathlib.Core.List.{List}

@@ -9,6 +9,7 @@ ghost use Rattle.rules.specs.Pool as P;
 ghost use Rattle.rules.specs.Choose as C;
 ghost use Rattle.pool.specs.Slots.{InPool};
 ghost use Rattle.choose.specs.State.{Choosable, Measured, beats};
+use geometry::less_then;
 use rules::Rect;
 use rules::SlotNumber;
 
@@ -19,17 +20,22 @@ pub struct Best {
     pub size: u64,
 }
 
-// Least enlargement, then smallest area; a tie stays with the earlier.
+// Least enlargement, then smallest area.
+fn is_better(a: Best, b: Best) -> bool
+    ensures { λ r. ⌜ r ≡ beats a b ⌝ }
+{
+    less_then(
+        a.grows < b.grows,
+        b.grows < a.grows,
+        less_then(a.size < b.size, b.size < a.size, false),
+    )
+}
+
+// A tie stays with the earlier.
 fn keep(best: Best, other: Best) -> Best
     ensures { λ r. ⌜ r ≡ cond (beats other best) other best ⌝ }
 {
-    if other.grows < best.grows {
-        return other;
-    }
-    if best.grows < other.grows {
-        return best;
-    }
-    if other.size < best.size { other } else { best }
+    if is_better(other, best) { other } else { best }
 }
 
 // The measures of entry i of slot s for a new rectangle.

@@ -6,38 +6,41 @@ use native.Mathlib.Omega.{arith}
 use lib.ListN.{length, take, drop, length-drop}
 use lib.Seq.{length-take-le}
 use lib.IntN.{ℤ}
+use borrow.Rule.Slice.PartMut.{putMid, take-put}
 use Rattle.free_slots.specs.declared.FreeSlots.{FreeSlots}
 use Rattle.request.specs.Serving.{Ready}
 use Rattle.dustmap.specs.declared.Run.{Run}
 use Rattle.dustmap.specs.declared.Then.{Then}
 use Rattle.dustmap.specs.declared.Then.the-variants.{Goes, Waits, Full, Ends}
-use Rattle.dustmap.specs.Running.{Stands, Onward, Flushed, runOf, Came, Waited, Rounds}
+use Rattle.dustmap.specs.Running.{heldIn, Stands, Onward, Flushed, runOf, Came, Waited, Rounds}
 
-pub came-high : (l : List ℕ) (rest came : ℕ) → rest ≤ length l → came ≤ length (take (length l - rest) (drop rest l)) → rest + came ≤ length l
+came-high : (l : List ℕ) (rest came : ℕ) → rest ≤ length l → came ≤ length (take (length l - rest) (drop rest l)) → rest + came ≤ length l
 came-high l rest came h k =
     let d = length-drop rest l in
     omega (arith, length-take-le (length l - rest) (drop rest l) (omega arith))
 
+-- the bytes that wait are at the front of the buffer, and what was read is a part of it after them
+pub came-now : {old : List ℕ} {r : Run} (buffer part : List ℕ) (rest came : ℕ) → r .at ≤ r .end → r .end ≤ length old → rest ≡ r .end - r .at
+    → length buffer ≡ length old → take (r .end - r .at) buffer ≡ heldIn old r
+    → length (putMid rest (length buffer - rest) buffer part) ≡ length buffer
+    → came ≤ length (take (length (putMid rest (length buffer - rest) buffer part) - rest) (drop rest (putMid rest (length buffer - rest) buffer part)))
+    → Came old (putMid rest (length buffer - rest) buffer part) r (record { before = r .before; free = r .free; at = 0; end = rest + came; filled = 0 })
+came-now buffer part rest came low high e long held same k =
+    let input = putMid rest (length buffer - rest) buffer part in
+    record {
+      before = refl;
+      free = refl;
+      front = refl;
+      held = ap (λ (n : ℕ). take n input) (sym e) ∙ take-put rest (length buffer - rest) buffer part (omega arith) ∙ ap (λ (n : ℕ). take n buffer) e ∙ held;
+      low = omega arith;
+      high = came-high input rest came (omega arith) k;
+      filled = refl;
+    }
+
 -- ---- what a way on says
 
-run-goes : (s : Run) → runOf (Goes s) ≡ s
-unfolding runOf
-run-goes s = refl
-
-run-waits : (s : Run) → runOf (Waits s) ≡ s
-unfolding runOf
-run-waits s = refl
-
-run-full : (s : Run) → runOf (Full s) ≡ s
-unfolding runOf
-run-full s = refl
-
-run-ends : (s : Run) → runOf (Ends s) ≡ s
-unfolding runOf
-run-ends s = refl
-
-pub came-as : (old input : List ℕ) (r n s : Run) (t : Then) → Flushed r n → Came old input n (runOf t) → runOf t ≡ s → Came old input r s
-came-as old input r n s t f c e =
+pub came-as : {old input : List ℕ} {r n s : Run} (t : Then) → Flushed r n → Came old input n (runOf t) → runOf t ≡ s → Came old input r s
+came-as {old} {input} {r} {n} {s} t f c e =
     let d = subst (λ (x : Run). Came old input n x) e c in
     record {
       before = d .before ∙ f .before;
@@ -49,21 +52,9 @@ came-as old input r n s t f c e =
       filled = d .filled;
     }
 
-pub came-goes : (t : Then) (s : Run) → t ≡ Goes s → runOf t ≡ s
-came-goes t s e = ap runOf e ∙ run-goes s
-
-pub came-waits : (t : Then) (s : Run) → t ≡ Waits s → runOf t ≡ s
-came-waits t s e = ap runOf e ∙ run-waits s
-
-pub came-full : (t : Then) (s : Run) → t ≡ Full s → runOf t ≡ s
-came-full t s e = ap runOf e ∙ run-full s
-
-pub came-ends : (t : Then) (s : Run) → t ≡ Ends s → runOf t ≡ s
-came-ends t s e = ap runOf e ∙ run-ends s
-
-pub waited-goes : (old input : List ℕ) (r s : Run) → Came old input r s → Waited old input r (Goes s)
+pub waited-goes : {old input : List ℕ} {r n s : Run} (t : Then) → Flushed r n → Came old input n (runOf t) → runOf t ≡ s → Waited old input r (Goes s)
 unfolding Waited
-waited-goes old input r s c = c
+waited-goes t f c e = came-as t f c e
 
 pub waited-ends : (old input : List ℕ) (r s : Run) → Waited old input r (Ends s)
 unfolding Waited

@@ -47,7 +47,7 @@ Onward before input out r pool now (Ends s) =
     × ((arrived printed : List ℕ) → Claims before input out r arrived printed
     → (later : List ℕ) → dustmap (arrived ++ later) ≡ printed ++ take (s .filled) now)
 
--- what the call of a frame leaves: the pool, the lines behind the first `at` bytes of the output, and what is known of the free slots
+-- what the call of a frame leaves: the pool, the lines after the first `at` bytes of the output, and what is known of the free slots
 pub record Replies (pool : List ℤ) (q : Request) (before : ℕ) (out : List ℕ) (at : ℕ) (left : List ℤ) (now : List ℕ) (free : FreeSlots) (filled : ℕ) : Type 0 where
   pub ready : Ready left free
   pub map : left ≡ frameCall pool q .pool
@@ -69,7 +69,7 @@ runOf (Waits s) = s
 runOf (Full s) = s
 runOf (Ends s) = s
 
--- the bytes that wait are at the front now, and more have come behind them; nothing else has changed, and nothing waits to be written
+-- the bytes that wait are at the front now, and more have come after them; nothing else has changed, and nothing waits to be written
 pub record Came (old input : List ℕ) (r s : Run) : Type 0 where
   pub before : s .before ≡ r .before
   pub free : s .free ≡ r .free

@@ -1,5 +1,5 @@
-// Reads frames from standard input into a 128-slot pool and prints the lines of each. How a frame is read and how lines are written is
-// of crate `frames`, what a request does is of crate `request`; here one follows the other.
+// Reads frames from standard input into a 128-slot pool and prints the lines of each. Crate `frames` knows how a frame is read and how
+// lines are written, and crate `request` what a request does; here one follows the other.
 ghost use mathlib.Core.Path.{_≡_};
 ghost use mathlib.Core.Bool.{true};
 ghost use Prim.Native.Nat.{_+_, _≤_, _<_, min};
@@ -47,8 +47,8 @@ enum Then {
     Ends(Run),
 }
 
-// What a frame's call leaves beside its lines.
-struct Reply {
+// What a frame's call leaves besides its lines.
+struct Answered {
     free: FreeSlots,
     filled: usize,
 }
@@ -100,7 +100,7 @@ fn answer(
     before: u64,
     out: &mut [u8],
     at: usize,
-) -> Reply
+) -> Answered
     requires ready { ⌜ Ready (now pool) free ⌝ }
     requires words { ⌜ length (now pool) ≡ 5384 ⌝ }
     requires space { ⌜ length (now work) ≡ 5384 ⌝ }
@@ -114,7 +114,7 @@ fn answer(
     let a = served.answer;
     let found = found_list(pool, work, served.listed);
     let filled = frames::reply_lines(out, at, before, a, found);
-    Reply { free: left, filled }
+    Answered { free: left, filled }
 }
 
 // The frame that the bytes begin, if it is here.
@@ -178,8 +178,8 @@ fn flushed(out: &[u8], run: Run) -> Run
     }
 }
 
-// Reads once, behind the bytes that wait, which go to the front of the input first. At the end of the input, and where it cannot be read,
-// nothing comes.
+// Reads once, to the place after the bytes that wait, which go to the front of the input first. At the end of the input, and where it
+// cannot be read, nothing comes.
 fn read_more(input: &mut [u8], run: Run) -> Then
     requires { ⌜ (run .at ≤ run .end) × (run .end ≤ length (now input)) ⌝ }
     ensures { λ r. ⌜ Came (now (input .entry)) (now (input .exit)) run (runOf r) ⌝ }

@@ -1,4 +1,4 @@
--- The digits of a number are those of its tenth, and its last digit behind them.
+-- The digits of a number are those of its tenth, and its last digit after them.
 use mathlib.Core.Path.{_≡_, refl, sym, ap, subst, _∙_}
 use mathlib.Core.List.{List, [], _∷_, _++_, append-assoc}
 use Prim.Native.Nat.{ℕ, zero, suc, _+_, _*_, _/_, _%_, _^_, _≤_, _<_}
@@ -21,10 +21,10 @@ no-digits : (n : ℕ) (b : List ℕ) → digits zero n b ≡ b
 unfolding digits
 no-digits n b = refl
 
--- what stands behind the digits has no part in them
-behind : (k n : ℕ) (b : List ℕ) → digits k n b ≡ digits k n [] ++ b
-behind zero n b = no-digits n b ∙ ap (λ (l : List ℕ). l ++ b) (sym (no-digits n []))
-behind (suc k) n b = go (decLe 10 n) (behind k (n / 10))
+-- what stands after the digits has no part in them
+digits-then : (k n : ℕ) (b : List ℕ) → digits k n b ≡ digits k n [] ++ b
+digits-then zero n b = no-digits n b ∙ ap (λ (l : List ℕ). l ++ b) (sym (no-digits n []))
+digits-then (suc k) n b = go (decLe 10 n) (digits-then k (n / 10))
   where
     go : Dec (10 ≤ n) → ((b : List ℕ) → digits k (n / 10) b ≡ digits k (n / 10) [] ++ b) → digits (suc k) n b ≡ digits (suc k) n [] ++ b
     go (no h) r = rw (one-digit k n b (omega arith), one-digit k n [] (omega arith))
@@ -58,7 +58,7 @@ shown-one n h = one-digit 19 n [] h
 pub shown-more : (n : ℕ) → 10 ≤ n → n < 18446744073709551616 → natShown n ≡ natShown (n / 10) ++ (48 + n % 10) ∷ []
 unfolding natShown
 shown-more n l h =
-    more-digits 19 n [] l ∙ behind 19 (n / 10) ((48 + n % 10) ∷ [])
+    more-digits 19 n [] l ∙ digits-then 19 (n / 10) ((48 + n % 10) ∷ [])
     ∙ ap (λ (d : List ℕ). d ++ (48 + n % 10) ∷ []) (sym (spare 18 (n / 10) [] (tenth n (10 ^ 19) (omega arith))))
 
 at-most : (k n : ℕ) (b : List ℕ) → length (digits k n b) ≤ k + length b

@@ -1,4 +1,4 @@
--- What the bytes that are here show of the frame that they begin; and that it stays so, whatever comes behind them.
+-- What the bytes that are here show of the frame that they begin; and that it stays so, whatever comes after them.
 use mathlib.Core.Path.{_≡_, refl, sym, ap, _∙_}
 use mathlib.Core.Bool.{Bool, true, false}
 use mathlib.Core.List.{List, [], _∷_, _++_}
@@ -19,7 +19,7 @@ use Rattle.frames.proofs.Requests.{true-false, length-small, length-lea
 
 -- ---- a frame that is whole, and one that is cut
 
--- the frame of length n that the bytes behind the length hold
+-- the frame of length n that the bytes after the length hold
 abbrev wholeIn : ℕ → List ℕ → Frame
 wholeIn n rest = record { kind = pairValue (take 2 rest); body = take (n - 2) (drop 2 rest) }
 
@@ -60,13 +60,13 @@ module _ (bs : List ℕ) where
   unfolding beginning
   begun-end e = rw (beginning, e)
 
-  pub begun-no : (f : Frame) (behind : List ℕ) → nextFrame bs ≡ Complete f behind → frameRequest f ≡ none → beginning bs ≡ Wrong
+  pub begun-no : (f : Frame) (after : List ℕ) → nextFrame bs ≡ Complete f after → frameRequest f ≡ none → beginning bs ≡ Wrong
   unfolding beginning
-  begun-no f behind e r = rw (beginning, e, r)
+  begun-no f after e r = rw (beginning, e, r)
 
-  pub begun-yes : (f : Frame) (behind : List ℕ) (q : Request) → nextFrame bs ≡ Complete f behind → frameRequest f ≡ some q → beginning bs ≡ Asking q behind
+  pub begun-yes : (f : Frame) (after : List ℕ) (q : Request) → nextFrame bs ≡ Complete f after → frameRequest f ≡ some q → beginning bs ≡ Asking q after
   unfolding beginning
-  begun-yes f behind q e r = rw (beginning, e, r)
+  begun-yes f after q e r = rw (beginning, e, r)
 
 pub begun-none : beginning [] ≡ Nothing
 unfolding beginning nextFrame
@@ -127,9 +127,9 @@ module _ (bs : List ℕ) where
   unfolding framed
   framed-nothing e = rw (framed, e)
 
-  pub framed-asking : (q : Request) (behind : List ℕ) → beginning bs ≡ Asking q behind → framed bs ≡ Asks q (length bs - length behind)
+  pub framed-asking : (q : Request) (after : List ℕ) → beginning bs ≡ Asking q after → framed bs ≡ Asks q (length bs - length after)
   unfolding framed
-  framed-asking q behind e = rw (framed, e)
+  framed-asking q after e = rw (framed, e)
 
   pub framed-bad : beginning bs ≡ Wrong → hopeless bs ≡ true → framed bs ≡ Bad
   unfolding framed
@@ -193,10 +193,10 @@ module _ (bs : List ℕ) where
       framed-asking (requestFrom (kindField bs) bs) (drop (2 + lengthField bs) bs) (begun-asks bs (record { kind = k; some = omega arith; here = h }))
       ∙ ap (λ (n : ℕ). Asks (requestFrom (kindField bs) bs) n) (omega arith)
 
--- ---- it stays so, whatever comes behind
+-- ---- it stays so, whatever comes after
 
 -- the bytes begin with a whole frame of length n that asks q
-record Asked (bs : List ℕ) (q : Request) (behind : List ℕ) : Type 0 where
+record Asked (bs : List ℕ) (q : Request) (after : List ℕ) : Type 0 where
   b : ℕ
   c : ℕ
   rest : List ℕ
@@ -204,17 +204,17 @@ record Asked (bs : List ℕ) (q : Request) (behind : List ℕ) : Type 0 where
   least : 2 ≤ pairValue (b ∷ c ∷ [])
   here : pairValue (b ∷ c ∷ []) ≤ length rest
   asks : frameRequest (wholeIn (pairValue (b ∷ c ∷ [])) rest) ≡ some q
-  left : behind ≡ drop (pairValue (b ∷ c ∷ [])) rest
+  left : after ≡ drop (pairValue (b ∷ c ∷ [])) rest
 
-asked-by : (bs : List ℕ) (q : Request) (behind : List ℕ) → beginning bs ≡ Asking q behind → Asked bs q behind
-asked-by [] q behind e = absurd (nothing-asking (sym begun-none ∙ e))
-asked-by (b ∷ []) q behind e = absurd (wrong-asking (sym (begun-one b) ∙ e))
-asked-by (b ∷ c ∷ rest) q behind e = go (decLe 2 n) (decLe n (length rest)) (frameRequest (wholeIn n rest)) refl
+asked-by : (bs : List ℕ) (q : Request) (after : List ℕ) → beginning bs ≡ Asking q after → Asked bs q after
+asked-by [] q after e = absurd (nothing-asking (sym begun-none ∙ e))
+asked-by (b ∷ []) q after e = absurd (wrong-asking (sym (begun-one b) ∙ e))
+asked-by (b ∷ c ∷ rest) q after e = go (decLe 2 n) (decLe n (length rest)) (frameRequest (wholeIn n rest)) refl
   where
     n : ℕ
     n = pairValue (b ∷ c ∷ [])
 
-    go : Dec (2 ≤ n) → Dec (n ≤ length rest) → (f : Option Request) → frameRequest (wholeIn n rest) ≡ f → Asked (b ∷ c ∷ rest) q behind
+    go : Dec (2 ≤ n) → Dec (n ≤ length rest) → (f : Option Request) → frameRequest (wholeIn n rest) ≡ f → Asked (b ∷ c ∷ rest) q after
     go (no l) m f r = absurd (wrong-asking (sym (begun-cut (b ∷ c ∷ rest) (next-of b c rest ∙ small-cut n rest (omega arith))) ∙ e))
     go (yes l) (no m) f r = absurd (wrong-asking (sym (begun-cut (b ∷ c ∷ rest) (next-of b c rest ∙ long-cut n rest l (omega arith))) ∙ e))
     go (yes l) (yes m) none r =
@@ -222,7 +222,7 @@ asked-by (b ∷ c ∷ rest) q behind e = go (decLe 2 n) (decLe n (length rest)) 
     go (yes l) (yes m) (some p) r =
         let s = sym (begun-yes (b ∷ c ∷ rest) (wholeIn n rest) (drop n rest) p (next-of b c rest ∙ is-whole n rest l m) r) ∙ e in
         let x : p ≡ q = cc in
-        let y : drop n rest ≡ behind = cc in
+        let y : drop n rest ≡ after = cc in
         record { b = b; c = c; rest = rest; bytes = refl; least = l; here = m; asks = r ∙ ap some x; left = sym y }
 
 -- only no bytes begin with nothing
@@ -243,39 +243,39 @@ nothing-empty (b ∷ c ∷ rest) e = go (decLe 2 n) (decLe n (length rest)) (fra
         absurd (nothing-asking (sym e ∙ begun-yes (b ∷ c ∷ rest) (wholeIn n rest) (drop n rest) p (next-of b c rest ∙ is-whole n rest l m) r))
 
 -- it is one of the four kinds
-pub asking-request : (bs : List ℕ) (q : Request) (behind : List ℕ) → beginning bs ≡ Asking q behind → isRequest q ≡ true
-asking-request bs q behind e =
-    let a = asked-by bs q behind e in
+pub asking-request : (bs : List ℕ) (q : Request) (after : List ℕ) → beginning bs ≡ Asking q after → isRequest q ≡ true
+asking-request bs q after e =
+    let a = asked-by bs q after e in
     frame-asks (wholeIn (pairValue (a .b ∷ a .c ∷ [])) (a .rest)) q (a .asks)
 
--- a request that is here stays the same, with more behind it
-pub asking-more : (bs later : List ℕ) (q : Request) (behind : List ℕ) → beginning bs ≡ Asking q behind → beginning (bs ++ later) ≡ Asking q (behind ++ later)
-asking-more bs later q behind e =
-    let a = asked-by bs q behind e in
+-- a request that is here stays the same, with more after it
+pub asking-more : (bs later : List ℕ) (q : Request) (after : List ℕ) → beginning bs ≡ Asking q after → beginning (bs ++ later) ≡ Asking q (after ++ later)
+asking-more bs later q after e =
+    let a = asked-by bs q after e in
     let n = pairValue (a .b ∷ a .c ∷ []) in
     ap (λ (l : List ℕ). beginning (l ++ later)) (a .bytes)
     ∙ begun-yes (a .b ∷ a .c ∷ (a .rest ++ later)) (wholeIn n (a .rest)) (drop n (a .rest) ++ later) q
     (next-of (a .b) (a .c) (a .rest ++ later) ∙ whole-more n (a .rest) later (a .least) (a .here)) (a .asks)
     ∙ ap (λ (l : List ℕ). Asking q (l ++ later)) (sym (a .left))
 
--- a frame has bytes of its own, and what is behind it are the bytes less those
-pub behind-less : (bs : List ℕ) (q : Request) (behind : List ℕ) → beginning bs ≡ Asking q behind → length behind < length bs
-behind-less bs q behind e =
-    let a = asked-by bs q behind e in
+-- a frame has bytes of its own, and what is after it are the bytes less those
+pub after-less : (bs : List ℕ) (q : Request) (after : List ℕ) → beginning bs ≡ Asking q after → length after < length bs
+after-less bs q after e =
+    let a = asked-by bs q after e in
     let n = pairValue (a .b ∷ a .c ∷ []) in
     omega (arith, ap length (a .bytes), ap length (a .left), length-drop n (a .rest))
 
-pub behind-is : (bs : List ℕ) (q : Request) (behind : List ℕ) → beginning bs ≡ Asking q behind → behind ≡ drop (length bs - length behind) bs
-behind-is bs q behind e =
-    let a = asked-by bs q behind e in
+pub after-is : (bs : List ℕ) (q : Request) (after : List ℕ) → beginning bs ≡ Asking q after → after ≡ drop (length bs - length after) bs
+after-is bs q after e =
+    let a = asked-by bs q after e in
     let n = pairValue (a .b ∷ a .c ∷ []) in
     let d = length-drop n (a .rest) in
     let l = ap length (a .bytes) in
     let m = ap length (a .left) in
-    let k : length bs - length behind ≡ suc (suc n) = omega (arith, a .here) in
+    let k : length bs - length after ≡ suc (suc n) = omega (arith, a .here) in
     a .left ∙ sym (ap (λ (j : ℕ). drop j bs) k ∙ ap (λ (x : List ℕ). drop (suc (suc n)) x) (a .bytes))
 
--- where the fields rule a request out, they do with more behind them
+-- where the fields rule a request out, they do with more after them
 pub wrong-more : (bs later : List ℕ) → hopeless bs ≡ true → beginning (bs ++ later) ≡ Wrong
 unfolding hopeless
 wrong-more bs later h = go (decLe 2 (length bs)) (decLe 4 (length bs)) (someLength (lengthField bs)) refl (ℕ-discrete (kindLength (kindField bs)) (lengthField bs))

@@ -16,7 +16,7 @@ use Rattle.frames.specs.declared.Framed.the-variants.{Asks, Waits, Bad}
 use Rattle.frames.specs.Reading.{Beginning, Nothing, Asking, Wrong, beginning, hopeless, framed}
 use Rattle.rules.specs.Layout.{blankWords}
 use Rattle.frames.specs.Said.{Said, replyShown, cutLine}
-use Rattle.frames.proofs.Framing.{begun-none, asking-request, asking-more, wrong-more, behind-less, behind-is, nothing-empty, framed-nothing, framed-asking, framed-bad, framed-waits, waits-short}
+use Rattle.frames.proofs.Framing.{begun-none, asking-request, asking-more, wrong-more, after-less, after-is, nothing-empty, framed-nothing, framed-asking, framed-bad, framed-waits, waits-short}
 
 -- ---- what is printed, frame by frame
 
@@ -24,28 +24,28 @@ use Rattle.frames.proofs.Framing.{begun-none, asking-request, asking-mo
 data Prints : ℕ → List ℤ → List ℕ → List ℕ → Type 0 where
   ends : {before : ℕ} {pool : List ℤ} {bs : List ℕ} → beginning bs ≡ Nothing → Prints before pool bs []
   wrong : {before : ℕ} {pool : List ℤ} {bs : List ℕ} → beginning bs ≡ Wrong → Prints before pool bs (badLine (suc before))
-  asks : {before : ℕ} {pool : List ℤ} {bs behind t : List ℕ} (q : Request) → beginning bs ≡ Asking q behind
-      → Prints (suc before) (frameCall pool q .pool) behind t → Prints before pool bs (replyShown before pool q ++ t)
+  asks : {before : ℕ} {pool : List ℤ} {bs after t : List ℕ} (q : Request) → beginning bs ≡ Asking q after
+      → Prints (suc before) (frameCall pool q .pool) after t → Prints before pool bs (replyShown before pool q ++ t)
 
 -- the definition, by what the bytes begin with
 textOf : ℕ → ℕ → List ℤ → Beginning → List ℕ
 textOf n place pool Nothing = []
 textOf n place pool Wrong = badLine place
-textOf n place pool (Asking q behind) = callPrinted place (frameCall pool q) (λ left. printed n (suc place) left behind)
+textOf n place pool (Asking q after) = callPrinted place (frameCall pool q) (λ left. printed n (suc place) left after)
 
 printed-text : (n place : ℕ) (pool : List ℤ) (bs : List ℕ) → printed (suc n) place pool bs ≡ textOf n place pool (beginning bs)
 unfolding printed beginning textOf
 printed-text n place pool bs = go (nextFrame bs) refl
   where
-    whole : (f : Frame) (behind : List ℕ) → nextFrame bs ≡ Complete f behind → (o : Option Request) → frameRequest f ≡ o
+    whole : (f : Frame) (after : List ℕ) → nextFrame bs ≡ Complete f after → (o : Option Request) → frameRequest f ≡ o
         → printed (suc n) place pool bs ≡ textOf n place pool (beginning bs)
-    whole f behind e none r = rw (printed, beginning, e, r)
-    whole f behind e (some q) r = rw (printed, beginning, e, r)
+    whole f after e none r = rw (printed, beginning, e, r)
+    whole f after e (some q) r = rw (printed, beginning, e, r)
 
     go : (x : Next) → nextFrame bs ≡ x → printed (suc n) place pool bs ≡ textOf n place pool (beginning bs)
     go Ended e = rw (printed, beginning, e)
     go Cut e = rw (printed, beginning, e)
-    go (Complete f behind) e = whole f behind e (frameRequest f) refl
+    go (Complete f after) e = whole f after e (frameRequest f) refl
 
 text-nothing : (n place : ℕ) (pool : List ℤ) → textOf n place pool Nothing ≡ []
 unfolding textOf
@@ -55,10 +55,10 @@ text-wrong : (n place : ℕ) (pool : List ℤ) → textOf n place pool Wrong ≡
 unfolding textOf
 text-wrong n place pool = refl
 
-text-asking : (n before : ℕ) (pool : List ℤ) (q : Request) (behind : List ℕ)
-    → textOf n (suc before) pool (Asking q behind) ≡ replyShown before pool q ++ printed n (suc (suc before)) (frameCall pool q .pool) behind
+text-asking : (n before : ℕ) (pool : List ℤ) (q : Request) (after : List ℕ)
+    → textOf n (suc before) pool (Asking q after) ≡ replyShown before pool q ++ printed n (suc (suc before)) (frameCall pool q .pool) after
 unfolding textOf callPrinted replyShown
-text-asking n before pool q behind = refl
+text-asking n before pool q after = refl
 
 printed-zero : (place : ℕ) (pool : List ℤ) (bs : List ℕ) → printed zero place pool bs ≡ []
 unfolding printed
@@ -77,10 +77,10 @@ printed-is {before} {pool} {bs} (ends e) zero h = printed-zero (suc before) pool
 printed-is {before} {pool} {bs} (ends e) (suc n) h = printed-text n (suc before) pool bs ∙ ap (textOf n (suc before) pool) e ∙ text-nothing n (suc before) pool
 printed-is {before} {pool} {bs} (wrong e) zero h = absurd (apart (none-of bs h) e refl)
 printed-is {before} {pool} {bs} (wrong e) (suc n) h = printed-text n (suc before) pool bs ∙ ap (textOf n (suc before) pool) e ∙ text-wrong n (suc before) pool
-printed-is {before} {pool} {bs} (asks {behind = behind} q e r) zero h = absurd (omega (arith, behind-less bs q behind e))
-printed-is {before} {pool} {bs} (asks {behind = behind} q e r) (suc n) h =
-    printed-text n (suc before) pool bs ∙ ap (textOf n (suc before) pool) e ∙ text-asking n before pool q behind
-    ∙ ap (λ (l : List ℕ). replyShown before pool q ++ l) (printed-is r n (omega (arith, behind-less bs q behind e)))
+printed-is {before} {pool} {bs} (asks {after = after} q e r) zero h = absurd (omega (arith, after-less bs q after e))
+printed-is {before} {pool} {bs} (asks {after = after} q e r) (suc n) h =
+    printed-text n (suc before) pool bs ∙ ap (textOf n (suc before) pool) e ∙ text-asking n before pool q after
+    ∙ ap (λ (l : List ℕ). replyShown before pool q ++ l) (printed-is r n (omega (arith, after-less bs q after e)))
 
 -- every input prints something
 prints : (n before : ℕ) (pool : List ℤ) (bs : List ℕ) → length bs ≤ n → Prints before pool bs (printed n (suc before) pool bs)
@@ -95,10 +95,10 @@ prints (suc n) before pool bs h = go (beginning bs) refl (prints n (suc before))
     go Wrong e r =
         subst (λ (t : List ℕ). Prints before pool bs t)
         (sym (printed-text n (suc before) pool bs ∙ ap (textOf n (suc before) pool) e ∙ text-wrong n (suc before) pool)) (wrong e)
-    go (Asking q behind) e r =
+    go (Asking q after) e r =
         subst (λ (t : List ℕ). Prints before pool bs t)
-        (sym (printed-text n (suc before) pool bs ∙ ap (textOf n (suc before) pool) e ∙ text-asking n before pool q behind))
-        (asks q e (r (frameCall pool q .pool) behind (omega (arith, behind-less bs q behind e))))
+        (sym (printed-text n (suc before) pool bs ∙ ap (textOf n (suc before) pool) e ∙ text-asking n before pool q after))
+        (asks q e (r (frameCall pool q .pool) after (omega (arith, after-less bs q after e))))
 
 -- .. and the same, however many frames are allowed for
 printed-same : (m n before : ℕ) (pool : List ℤ) (bs : List ℕ) → length bs ≤ m → length bs ≤ n
@@ -148,10 +148,10 @@ reads held = go (beginning held) refl
     go : (x : Beginning) → beginning held ≡ x → Reads held (framed held)
     go Nothing e = subst (λ (f : Framed). Reads held f) (sym (framed-nothing held e)) (empty (nothing-empty held e))
     go Wrong e = bad (hopeless held) refl e
-    go (Asking q behind) e =
-        let n = length held - length behind in
-        let w : beginning held ≡ Asking q (drop n held) = e ∙ ap (λ (l : List ℕ). Asking q l) (behind-is held q behind e) in
-        subst (λ (f : Framed). Reads held f) (sym (framed-asking held q behind e)) (whole q n w (omega arith))
+    go (Asking q after) e =
+        let n = length held - length after in
+        let w : beginning held ≡ Asking q (drop n held) = e ∙ ap (λ (l : List ℕ). Asking q l) (after-is held q after e) in
+        subst (λ (f : Framed). Reads held f) (sym (framed-asking held q after e)) (whole q n w (omega arith))
 
 asks-begun : {held : List ℕ} {q : Request} {n : ℕ} → Reads held (Asks q n) → beginning held ≡ Asking q (drop n held)
 asks-begun (whole q n e l) = e
@@ -172,7 +172,7 @@ asks-request held q n e = asking-request held q (drop n held) (asks-begun (subst
 pub asks-some : (held : List ℕ) (q : Request) (n : ℕ) → framed held ≡ Asks q n → 0 < n
 asks-some held q n e =
     let b = asks-begun (subst (λ (f : Framed). Reads held f) e (reads held)) in
-    omega (arith, behind-less held q (drop n held) b, length-drop n held)
+    omega (arith, after-less held q (drop n held) b, length-drop n held)
 
 -- what waits leaves room in a buffer for more
 pub waits-within : (held : List ℕ) → framed held ≡ Waits → length held < 40

@@ -159,7 +159,7 @@ request-none f h =
     let r4 = not-kind f 4 4 (λ a b. h (length-4 (f .kind) a ∙ omega arith)) in
     rw (frameRequest, firstRow, r1, firstRow, r2, firstRow, r3, firstRow, r4, firstRow)
 
--- ---- a frame of the right length
+-- ---- a frame of a valid length
 
 -- the frame whose kind is k and whose words follow byte 4
 abbrev pub frameFrom : ℕ → ℕ → List ℕ → Frame

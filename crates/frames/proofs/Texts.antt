@@ -1,4 +1,4 @@
--- What is written behind what was written: the two texts stand as one.
+-- What is written after what was written: the two texts stand as one.
 use mathlib.Core.Path.{_≡_, refl, sym, ap, _∙_, subst}
 use mathlib.Core.List.{List, [], _∷_, _++_, append-assoc, append-nil}
 use Prim.Native.Nat.{ℕ, suc, _+_, _-_, _≤_, _<_}

@@ -68,24 +68,24 @@ lift-fits z h = record { sfits = omega (arith, lift-small z h) }
 
 -- ---- the bytes
 
-pub pair-is : (bs : List ℕ) (at : ℕ) → pairValue (take 2 (drop at bs)) ≡ getD bs at 0 + 256 * getD bs (at + 1) 0
-unfolding pairValue byteAt
-pair-is bs at =
-    let first : getD (take 2 (drop at bs)) 0 0 ≡ getD bs at 0 =
-    getD-take 2 (drop at bs) 0 0 (omega arith) ∙ getD-drop at bs 0 0 ∙ ap (λ (k : ℕ). getD bs k 0) (omega arith) in
-    let second : getD (take 2 (drop at bs)) 1 0 ≡ getD bs (at + 1) 0 = getD-take 2 (drop at bs) 1 0 (omega arith) ∙ getD-drop at bs 1 0 in
-    rw (first, second)
-
-byte-is : (bs : List ℕ) (at k : ℕ) → k < 4 → byteAt (take 4 (drop at bs)) k ≡ getD bs (at + k) 0
+-- byte k of n that are taken from a place on
+byte-is : (n : ℕ) (bs : List ℕ) (at k : ℕ) → k < n → byteAt (take n (drop at bs)) k ≡ getD bs (at + k) 0
 unfolding byteAt
-byte-is bs at k h = getD-take 4 (drop at bs) k 0 h ∙ getD-drop at bs k 0
+byte-is n bs at k h = getD-take n (drop at bs) k 0 h ∙ getD-drop at bs k 0
+
+first-byte : (n : ℕ) (bs : List ℕ) (at : ℕ) → 0 < n → byteAt (take n (drop at bs)) 0 ≡ getD bs at 0
+first-byte n bs at h = byte-is n bs at 0 h ∙ ap (λ (k : ℕ). getD bs k 0) (omega arith)
+
+pub pair-is : (bs : List ℕ) (at : ℕ) → pairValue (take 2 (drop at bs)) ≡ getD bs at 0 + 256 * getD bs (at + 1) 0
+unfolding pairValue
+pair-is bs at = rw (pairValue, first-byte 2 bs at (omega arith), byte-is 2 bs at 1 (omega arith))
 
 pub word-is : (bs : List ℕ) (at : ℕ)
     → wordValue (take 4 (drop at bs)) ≡ signed (getD bs at 0 + 256 * getD bs (at + 1) 0 + 65536 * getD bs (at + 2) 0 + 16777216 * getD bs (at + 3) 0)
 unfolding wordValue
 word-is bs at =
-    let first : byteAt (take 4 (drop at bs)) 0 ≡ getD bs at 0 = byte-is bs at 0 (omega arith) ∙ ap (λ (k : ℕ). getD bs k 0) (omega arith) in
-    rw (wordValue, first, byte-is bs at 1 (omega arith), byte-is bs at 2 (omega arith), byte-is bs at 3 (omega arith))
+    let byte = byte-is 4 bs at in
+    rw (wordValue, first-byte 4 bs at (omega arith), byte 1 (omega arith), byte 2 (omega arith), byte 3 (omega arith))
 
 -- the word at a place is made of the four bytes there
 pub words-at : (n i : ℕ) (bs : List ℕ) → i < n → wordAt (wordValues n bs) i ≡ wordValue (take 4 (drop (4 * i) bs))

@@ -1,4 +1,4 @@
--- What the bytes that have arrived show of the frame that they begin. More may come behind them: a frame is bad as soon as the fields
+-- What the bytes that have arrived show of the frame that they begin. More may come after them: a frame is bad as soon as the fields
 -- that are here rule every request out, and until then its end is waited for.
 use mathlib.Core.Bool.{Bool, cond, not, _&&_, _||_}
 use mathlib.Core.List.{List}
@@ -11,7 +11,7 @@ use Rattle.rules.specs.Frames.{Ended, Complete, Cut, pairValue, nextFrame, fram
 use Rattle.frames.specs.declared.Framed.{Framed}
 use Rattle.frames.specs.declared.Framed.the-variants.{Asks, Waits, Bad}
 
--- what bytes begin with, when no more are to come: nothing, a request with the bytes behind its frame, or a bad frame
+-- what bytes begin with, when no more are to come: nothing, a request with the bytes after its frame, or a bad frame
 pub data Beginning : Type 0 where
   Nothing : Beginning
   Asking : Request → List ℕ → Beginning
@@ -22,7 +22,7 @@ beginning bs =
     elim (nextFrame bs) [
       | Ended ↦ Nothing
       | Cut ↦ Wrong
-      | Complete f behind ↦ elim (frameRequest f) [ none ↦ Wrong | some q ↦ Asking q behind ]
+      | Complete f after ↦ elim (frameRequest f) [ none ↦ Wrong | some q ↦ Asking q after ]
     ]
 
 -- "Kind 1 insert and 2 delete: number, rectangle (length 22). 3 update: number, old, new (38). 4 search: window (18)."; 0 for a kind that
@@ -51,6 +51,6 @@ unfoldable pub framed : List ℕ → Framed
 framed bs =
     elim (beginning bs) [
       | Nothing ↦ Waits
-      | Asking q behind ↦ Asks q (length bs - length behind)
+      | Asking q after ↦ Asks q (length bs - length after)
       | Wrong ↦ cond (hopeless bs) Bad Waits
     ]

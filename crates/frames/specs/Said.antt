@@ -9,7 +9,7 @@ use Rattle.rules.specs.Answers.{answer}
 use Rattle.rules.specs.Frames.{frameCall, replyLines, badLine, printed, dustmap}
 
 -- Some bytes have arrived, and of them the frames before are done and `held` are left; `out` is printed and the map is `pool`. Then, whatever
--- is to come, what is to be printed of all is `out` and behind it what is to be printed of those left.
+-- is to come, what is to be printed of all is `out` and after it what is to be printed of those left.
 unfoldable pub Said : List ℕ → List ℕ → ℕ → List ℤ → List ℕ → Type 0
 Said arrived out before pool held =
     (later : List ℕ) (n : ℕ) → length (held ++ later) ≤ n → dustmap (arrived ++ later) ≡ out ++ printed n (suc before) pool (held ++ later)

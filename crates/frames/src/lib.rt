@@ -229,7 +229,7 @@ fn digit(n: u64) -> u8
     48 + n as u8
 }
 
-// The decimal digits of a number, from byte `at` on. Each of these gives the place behind what it wrote.
+// The decimal digits of a number, from byte `at` on. Each of these gives the place after what it wrote.
 fn put_number(out: &mut [u8], at: usize, n: u64) -> usize
     requires { ⌜ at + length (F.natShown n) ≤ length (now out) ⌝ }
     ensures { λ r. ⌜ Wrote (now (out .entry)) at (F.natShown n) (now (out .exit)) r ⌝ }
@@ -244,13 +244,13 @@ fn put_number(out: &mut [u8], at: usize, n: u64) -> usize
 }
 
 // A number and the byte that parts it from the next field or ends the line.
-fn put_field(out: &mut [u8], at: usize, n: u64, behind: u8) -> usize
+fn put_field(out: &mut [u8], at: usize, n: u64, after: u8) -> usize
     requires { ⌜ at + 21 ≤ length (now out) ⌝ }
-    ensures wrote { λ r. ⌜ Wrote (now (out .entry)) at (F.natShown n ++ behind ∷ []) (now (out .exit)) r ⌝ }
+    ensures wrote { λ r. ⌜ Wrote (now (out .entry)) at (F.natShown n ++ after ∷ []) (now (out .exit)) r ⌝ }
     ensures short { λ r. ⌜ r ≤ at + 21 ⌝ }
 {
     let end = put_number(out, at, n);
-    out[end] = behind;
+    out[end] = after;
     end + 1
 }
 
@@ -262,18 +262,18 @@ fn lifted(z: i32) -> u64
     (z as i64 + 2147483648) as u64
 }
 
-// A number with its sign, and the byte behind it.
-fn put_signed(out: &mut [u8], at: usize, z: i32, behind: u8) -> usize
+// A number with its sign, and the byte after it.
+fn put_signed(out: &mut [u8], at: usize, z: i32, after: u8) -> usize
     requires { ⌜ at + 22 ≤ length (now out) ⌝ }
-    ensures wrote { λ r. ⌜ Wrote (now (out .entry)) at (F.intShown z ++ behind ∷ []) (now (out .exit)) r ⌝ }
+    ensures wrote { λ r. ⌜ Wrote (now (out .entry)) at (F.intShown z ++ after ∷ []) (now (out .exit)) r ⌝ }
     ensures short { λ r. ⌜ r ≤ at + 22 ⌝ }
 {
     let up = lifted(z);
     if up < 2147483648 {
         out[at] = b'-';
-        return put_field(out, at + 1, 2147483648 - up, behind);
+        return put_field(out, at + 1, 2147483648 - up, after);
     }
-    put_field(out, at, up - 2147483648, behind)
+    put_field(out, at, up - 2147483648, after)
 }
 
 fn long(x: u32) -> u64

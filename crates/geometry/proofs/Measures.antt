@@ -2,7 +2,7 @@
 -- is proved of boxes of naturals, where `omega` can work, and carried over.
 use mathlib.Core.Path.{_≡_, refl, sym, ap, ap₂, _∙_}
 use mathlib.Core.Bool.{Bool, true, false, cond}
-use Prim.Native.Nat.{ℕ, suc, _≤_, _*_, _-_, _+_, min, max}
+use Prim.Native.Nat.{ℕ, suc, _≤_, _<_, _*_, _-_, _+_, min, max}
 use native.Mathlib.Nat.{mul-le-mul}
 use native.Mathlib.Omega.{arith}
 use lib.Dec.{ltb}
@@ -13,6 +13,7 @@ use Rattle.rules.specs.declared.Rect.{Rect}
 use Rattle.rules.specs.Numbers.{inRange}
 use Rattle.rules.specs.Geometry.{valid, smaller, larger, cover, area}
 use Rattle.rules_laws.proofs.Bools.{and-both, leb-same}
+use Rattle.geometry.proofs.Rules.{chosen}
 use Rattle.geometry.proofs.Ints.{off, off-le, off-order, le-off, sub-off, sub-lt}
 
 -- ---- the parts of `valid`
@@ -85,25 +86,21 @@ size-grows g h = mul-le-mul (omega arith) (omega arith)
 
 -- ---- carried over
 
+-- what is so of two numbers in range by their order
+by-order : (C : Bool → Type 0) (a b : ℤ) → inRange a ≡ true → inRange b ≡ true → (off a ≤ off b → C true) → (off b < off a → C false) → C (leZ a b)
+by-order C a b h k first second = go (leZ a b) refl
+  where
+    go : (t : Bool) → leZ a b ≡ t → C t
+    go true e = first (leb-true (off a) (off b) (sym (le-off a b h k) ∙ e))
+    go false e = second (leb-false (off a) (off b) (sym (le-off a b h k) ∙ e))
+
 smaller-off : (a b : ℤ) → inRange a ≡ true → inRange b ≡ true → off (smaller a b) ≡ min (off a) (off b)
 unfolding smaller
-smaller-off a b h k = go (leZ a b) refl
-  where
-    go : (t : Bool) → leZ a b ≡ t → off (cond t a b) ≡ min (off a) (off b)
-    go true e = omega (arith, leb-true (off a) (off b) (sym (le-off a b h k) ∙ e))
-    go false e = omega (arith, leb-false (off a) (off b) (sym (le-off a b h k) ∙ e))
+smaller-off a b h k = by-order (λ t. off (cond t a b) ≡ min (off a) (off b)) a b h k (λ l. omega arith) (λ l. omega arith)
 
 larger-off : (a b : ℤ) → inRange a ≡ true → inRange b ≡ true → off (larger a b) ≡ max (off a) (off b)
 unfolding larger
-larger-off a b h k = go (leZ a b) refl
-  where
-    go : (t : Bool) → leZ a b ≡ t → off (cond t b a) ≡ max (off a) (off b)
-    go true e = omega (arith, leb-true (off a) (off b) (sym (le-off a b h k) ∙ e))
-    go false e = omega (arith, leb-false (off a) (off b) (sym (le-off a b h k) ∙ e))
-
-one-of : (t : Bool) (a b : ℤ) → inRange a ≡ true → inRange b ≡ true → inRange (cond t a b) ≡ true
-one-of true a b h k = h
-one-of false a b h k = k
+larger-off a b h k = by-order (λ t. off (cond t b a) ≡ max (off a) (off b)) a b h k (λ l. omega arith) (λ l. omega arith)
 
 module _ {a b : Rect} (v : Valid a) (w : Valid b) where
   cover-box : boxOf (cover a b) ≡ both (boxOf a) (boxOf b)
@@ -118,10 +115,10 @@ module _ {a b : Rect} (v : Valid a) (w : Valid b) where
   cover-parts : Valid (cover a b)
   unfolding boxOf cover smaller larger
   cover-parts =
-      let lx = one-of (leZ (a .lowX) (b .lowX)) (a .lowX) (b .lowX) (v .lowX) (w .lowX) in
-      let ly = one-of (leZ (a .lowY) (b .lowY)) (a .lowY) (b .lowY) (v .lowY) (w .lowY) in
-      let hx = one-of (leZ (a .highX) (b .highX)) (b .highX) (a .highX) (w .highX) (v .highX) in
-      let hy = one-of (leZ (a .highY) (b .highY)) (b .highY) (a .highY) (w .highY) (v .highY) in
+      let lx = chosen (λ (z : ℤ). inRange z ≡ true) (leZ (a .lowX) (b .lowX)) (v .lowX) (w .lowX) in
+      let ly = chosen (λ (z : ℤ). inRange z ≡ true) (leZ (a .lowY) (b .lowY)) (v .lowY) (w .lowY) in
+      let hx = chosen (λ (z : ℤ). inRange z ≡ true) (leZ (a .highX) (b .highX)) (w .highX) (v .highX) in
+      let hy = chosen (λ (z : ℤ). inRange z ≡ true) (leZ (a .highY) (b .highY)) (w .highY) (v .highY) in
       let m = cover a b in
       let g : Good (boxOf m) = rw cover-box (both-good (box-good v) (box-good w)) in
       record {

@@ -1,7 +1,7 @@
 // Rectangles of whole millimetres and their measures, as document 01 has them. It knows nothing of nodes or pools.
 // A measure that cannot be negative is a u64; d can be, and is counted from -8,000,000,000,000,000,000.
 ghost use mathlib.Core.Path.{_≡_};
-ghost use mathlib.Core.Bool.{true, _&&_};
+ghost use mathlib.Core.Bool.{true, not, _&&_, _||_};
 ghost use Prim.Native.Nat.{_≤_};
 ghost use lib.IntN.{pos, subℕ, _-ℤ_};
 ghost use lib.Signed.{leZ};
@@ -10,10 +10,26 @@ ghost use Rattle.rules.specs.Numbers as N;
 ghost use Rattle.rules.specs.Geometry as G;
 use rules::Rect;
 
+// ---- truths and comparisons
+
 pub fn and(p: bool, q: bool) -> bool
     ensures { λ r. ⌜ r ≡ (p && q) ⌝ }
 {
     if p { q } else { false }
+}
+
+pub fn or(p: bool, q: bool) -> bool
+    ensures { λ r. ⌜ r ≡ (p || q) ⌝ }
+{
+    if p { true } else { q }
+}
+
+// A rule and the next, for coordinates, measures and counts alike: `less_then(a < b, b < a, next)`. The outcome is computed and nothing
+// branches on it: the processor would guess it wrong half of the time.
+pub fn less_then(less: bool, more: bool, next: bool) -> bool
+    ensures { λ r. ⌜ r ≡ (less || (not more && next)) ⌝ }
+{
+    or(less, and(!more, next))
 }
 
 pub fn le(a: i32, b: i32) -> bool
@@ -27,6 +43,8 @@ pub fn same(a: i32, b: i32) -> bool
 {
     and(le(a, b), le(b, a))
 }
+
+// ---- rectangles
 
 fn in_range(x: i32) -> bool
     ensures { λ r. ⌜ r ≡ N.inRange x ⌝ }
@@ -85,6 +103,8 @@ pub fn cover(a: Rect, b: Rect) -> Rect
         highY,
     }
 }
+
+// ---- measures
 
 // How far apart the ends of a valid rectangle are on one axis.
 fn span(low: i32, high: i32) -> u64

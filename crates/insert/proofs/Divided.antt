@@ -20,7 +20,7 @@ use Rattle.rules.specs.Split.{quadraticGroups, halves, quadraticSplit}
 use Rattle.rules.specs.Insert.{Grown, Split, ours, splitInto, install}
 use Rattle.rules.specs.Layout.{read}
 use Rattle.rules_laws.proofs.Places.{Among, at-place}
-use Rattle.split.specs.declared.Groups.{Groups}
+use Rattle.split.specs.declared.Grouping.{Grouping}
 use Rattle.split.specs.State.{AllValid, GroupsWhole}
 use Rattle.pool.specs.Slots.{Fit, SmallAll, KindAll}
 use Rattle.pool.proofs.Parts.{length-rects, rect-entry}
@@ -111,14 +111,14 @@ module _ {p : Pool} {s : SlotNumber} {e : Entry} (h : Here p s e) (full : 8 ≤ 
       ∙ split-at p level s (quadraticSplit nine) t refl
 
   -- the nine in an array, their rectangles in another, and the groups of these
-  pub record Parts (es : List Entry) (rs : List Rect) (g : Groups) : Type 0 where
+  pub record Parts (es : List Entry) (rs : List Rect) (g : Grouping) : Type 0 where
     pub entries : es ≡ nine
     pub rects-are : rs ≡ rects es
     pub one : take (g .ones) (g .one) ≡ quadraticGroups rs .one
     pub two : take (g .twos) (g .two) ≡ quadraticGroups rs .two
     pub whole : GroupsWhole g
 
-  module _ {es : List Entry} {rs : List Rect} {g : Groups} (a : Parts es rs g) where
+  module _ {es : List Entry} {rs : List Rect} {g : Grouping} (a : Parts es rs g) where
     one-is : map (entryFrom es) (take (g .ones) (g .one)) ≡ quadraticSplit nine .one
     unfolding quadraticSplit halves
     one-is =

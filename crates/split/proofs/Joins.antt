@@ -16,7 +16,7 @@ use Rattle.rules.specs.Geometry.{cover, coverAll}
 use Rattle.rules.specs.Choose.{rectFrom}
 use Rattle.rules.specs.Split as S
 use Rattle.geometry.proofs.Measures.{cover-valid}
-use Rattle.split.specs.declared.Groups.{Groups}
+use Rattle.split.specs.declared.Grouping.{Grouping}
 use Rattle.split.specs.State.{AllValid, unjoined, groupsOf, Free, Ok, flipped, withOne}
 
 -- ---- marks
@@ -69,7 +69,7 @@ cover-snoc rs (i ∷ is) k h = ap (foldl cover (rectFrom rs i)) (map-snoc (rectF
 -- ---- the struct
 
 -- a struct that is whole is whole with its groups exchanged
-pub flipped-ok : {rs : List Rect} {t : Groups} → Ok rs t → Ok rs (flipped t)
+pub flipped-ok : {rs : List Rect} {t : Grouping} → Ok rs t → Ok rs (flipped t)
 flipped-ok o = record {
   joined9 = o .joined9;
   one9 = o .two9;
@@ -85,17 +85,17 @@ flipped-ok o = record {
   validTwo = o .validOne;
 }
 
-pub flipped-free : {t : Groups} {k : ℕ} → Free t k → Free (flipped t) k
+pub flipped-free : {t : Grouping} {k : ℕ} → Free t k → Free (flipped t) k
 flipped-free f = record { inside = f .inside; free = f .free }
 
-module _ {rs : List Rect} {t : Groups} {k : ℕ} (o : Ok rs t) (f : Free t k) where
+module _ {rs : List Rect} {t : Grouping} {k : ℕ} (o : Ok rs t) (f : Free t k) where
   marked : k < length (t .joined)
   marked = omega (arith, o .joined9, f .inside)
 
   pub room : t .ones < 9
   room = omega (arith, o .all, o .twos, unjoined-less (t .joined) k 0 marked (f .free))
 
-module _ {rs : List Rect} {t : Groups} {k : ℕ} (v : AllValid rs) (o : Ok rs t) (f : Free t k) where
+module _ {rs : List Rect} {t : Grouping} {k : ℕ} (v : AllValid rs) (o : Ok rs t) (f : Free t k) where
   members : take (t .ones + 1) (set (t .one) (t .ones) k) ≡ take (t .ones) (t .one) ++ k ∷ []
   members = let l : t .ones < length (t .one) = omega (arith, room o f, o .one9) in rw (add-one (t .ones), take-suc-set (t .one) (t .ones) k l)
 
@@ -133,7 +133,7 @@ module _ {rs : List Rect} {t : Groups} {k : ℕ} (v : AllValid rs) (o : Ok rs t)
   }
 
 -- group 2 likewise
-module _ {rs : List Rect} {t : Groups} {k : ℕ} (v : AllValid rs) (o : Ok rs t) (f : Free t k) where
+module _ {rs : List Rect} {t : Grouping} {k : ℕ} (v : AllValid rs) (o : Ok rs t) (f : Free t k) where
   pub second-groups : groupsOf (flipped (withOne rs (flipped t) k)) ≡ S.joinTwo k (groupsOf t)
   unfolding groupsOf S.joinTwo S.joinOne
   second-groups = λ i. record {

@@ -1,6 +1,6 @@
 -- The places that have no group, one at a time; and a turn of PickNext: the place kept is the one that `earliestBest` keeps, since its
 -- key is its preference.
-use mathlib.Core.Path.{_≡_, refl, ap, _∙_}
+use mathlib.Core.Path.{_≡_, refl, sym, ap, _∙_}
 use mathlib.Core.Bool.{Bool, true, false, cond}
 use mathlib.Core.List.{List, [], _∷_}
 use Prim.Native.Nat.{ℕ, suc, _+_, _-_, _≤_, _<_}
@@ -15,8 +15,9 @@ use Rattle.rules.specs.declared.Rect.{Rect}
 use Rattle.rules.specs.Lists.{earliestBest}
 use Rattle.rules.specs.Choose.{earliest}
 use Rattle.rules.specs.Split.{preference, mostPreferring}
+use Rattle.geometry.proofs.Rules.{chosen, chosen-part}
 use Rattle.geometry.proofs.Ints.{sub-pos, sub-neg, pos-minus}
-use Rattle.split.specs.declared.Next.{Next}
+use Rattle.split.specs.declared.KeyedPlace.{KeyedPlace}
 use Rattle.split.specs.State.{prefersMore, widerNext, unjoined, firstOf}
 use Rattle.rules_laws.proofs.Turns.{best-nil, best-cons}
 
@@ -72,24 +73,21 @@ module _ (rs : List Rect) (a b : Rect) where
   abbrev pub ahead : List Bool → ℕ → ℕ → ℕ
   ahead js k i = earliestBest (prefersMore rs a b) k (unjoined (drop i js) i)
 
-  pub next-key : (n : Next) (i : ℕ) → n .key ≡ preference rs a b (n .at) → widerNext rs a b n i .key ≡ preference rs a b (widerNext rs a b n i .at)
-  unfolding widerNext
-  next-key n i e = go (ltb (n .key) (preference rs a b i))
-    where
-      go : (t : Bool) → (cond t (record { at = i; key = preference rs a b i }) n) .key ≡ preference rs a b ((cond t (record { at = i; key = preference rs a b i }) n) .at)
-      go true = refl
-      go false = e
+  -- the key of a place is its preference
+  abbrev pub Preferred : KeyedPlace → Type 0
+  Preferred n = n .key ≡ preference rs a b (n .at)
 
-  wider-at : (n : Next) (i : ℕ) → n .key ≡ preference rs a b (n .at) → cond (prefersMore rs a b i (n .at)) i (n .at) ≡ widerNext rs a b n i .at
+  pub next-key : (n : KeyedPlace) (i : ℕ) → Preferred n → Preferred (widerNext rs a b n i)
   unfolding widerNext
-  wider-at n i e = rw (← e) (go (ltb (n .key) (preference rs a b i)))
-    where
-      go : (t : Bool) → cond t i (n .at) ≡ (cond t (record { at = i; key = preference rs a b i }) n) .at
-      go true = refl
-      go false = refl
+  next-key n i e = chosen Preferred (ltb (n .key) (preference rs a b i)) refl e
 
-  module _ (js : List Bool) (n : Next) (i : ℕ) where
-    pub next-step : i < length js → n .key ≡ preference rs a b (n .at)
+  wider-at : (n : KeyedPlace) (i : ℕ) → Preferred n → cond (prefersMore rs a b i (n .at)) i (n .at) ≡ widerNext rs a b n i .at
+  unfolding widerNext
+  wider-at n i e =
+      rw (← e) (sym (chosen-part (λ (m : KeyedPlace). m .at) (ltb (n .key) (preference rs a b i)) (record { at = i; key = preference rs a b i }) n))
+
+  module _ (js : List Bool) (n : KeyedPlace) (i : ℕ) where
+    pub next-step : i < length js → Preferred n
         → ahead js (n .at) i ≡ ahead js ((cond (getD js i false) n (widerNext rs a b n i)) .at) (i + 1)
     next-step l e = rw (left-more js i l) (go (getD js i false))
       where

@@ -1,6 +1,6 @@
 -- A turn of each of PickSeeds' two loops: the pair kept is the one that `earliestBest` keeps, since keys compare as d does.
-use mathlib.Core.Path.{_≡_, refl}
-use mathlib.Core.Bool.{Bool, true, false, cond}
+use mathlib.Core.Path.{_≡_}
+use mathlib.Core.Bool.{cond}
 use mathlib.Core.List.{List, [], _++_, map}
 use Prim.Native.Nat.{ℕ, suc, _+_, _-_, _≤_, _<_}
 use native.Mathlib.Numerals.{add-one}
@@ -11,32 +11,25 @@ use Rattle.rules.specs.declared.Rect.{Rect}
 use Rattle.rules.specs.Lists.{earliestBest, upFrom}
 use Rattle.rules.specs.Split.{Seeds, seeds, pairsFrom, wasteOf, pickSeeds}
 use Rattle.rules_laws.proofs.Earliest.{best-append}
+use Rattle.geometry.proofs.Rules.{chosen, chosen-part}
 use Rattle.geometry.proofs.Measures.{waste-lt}
-use Rattle.split.specs.declared.Pair.{Pair}
+use Rattle.split.specs.declared.KeyedSeeds.{KeyedSeeds}
 use Rattle.split.specs.State.{Keyed, wastesMore, seedsOf}
 use Rattle.rules_laws.proofs.Turns.{best-nil, best-cons, up-more, up-none}
 
 -- the pair that the code keeps
-abbrev pub kept : Pair → Pair → Pair
+abbrev pub kept : KeyedSeeds → KeyedSeeds → KeyedSeeds
 kept b p = cond (ltb (b .key) (p .key)) p b
 
-module _ {rs : List Rect} {b p : Pair} (k : Keyed rs b) (l : Keyed rs p) where
+module _ {rs : List Rect} {b p : KeyedSeeds} (k : Keyed rs b) (l : Keyed rs p) where
   same-test : wastesMore rs (seedsOf p) (seedsOf b) ≡ ltb (b .key) (p .key)
   same-test = waste-lt (b .key) (p .key) (wasteOf rs (seedsOf b)) (wasteOf rs (seedsOf p)) (k .key) (l .key)
 
   pub kept-places : seedsOf (kept b p) ≡ cond (wastesMore rs (seedsOf p) (seedsOf b)) (seedsOf p) (seedsOf b)
-  kept-places = rw same-test (go (ltb (b .key) (p .key)))
-    where
-      go : (t : Bool) → seedsOf (cond t p b) ≡ cond t (seedsOf p) (seedsOf b)
-      go true = refl
-      go false = refl
+  kept-places = rw same-test (chosen-part seedsOf (ltb (b .key) (p .key)) p b)
 
   pub kept-keyed : Keyed rs (kept b p)
-  kept-keyed = go (ltb (b .key) (p .key))
-    where
-      go : (t : Bool) → Keyed rs (cond t p b)
-      go true = l
-      go false = k
+  kept-keyed = chosen (Keyed rs) (ltb (b .key) (p .key)) l k
 
 -- ---- the inner loop
 

@@ -12,7 +12,7 @@ use Rattle.rules.specs.Lists.{upFrom}
 use Rattle.rules.specs.Geometry.{coverAll}
 use Rattle.rules.specs.Choose.{rectFrom}
 use Rattle.rules.specs.Split as S
-use Rattle.split.specs.declared.Groups.{Groups}
+use Rattle.split.specs.declared.Grouping.{Grouping}
 use Rattle.split.specs.State.{AllValid, unjoined, groupsOf, Fill, Ok, ends, GroupsWhole}
 use Rattle.split.proofs.Joins.{unjoined-set, unjoined-less}
 use Rattle.split.proofs.Steps.{none}
@@ -24,7 +24,7 @@ abbrev places : List ℕ
 places = replicate 9 0
 
 -- the struct that the code makes of two seeds
-abbrev pub started : List Rect → ℕ → ℕ → Groups
+abbrev pub started : List Rect → ℕ → ℕ → Grouping
 started rs i j =
     record {
       joined = set (set unmarked i true) j true;
@@ -87,18 +87,18 @@ module _ {rs : List Rect} (v : AllValid rs) {i j : ℕ} (ij : i < j) (j9 : j < 9
 -- ---- the run of assignments
 
 -- what a split starts from, given its seeds
-pub starts-same : (rs : List Rect) (t : Groups) (i j : ℕ) → length rs ≡ 9 → S.seeds i j ≡ S.pickSeeds rs → t .ones ≡ 1 → t .twos ≡ 1
+pub starts-same : (rs : List Rect) (t : Grouping) (i j : ℕ) → length rs ≡ 9 → S.seeds i j ≡ S.pickSeeds rs → t .ones ≡ 1 → t .twos ≡ 1
     → groupsOf t ≡ S.opening 9 (S.seeds i j) → ends rs t ≡ S.quadraticGroups rs
 unfolding ends S.quadraticGroups
 starts-same rs t i j n s a b e =
     ap₂ (S.distribute (S.pickNext rs) (S.joinsTwo rs)) (omega arith) (e ∙ ap₂ S.opening (sym n) s)
 
 -- .. and what is there once all have joined
-pub ends-same : (rs : List Rect) (t : Groups) → t .ones + t .twos ≡ 9 → ends rs t ≡ groupsOf t
+pub ends-same : (rs : List Rect) (t : Grouping) → t .ones + t .twos ≡ 9 → ends rs t ≡ groupsOf t
 unfolding ends
 ends-same rs t e = let z : 9 - (t .ones + t .twos) ≡ 0 = omega arith in rw z (none (S.pickNext rs) (S.joinsTwo rs) (groupsOf t))
 
-pub whole : {rs : List Rect} {t : Groups} → Ok rs t → Fill t → t .ones + t .twos ≡ 9 → GroupsWhole t
+pub whole : {rs : List Rect} {t : Grouping} → Ok rs t → Fill t → t .ones + t .twos ≡ 9 → GroupsWhole t
 whole o f e = record {
   all = e;
   ones = omega (arith, f .one);

@@ -12,7 +12,8 @@ use Rattle.rules.specs.declared.Rect.{Rect}
 use Rattle.rules.specs.Lists.{those, earliestBest}
 use Rattle.rules.specs.Choose.{earliest}
 use Rattle.rules.specs.Split as S
-use Rattle.split.specs.declared.Groups.{Groups}
+use Rattle.geometry.proofs.Rules.{chosen}
+use Rattle.split.specs.declared.Grouping.{Grouping}
 use Rattle.split.specs.State.{unjoined, firstOf, groupsOf, remaining, Free, Ok}
 use Rattle.split.proofs.Joins.{leaving-low}
 
@@ -51,10 +52,6 @@ last-one : (a b m : List ℕ) → length m ≡ 0 → S.allJoinOne (record { one 
 unfolding S.allJoinOne
 last-one a b m z = let e = empty m z in λ k. record { one = (ap (λ (x : List ℕ). a ++ x) e ∙ append-nil a) k; two = b; left = sym e k }
 
-last-two : (a b m : List ℕ) → length m ≡ 0 → S.allJoinTwo (record { one = a; two = b; left = m }) ≡ record { one = a; two = b; left = m }
-unfolding S.allJoinTwo
-last-two a b m z = let e = empty m z in λ k. record { one = a; two = (ap (λ (x : List ℕ). b ++ x) e ∙ append-nil b) k; left = sym e k }
-
 pub needs-if : (a b : List ℕ) → length a + length b ≡ 3 → S.needsAll a b ≡ true
 unfolding S.needsAll
 needs-if a b e = eq-eqb (length a + length b) 3 e
@@ -63,50 +60,69 @@ pub needs-not : (a b : List ℕ) → (length a + length b ≡ 3 → ⊥) → S.n
 unfolding S.needsAll
 needs-not a b e = ne-eqb (length a + length b) 3 e
 
-module _ (next : S.Groups → ℕ) (toTwo : S.Groups → ℕ → Bool) (g : S.Groups) (i : ℕ) (rest : List ℕ) (l : g .left ≡ i ∷ rest) (q : S.leaving i (g .left) ≡ rest) where
-  size : length (g .left) ≡ suc (length rest)
-  size = ap length l
-
+-- i is the first of those left, and `rest` are the others
+module _ (g : S.Groups) (i : ℕ) (rest : List ℕ) (l : g .left ≡ i ∷ rest) (q : S.leaving i (g .left) ≡ rest) where
   one-left : S.joinOne i g ≡ record { one = g .one ++ i ∷ []; two = g .two; left = rest }
   unfolding S.joinOne
   one-left = λ k. record { one = g .one ++ i ∷ []; two = g .two; left = q k }
 
-  two-left : S.joinTwo i g ≡ record { one = g .one; two = g .two ++ i ∷ []; left = rest }
-  unfolding S.joinTwo
-  two-left = λ k. record { one = g .one; two = g .two ++ i ∷ []; left = q k }
-
-  -- the rest joins group 1 after i
+  -- they join group 1 after i
   one-all : S.allJoinOne g ≡ S.allJoinOne (S.joinOne i g)
   unfolding S.allJoinOne
   one-all = rw one-left (λ k. record { one = (ap (λ (m : List ℕ). g .one ++ m) l ∙ sym (append-snoc (g .one) i rest)) k; two = g .two; left = [] })
 
+  one-last : length rest ≡ 0 → S.allJoinOne g ≡ S.joinOne i g
+  one-last z = one-all ∙ ap S.allJoinOne one-left ∙ last-one (g .one ++ i ∷ []) (g .two) rest z ∙ sym one-left
+
+-- group 2 likewise: the groups under each other's name
+mirrored : S.Groups → S.Groups
+mirrored g = record { one = g .two; two = g .one; left = g .left }
+
+module _ (g : S.Groups) (i : ℕ) (rest : List ℕ) (l : g .left ≡ i ∷ rest) (q : S.leaving i (g .left) ≡ rest) where
+  two-left : S.joinTwo i g ≡ record { one = g .one; two = g .two ++ i ∷ []; left = rest }
+  unfolding mirrored S.joinOne S.joinTwo
+  two-left = ap mirrored (one-left (mirrored g) i rest l q)
+
   two-all : S.allJoinTwo g ≡ S.allJoinTwo (S.joinTwo i g)
-  unfolding S.allJoinTwo
-  two-all = rw two-left (λ k. record { one = g .one; two = (ap (λ (m : List ℕ). g .two ++ m) l ∙ sym (append-snoc (g .two) i rest)) k; left = [] })
+  unfolding mirrored S.joinOne S.joinTwo S.allJoinOne S.allJoinTwo
+  two-all = ap mirrored (one-all (mirrored g) i rest l q)
+
+  two-last : length rest ≡ 0 → S.allJoinTwo g ≡ S.joinTwo i g
+  unfolding mirrored S.joinOne S.joinTwo S.allJoinOne S.allJoinTwo
+  two-last z = ap mirrored (one-last (mirrored g) i rest l q z)
+
+module _ (next : S.Groups → ℕ) (toTwo : S.Groups → ℕ → Bool) (g : S.Groups) (i : ℕ) (rest : List ℕ) (l : g .left ≡ i ∷ rest) (q : S.leaving i (g .left) ≡ rest) where
+  size : length (g .left) ≡ suc (length rest)
+  size = ap length l
+
+  -- a group of a places needs all that are left, and so it does with i among them
+  needs-still : (a : List ℕ) → length a + length (g .left) ≡ 3 → S.needsAll (a ++ i ∷ []) rest ≡ true
+  needs-still a e = needs-if (a ++ i ∷ []) rest (omega (arith, size, length-append a (i ∷ [])))
 
   pub forced-one : (n : ℕ) → length rest ≡ n → length (g .one) + length (g .left) ≡ 3
       → S.distribute next toTwo (suc n) g ≡ S.distribute next toTwo n (S.joinOne i g)
-  forced-one zero z e =
-      all-one next toTwo 0 g (needs-if (g .one) (g .left) e) ∙ one-all ∙ ap S.allJoinOne one-left
-      ∙ last-one (g .one ++ i ∷ []) (g .two) rest z ∙ sym one-left ∙ sym (none next toTwo (S.joinOne i g))
+  forced-one zero z e = all-one next toTwo 0 g (needs-if (g .one) (g .left) e) ∙ one-last g i rest l q z ∙ sym (none next toTwo (S.joinOne i g))
   forced-one (suc n) z e =
-      let f : length (g .one ++ i ∷ []) + length rest ≡ 3 = omega (arith, size, length-append (g .one) (i ∷ [])) in
-      all-one next toTwo (suc n) g (needs-if (g .one) (g .left) e) ∙ one-all
-      ∙ sym (all-one next toTwo n (S.joinOne i g) (rw one-left (needs-if (g .one ++ i ∷ []) rest f)))
+      all-one next toTwo (suc n) g (needs-if (g .one) (g .left) e) ∙ one-all g i rest l q
+      ∙ sym (all-one next toTwo n (S.joinOne i g) (rw (one-left g i rest l q) (needs-still (g .one) e)))
 
   pub forced-two : (n : ℕ) → length rest ≡ n → length (g .two) + length (g .left) ≡ 3 → 4 ≤ length (g .one)
       → S.distribute next toTwo (suc n) g ≡ S.distribute next toTwo n (S.joinTwo i g)
-  forced-two zero z e h =
-      all-two next toTwo 0 g (needs-not (g .one) (g .left) (λ x. omega arith)) (needs-if (g .two) (g .left) e) ∙ two-all ∙ ap S.allJoinTwo two-left
-      ∙ last-two (g .one) (g .two ++ i ∷ []) rest z ∙ sym two-left ∙ sym (none next toTwo (S.joinTwo i g))
-  forced-two (suc n) z e h =
-      let f : length (g .two ++ i ∷ []) + length rest ≡ 3 = omega (arith, size, length-append (g .two) (i ∷ [])) in
-      all-two next toTwo (suc n) g (needs-not (g .one) (g .left) (λ x. omega arith)) (needs-if (g .two) (g .left) e) ∙ two-all
-      ∙ sym (all-two next toTwo n (S.joinTwo i g) (rw two-left (needs-not (g .one) rest (λ x. omega arith))) (rw two-left (needs-if (g .two ++ i ∷ []) rest f)))
+  forced-two n z e h = go n z
+    where
+      joins : (n : ℕ) → S.distribute next toTwo (suc n) g ≡ S.allJoinTwo g
+      joins n = all-two next toTwo n g (needs-not (g .one) (g .left) (λ x. omega arith)) (needs-if (g .two) (g .left) e)
+
+      go : (n : ℕ) → length rest ≡ n → S.distribute next toTwo (suc n) g ≡ S.distribute next toTwo n (S.joinTwo i g)
+      go zero z = joins 0 ∙ two-last g i rest l q z ∙ sym (none next toTwo (S.joinTwo i g))
+      go (suc n) z =
+          let t = two-left g i rest l q in
+          joins (suc n) ∙ two-all g i rest l q
+          ∙ sym (all-two next toTwo n (S.joinTwo i g) (rw t (needs-not (g .one) rest (λ x. omega arith))) (rw t (needs-still (g .two) e)))
 
 -- ---- the places of a struct
 
-module _ {rs : List Rect} {t : Groups} (o : Ok rs t) where
+module _ {rs : List Rect} {t : Grouping} (o : Ok rs t) where
   pub size-one : length (groupsOf t .one) ≡ t .ones
   unfolding groupsOf
   size-one = length-take (t .ones) (t .one) ∙ omega (arith, o .all, o .one9)
@@ -133,11 +149,7 @@ all-map P Q f (i ∷ is) a = (f i (a .0), all-map P Q f is (a .1))
 best-in : (P : ℕ → Type 0) (better : ℕ → ℕ → Bool) (x : ℕ) (ys : List ℕ) → P x → All P ys → P (earliestBest better x ys)
 unfolding earliestBest
 best-in P better x [] p a = p
-best-in P better x (y ∷ ys) p a = best-in P better (cond (better y x) y x) ys (go (better y x)) (a .1)
-  where
-    go : (t : Bool) → P (cond t y x)
-    go true = a .0
-    go false = p
+best-in P better x (y ∷ ys) p a = best-in P better (cond (better y x) y x) ys (chosen P (better y x) (a .0) p) (a .1)
 
 -- k is one of the places from i on, and has no mark
 record Open (js : List Bool) (i k : ℕ) : Type 0 where
@@ -168,7 +180,7 @@ unfolding S.mostPreferring earliest
 next-in P rs a b [] h x = absurd (omega arith)
 next-in P rs a b (i ∷ is) h x = best-in P _ i is (x .0) (x .1)
 
-module _ {rs : List Rect} {t : Groups} (o : Ok rs t) (h : t .ones + t .twos < 9) where
+module _ {rs : List Rect} {t : Grouping} (o : Ok rs t) (h : t .ones + t .twos < 9) where
   pub some-left : 0 < length (unjoined (t .joined) 0)
   some-left = omega (arith, o .all)
 

@@ -8,12 +8,12 @@ use lib.ListN.{length}
 use Rattle.rules.specs.declared.Rect.{Rect}
 use Rattle.rules.specs.Choose.{rectFrom}
 use Rattle.rules.specs.Split as S
-use Rattle.split.specs.declared.Groups.{Groups}
+use Rattle.split.specs.declared.Grouping.{Grouping}
 use Rattle.split.specs.State.{AllValid, unjoined, firstOf, groupsOf, remaining, Free, Fill, Ok, flipped, withOne, ends}
 use Rattle.split.proofs.Joins.{with-groups, second-groups}
 use Rattle.split.proofs.Steps.{next-one, next-two, needs-not, forced-one, forced-two, size-one, size-two, size-left, some-left, first-free, head-leaves}
 
-module _ {rs : List Rect} {t : Groups} (v : AllValid rs) (o : Ok rs t) (h : t .ones + t .twos < 9) where
+module _ {rs : List Rect} {t : Grouping} (v : AllValid rs) (o : Ok rs t) (h : t .ones + t .twos < 9) where
   abbrev g : S.Groups
   g = groupsOf t
 
@@ -92,7 +92,7 @@ module _ {rs : List Rect} {t : Groups} (v : AllValid rs) (o : Ok rs t) (h : t .o
 
 -- ---- the sizes
 
-module _ (rs : List Rect) {t : Groups} (h : t .ones + t .twos < 9) (f : Fill t) (k : ℕ) where
+module _ (rs : List Rect) {t : Grouping} (h : t .ones + t .twos < 9) (f : Fill t) (k : ℕ) where
   pub one-more : (t .twos + remaining t ≡ 3 → ⊥) → (withOne rs t k .ones + withOne rs t k .twos ≡ t .ones + t .twos + 1) × Fill (withOne rs t k)
   one-more q = (omega arith, record { one = omega arith; two = omega arith })
 

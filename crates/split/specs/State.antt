@@ -12,9 +12,9 @@ use Rattle.rules.specs.declared.Rect.{Rect}
 use Rattle.rules.specs.Geometry.{valid, cover}
 use Rattle.rules.specs.Choose.{rectFrom}
 use Rattle.rules.specs.Split as S
-use Rattle.split.specs.declared.Pair.{Pair}
-use Rattle.split.specs.declared.Next.{Next}
-use Rattle.split.specs.declared.Groups.{Groups}
+use Rattle.split.specs.declared.KeyedSeeds.{KeyedSeeds}
+use Rattle.split.specs.declared.KeyedPlace.{KeyedPlace}
+use Rattle.split.specs.declared.Grouping.{Grouping}
 
 -- nine valid rectangles
 pub record AllValid (rs : List Rect) : Type 0 where
@@ -26,11 +26,11 @@ pub record AllValid (rs : List Rect) : Type 0 where
 abbrev pub wastesMore : List Rect → S.Seeds → S.Seeds → Bool
 wastesMore rs a b = ltZ (S.wasteOf rs b) (S.wasteOf rs a)
 
-abbrev pub seedsOf : Pair → S.Seeds
+abbrev pub seedsOf : KeyedSeeds → S.Seeds
 seedsOf p = S.seeds (p .first) (p .second)
 
 -- two of the nine in order, and the key is their d
-pub record Keyed (rs : List Rect) (p : Pair) : Type 0 where
+pub record Keyed (rs : List Rect) (p : KeyedSeeds) : Type 0 where
   pub order : p .first < p .second
   pub inside : p .second < 9
   pub key : subℕ (p .key) 8000000000000000000 ≡ S.wasteOf rs (seedsOf p)
@@ -41,7 +41,7 @@ abbrev pub prefersMore : List Rect → Rect → Rect → ℕ → ℕ → Bool
 prefersMore rs a b i j = ltb (S.preference rs a b j) (S.preference rs a b i)
 
 -- the better of a place with its key and the place i
-unfoldable pub widerNext : List Rect → Rect → Rect → Next → ℕ → Next
+unfoldable pub widerNext : List Rect → Rect → Rect → KeyedPlace → ℕ → KeyedPlace
 widerNext rs a b n i = cond (ltb (n .key) (S.preference rs a b i)) (record { at = i; key = S.preference rs a b i }) n
 
 -- the places that have no group, those from i on
@@ -53,25 +53,25 @@ unfoldable pub firstOf : List ℕ → ℕ
 firstOf [] = 0
 firstOf (i ∷ is) = i
 
-unfoldable pub groupsOf : Groups → S.Groups
+unfoldable pub groupsOf : Grouping → S.Groups
 groupsOf t = record { one = take (t .ones) (t .one); two = take (t .twos) (t .two); left = unjoined (t .joined) 0 }
 
 -- how many have no group yet
-abbrev pub remaining : Groups → ℕ
+abbrev pub remaining : Grouping → ℕ
 remaining t = 9 - (t .ones + t .twos)
 
 -- the place k is there, and has no group
-pub record Free (t : Groups) (k : ℕ) : Type 0 where
+pub record Free (t : Grouping) (k : ℕ) : Type 0 where
   pub inside : k < 9
   pub free : getD (t .joined) k false ≡ false
 
 -- each group can still come to three
-pub record Fill (t : Groups) : Type 0 where
+pub record Fill (t : Grouping) : Type 0 where
   pub one : 3 ≤ t .ones + remaining t
   pub two : 3 ≤ t .twos + remaining t
 
 -- the struct is whole: every place has its mark, the covers are those of the groups
-pub record Ok (rs : List Rect) (t : Groups) : Type 0 where
+pub record Ok (rs : List Rect) (t : Grouping) : Type 0 where
   pub joined9 : length (t .joined) ≡ 9
   pub one9 : length (t .one) ≡ 9
   pub two9 : length (t .two) ≡ 9
@@ -86,7 +86,7 @@ pub record Ok (rs : List Rect) (t : Groups) : Type 0 where
   pub validTwo : valid (t .coverTwo) ≡ true
 
 -- the two groups under each other's name
-abbrev pub flipped : Groups → Groups
+abbrev pub flipped : Grouping → Grouping
 flipped t =
     record {
       joined = t .joined;
@@ -99,7 +99,7 @@ flipped t =
     }
 
 -- .. and with the place k in group 1
-abbrev pub withOne : List Rect → Groups → ℕ → Groups
+abbrev pub withOne : List Rect → Grouping → ℕ → Grouping
 withOne rs t k =
     record {
       joined = set (t .joined) k true;
@@ -112,11 +112,11 @@ withOne rs t k =
     }
 
 -- what the groups come to when all have joined
-unfoldable pub ends : List Rect → Groups → S.Groups
+unfoldable pub ends : List Rect → Grouping → S.Groups
 ends rs t = S.distribute (S.pickNext rs) (S.joinsTwo rs) (remaining t) (groupsOf t)
 
 -- what a caller may go by: 3 to 6 places in each group, all of them places of the nine
-pub record GroupsWhole (t : Groups) : Type 0 where
+pub record GroupsWhole (t : Grouping) : Type 0 where
   pub all : t .ones + t .twos ≡ 9
   pub ones : 3 ≤ t .ones
   pub twos : 3 ≤ t .twos

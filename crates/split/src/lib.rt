@@ -6,31 +6,32 @@ ghost use mathlib.Core.List.{map};
 ghost use Prim.Native.Nat.{_+_, _-_, _<_};
 ghost use lib.Dec.{ltb};
 ghost use lib.ListN.{take};
-ghost use lib.IntN.{pos, natAbs, _-ℤ_};
-ghost use Rattle.rules.specs.Lists.{earliestBest, upFrom, lessThen};
+ghost use lib.IntN.{natAbs, _-ℤ_};
+ghost use Rattle.rules.specs.Lists.{earliestBest, upFrom};
 ghost use Rattle.rules.specs.Geometry as G;
 ghost use Rattle.rules.specs.Split as S;
 ghost use Rattle.split.specs.State.{AllValid, Keyed, wastesMore, seedsOf, widerNext, unjoined, firstOf, groupsOf, Free, Fill, Ok, flipped, withOne, ends, GroupsWhole};
+use geometry::less_then;
 use rules::Rect;
 
 // ---- PickSeeds
 
 // Two places, the earlier first, and their d as `geometry::waste` counts it.
-pub struct Pair {
+pub struct KeyedSeeds {
     pub first: usize,
     pub second: usize,
     pub key: u64,
 }
 
 // PS2: largest d; a tie stays with the earlier.
-fn keep(best: Pair, other: Pair) -> Pair
+fn keep(best: KeyedSeeds, other: KeyedSeeds) -> KeyedSeeds
     ensures { λ r. ⌜ r ≡ cond (ltb (best .key) (other .key)) other best ⌝ }
 {
     if best.key < other.key { other } else { best }
 }
 
 // PS1 for one first member: the best pair so far, and those of the place i with each later one.
-fn pairs_of(nine: [Rect; 9], i: usize, best: Pair) -> Pair
+fn pairs_of(nine: [Rect; 9], i: usize, best: KeyedSeeds) -> KeyedSeeds
     requires { ⌜ AllValid nine ⌝ }
     requires { ⌜ i < 9 ⌝ }
     requires { ⌜ Keyed nine best ⌝ }
@@ -44,7 +45,7 @@ fn pairs_of(nine: [Rect; 9], i: usize, best: Pair) -> Pair
         let key = geometry::waste(a, nine[j]);
         b = keep(
             b,
-            Pair {
+            KeyedSeeds {
                 first: i,
                 second: j,
                 key,
@@ -56,13 +57,13 @@ fn pairs_of(nine: [Rect; 9], i: usize, best: Pair) -> Pair
 }
 
 // Largest d, then earliest first member, then earliest second.
-fn pick_seeds(nine: [Rect; 9]) -> Pair
+fn pick_seeds(nine: [Rect; 9]) -> KeyedSeeds
     requires { ⌜ AllValid nine ⌝ }
     ensures is { λ r. ⌜ seedsOf r ≡ S.pickSeeds nine ⌝ }
     ensures keyed { λ r. ⌜ Keyed nine r ⌝ }
 {
     let key = geometry::waste(nine[0], nine[1]);
-    let mut b = Pair {
+    let mut b = KeyedSeeds {
         first: 0,
         second: 1,
         key,
@@ -78,7 +79,7 @@ fn pick_seeds(nine: [Rect; 9]) -> Pair
 // ---- the groups
 
 // Two groups of places in the order of joining, with their covers, and for each place whether it has a group.
-pub struct Groups {
+pub struct Grouping {
     pub joined: [bool; 9],
     pub one: [usize; 9],
     pub ones: usize,
@@ -107,24 +108,31 @@ fn preference(r: Rect, one: Rect, two: Rect) -> u64
 }
 
 // A place, and its preference.
-pub struct Next {
+pub struct KeyedPlace {
     pub at: usize,
     pub key: u64,
 }
 
 // PN2: largest difference; a tie stays with the earlier.
-fn wider(best: Next, at: usize, key: u64) -> Next
+fn wider(best: KeyedPlace, at: usize, key: u64) -> KeyedPlace
     ensures { λ r. ⌜ r ≡ cond (ltb (best .key) key) (record { at = at; key = key }) best ⌝ }
 {
     if best.key < key {
-        Next { at, key }
+        KeyedPlace { at, key }
     } else {
         best
     }
 }
 
 // The place i is looked at, unless it has a group.
-fn look(nine: [Rect; 9], i: usize, joined: bool, one: Rect, two: Rect, best: Next) -> Next
+fn look(
+    nine: [Rect; 9],
+    i: usize,
+    joined: bool,
+    one: Rect,
+    two: Rect,
+    best: KeyedPlace,
+) -> KeyedPlace
     requires { ⌜ AllValid nine ⌝ }
     requires { ⌜ i < 9 ⌝ }
     requires { ⌜ G.valid one ≡ true ⌝ }
@@ -162,7 +170,7 @@ fn pick_next(nine: [Rect; 9], joined: [bool; 9], one: Rect, two: Rect) -> usize
 {
     let at = first_left(joined);
     let key = preference(nine[at], one, two);
-    let mut best = Next { at, key };
+    let mut best = KeyedPlace { at, key };
     let mut i: usize = 0;
     while i < 9 {
         best = look(nine, i, joined[i], one, two, best);
@@ -174,7 +182,7 @@ fn pick_next(nine: [Rect; 9], joined: [bool; 9], one: Rect, two: Rect) -> usize
 // ---- the groups grow
 
 // Group 1 and group 2 change names.
-fn swapped(t: Groups) -> Groups
+fn swapped(t: Grouping) -> Grouping
     ensures { λ r. ⌜ r ≡ flipped t ⌝ }
 {
     let joined = t.joined;
@@ -182,7 +190,7 @@ fn swapped(t: Groups) -> Groups
     let two = t.one;
     let coverOne = t.coverTwo;
     let coverTwo = t.coverOne;
-    Groups {
+    Grouping {
         joined,
         one,
         ones: t.twos,
@@ -194,7 +202,7 @@ fn swapped(t: Groups) -> Groups
 }
 
 // The place k joins group 1, last.
-fn join_one(nine: [Rect; 9], t: Groups, k: usize) -> Groups
+fn join_one(nine: [Rect; 9], t: Grouping, k: usize) -> Grouping
     requires { ⌜ Ok nine t ⌝ }
     requires { ⌜ Free t k ⌝ }
     ensures { λ r. ⌜ r ≡ withOne nine t k ⌝ }
@@ -208,7 +216,7 @@ fn join_one(nine: [Rect; 9], t: Groups, k: usize) -> Groups
     let coverOne = geometry::cover(old, nine[k]);
     joined[k] = true;
     one[ones] = k;
-    Groups {
+    Grouping {
         joined,
         one,
         ones: ones + 1,
@@ -220,31 +228,12 @@ fn join_one(nine: [Rect; 9], t: Groups, k: usize) -> Groups
 }
 
 // .. group 2.
-fn join_two(nine: [Rect; 9], t: Groups, k: usize) -> Groups
+fn join_two(nine: [Rect; 9], t: Grouping, k: usize) -> Grouping
     requires { ⌜ Ok nine t ⌝ }
     requires { ⌜ Free t k ⌝ }
     ensures { λ r. ⌜ r ≡ flipped (withOne nine (flipped t) k) ⌝ }
 {
     swapped(join_one(nine, swapped(t), k))
-}
-
-// A rule and the next, twice: e below f; then a below b; then m below n.
-fn before(e: u64, f: u64, a: u64, b: u64, m: usize, n: usize) -> bool
-    ensures { λ r. ⌜ r ≡ lessThen (pos e) (pos f) (lessThen (pos a) (pos b) (ltb m n)) ⌝ }
-{
-    if e < f {
-        return true;
-    }
-    if f < e {
-        return false;
-    }
-    if a < b {
-        return true;
-    }
-    if b < a {
-        return false;
-    }
-    m < n
 }
 
 // Least enlargement, then smaller area, then fewer entries, then group 1: whether group 2 goes before group 1.
@@ -258,11 +247,11 @@ fn second_first(r: Rect, one: Rect, two: Rect, ones: usize, twos: usize) -> bool
     let f = geometry::enlargement(one, r);
     let a = geometry::area(two);
     let b = geometry::area(one);
-    before(e, f, a, b, twos, ones)
+    less_then(e < f, f < e, less_then(a < b, b < a, twos < ones))
 }
 
 // QS2 and QS3: one place joins a group. Where a group needs all that are left, the first of them joins it, and so on to the last.
-fn assign(nine: [Rect; 9], t: Groups) -> Groups
+fn assign(nine: [Rect; 9], t: Grouping) -> Grouping
     requires { ⌜ AllValid nine ⌝ }
     requires { ⌜ Ok nine t ⌝ }
     requires { ⌜ (t .ones + t .twos < 9) × Fill t ⌝ }
@@ -290,7 +279,7 @@ fn assign(nine: [Rect; 9], t: Groups) -> Groups
 }
 
 // QS1: the earlier seed opens group 1.
-fn begun(nine: [Rect; 9], i: usize, j: usize) -> Groups
+fn begun(nine: [Rect; 9], i: usize, j: usize) -> Grouping
     requires { ⌜ AllValid nine ⌝ }
     requires { ⌜ (i < j) × (j < 9) ⌝ }
     ensures is { λ r. ⌜ groupsOf r ≡ S.opening 9 (S.seeds i j) ⌝ }
@@ -306,7 +295,7 @@ fn begun(nine: [Rect; 9], i: usize, j: usize) -> Groups
     two[0] = j;
     let coverOne = nine[i];
     let coverTwo = nine[j];
-    Groups {
+    Grouping {
         joined,
         one,
         ones: 1,
@@ -318,7 +307,7 @@ fn begun(nine: [Rect; 9], i: usize, j: usize) -> Groups
 }
 
 // Nine rectangles in two groups, by Guttman's quadratic split.
-pub fn split_nine(nine: [Rect; 9]) -> Groups
+pub fn split_nine(nine: [Rect; 9]) -> Grouping
     requires { ⌜ AllValid nine ⌝ }
     ensures one { λ r. ⌜ take (r .ones) (r .one) ≡ S.quadraticGroups nine .one ⌝ }
     ensures two { λ r. ⌜ take (r .twos) (r .two) ≡ S.quadraticGroups nine .two ⌝ }

@@ -1,4 +1,4 @@
--- `answer`: the request does the call of the frame (Calls), and its lines are written behind those that wait.
+-- `answer`: the request does the call of the frame (Calls), and its lines are written after those that wait.
 use native.Mathlib.Omega.{arith}
 use mathlib.Core.Path.{sym, _∙_}
 use Rattle.dustmap.proofs.Calls.{asked-some, replies-by}

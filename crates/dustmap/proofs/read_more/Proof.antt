@@ -1,14 +1,6 @@
--- `read_more`: the bytes that wait are at the front, and what is read goes behind them.
-use Prim.Native.Nat.{ℕ, _-_}
-use lib.ListN.{length, take}
-use borrow.Rule.Slice.PartMut.{putMid, take-put}
-use Prim.Native.Nat.{_-_}
-use lib.ListN.{length}
-use borrow.Rule.Slice.PartMut.{putMid}
-use mathlib.Core.Path.{_≡_, refl, sym, ap, _∙_}
-use native.Mathlib.Omega.{arith}
+-- `read_more`: the bytes that wait are at the front, and what is read goes after them.
 use Rattle.dustmap.specs.Running.{runOf}
-use Rattle.dustmap.proofs.Rests.{came-high}
+use Rattle.dustmap.proofs.Rests.{came-now}
 use borrow.Author.Needs.{needs}
 use Rattle.dustmap.proofs.read_more.Statement.{statement}
 use Rattle.dustmap.proofs.read_more.Tie as tie
@@ -48,14 +40,24 @@ same-length c = search needs
 
 returns : tie.Need-returns
 unfolding runOf
-returns c = let l = putMid (c .before .before .before .before .before .before .before .before .before .before .keep-rest .result) (length (c .before .before .before .before .before .before .before .before .before .before .keep-rest .last .0) - c .before .before .before .before .before .before .before .before .before .before .keep-rest .result) (c .before .before .before .before .before .before .before .before .before .before .keep-rest .last .0) (c .before .before .before .before .before .before .read .last .1 .0) in let z : length l ≡ length (c .before .before .before .before .before .before .before .before .before .before .keep-rest .last .0) = search needs in record { before = refl; free = refl; front = refl; held = ap (λ (k : ℕ). take k l) (sym (c .before .before .before .before .before .before .before .before .before .before .keep-rest .ensures .0)) ∙ take-put (c .before .before .before .before .before .before .before .before .before .before .keep-rest .result) (length (c .before .before .before .before .before .before .before .before .before .before .keep-rest .last .0) - c .before .before .before .before .before .before .before .before .before .before .keep-rest .result) (c .before .before .before .before .before .before .before .before .before .before .keep-rest .last .0) (c .before .before .before .before .before .before .read .last .1 .0) (omega (arith, c .before .before .before .before .before .before .before .before .before .before .keep-rest .kept .0, c .before .before .before .before .before .before .before .before .before .before .keep-rest .ensures .0, c .before .before .before .before .before .before .before .before .before .before .before .before .before .before .pre .0, c .before .before .before .before .before .before .before .before .before .before .before .before .before .before .pre .1)) ∙ ap (λ (k : ℕ). take k (c .before .before .before .before .before .before .before .before .before .before .keep-rest .last .0)) (c .before .before .before .before .before .before .before .before .before .before .keep-rest .ensures .0) ∙ c .before .before .before .before .before .before .before .before .before .before .keep-rest .ensures .1; low = omega (arith, c .before .before .before .before .before .before .before .before .before .before .keep-rest .ensures .0); high = came-high l (c .before .before .before .before .before .before .before .before .before .before .keep-rest .result) (c .before .count .result) (omega (arith, z, c .before .before .before .before .before .before .before .before .before .before .keep-rest .kept .0, c .before .before .before .before .before .before .before .before .before .before .keep-rest .ensures .0, c .before .before .before .before .before .before .before .before .before .before .before .before .before .before .pre .0, c .before .before .before .before .before .before .before .before .before .before .before .before .before .before .pre .1)) (c .before .count .ensures .0 .0); filled = refl }
+returns c =
+    let s = c .before .before .before .before .before .before .before .before .before .before .before .before .before .before in
+    let kept = c .before .before .before .before .before .before .before .before .before .before .keep-rest in
+    let count = c .before .count in
+    came-now (kept .last .0) (c .before .before .before .before .before .before .read .last .1 .0) (kept .result) (count .result) (s .pre .0) (s .pre .1) (kept .ensures .0) (kept .kept .0) (kept .ensures .1)
+    (search needs) (count .ensures .0 .0)
 
 same-length-2 : tie.Need-same-length-2
 same-length-2 c = search needs
 
 returns-2 : tie.Need-returns-2
 unfolding runOf
-returns-2 c = let l = putMid (c .before .before .before .before .before .before .before .before .before .before .keep-rest .result) (length (c .before .before .before .before .before .before .before .before .before .before .keep-rest .last .0) - c .before .before .before .before .before .before .before .before .before .before .keep-rest .result) (c .before .before .before .before .before .before .before .before .before .before .keep-rest .last .0) (c .before .before .before .before .before .before .read .last .1 .0) in let z : length l ≡ length (c .before .before .before .before .before .before .before .before .before .before .keep-rest .last .0) = search needs in record { before = refl; free = refl; front = refl; held = ap (λ (k : ℕ). take k l) (sym (c .before .before .before .before .before .before .before .before .before .before .keep-rest .ensures .0)) ∙ take-put (c .before .before .before .before .before .before .before .before .before .before .keep-rest .result) (length (c .before .before .before .before .before .before .before .before .before .before .keep-rest .last .0) - c .before .before .before .before .before .before .before .before .before .before .keep-rest .result) (c .before .before .before .before .before .before .before .before .before .before .keep-rest .last .0) (c .before .before .before .before .before .before .read .last .1 .0) (omega (arith, c .before .before .before .before .before .before .before .before .before .before .keep-rest .kept .0, c .before .before .before .before .before .before .before .before .before .before .keep-rest .ensures .0, c .before .before .before .before .before .before .before .before .before .before .before .before .before .before .pre .0, c .before .before .before .before .before .before .before .before .before .before .before .before .before .before .pre .1)) ∙ ap (λ (k : ℕ). take k (c .before .before .before .before .before .before .before .before .before .before .keep-rest .last .0)) (c .before .before .before .before .before .before .before .before .before .before .keep-rest .ensures .0) ∙ c .before .before .before .before .before .before .before .before .before .before .keep-rest .ensures .1; low = omega (arith, c .before .before .before .before .before .before .before .before .before .before .keep-rest .ensures .0); high = came-high l (c .before .before .before .before .before .before .before .before .before .before .keep-rest .result) (c .before .count .result) (omega (arith, z, c .before .before .before .before .before .before .before .before .before .before .keep-rest .kept .0, c .before .before .before .before .before .before .before .before .before .before .keep-rest .ensures .0, c .before .before .before .before .before .before .before .before .before .before .before .before .before .before .pre .0, c .before .before .before .before .before .before .before .before .before .before .before .before .before .before .pre .1)) (c .before .count .ensures .0 .0); filled = refl }
+returns-2 c =
+    let s = c .before .before .before .before .before .before .before .before .before .before .before .before .before .before in
+    let kept = c .before .before .before .before .before .before .before .before .before .before .keep-rest in
+    let count = c .before .count in
+    came-now (kept .last .0) (c .before .before .before .before .before .before .read .last .1 .0) (kept .result) (count .result) (s .pre .0) (s .pre .1) (kept .ensures .0) (kept .kept .0) (kept .ensures .1)
+    (search needs) (count .ensures .0 .0)
 
 pub read-more-spec : {M : Type 1} → statement M
 read-more-spec =

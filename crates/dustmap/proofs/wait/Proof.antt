@@ -1,6 +1,8 @@
 -- `wait`: nothing but the input changes.
+use mathlib.Core.Path.{ap}
 use native.Mathlib.Omega.{arith}
-use Rattle.dustmap.proofs.Rests.{came-as, came-goes, came-waits, came-full, came-ends, waited-goes, waited-ends}
+use Rattle.dustmap.specs.Running.{runOf}
+use Rattle.dustmap.proofs.Rests.{came-as, waited-goes, waited-ends}
 use borrow.Author.Needs.{needs}
 use Rattle.dustmap.proofs.wait.Statement.{statement}
 use Rattle.dustmap.proofs.wait.Tie as tie
@@ -15,7 +17,11 @@ enum-known-r : tie.Need-enum-known-r
 enum-known-r c = search needs
 
 last-line-requires : tie.Need-last-line-requires
-last-line-requires c κs = let d = came-as (c .before .before .before .before .before .before .before .before .before .before .before .before .args .input .now) (c .before .before .before .before .before .before .read-more .last .0) (c .before .before .before .before .before .before .before .before .before .before .before .before .args .run) (c .before .before .before .before .before .before .before .before .flushed .result) (c .before .before .r .given .0 .0) (c .before .before .before .before .before .before .read-more .result) (c .before .before .before .before .before .before .before .before .flushed .ensures) (c .before .before .before .before .before .before .read-more .ensures) (came-ends (c .before .before .before .before .before .before .read-more .result) (c .before .before .r .given .0 .0) (c .before .before .r .given .1)) in (omega (arith, d .filled), c .before .before .before .before .before .before .before .before .before .before .before .before .pre .1 .1)
+unfolding runOf
+last-line-requires c κs =
+    let read = c .before .before .before .before .before .before .read-more in
+    let came = came-as (read .result) (c .before .before .before .before .before .before .before .before .flushed .ensures) (read .ensures) (ap runOf (c .before .before .r .given .1)) in
+    (omega (arith, came .filled), c .before .before .before .before .before .before .before .before .before .before .before .before .pre .1 .1)
 
 flushed-requires-2 : tie.Need-flushed-requires-2
 flushed-requires-2 c κs = search needs
@@ -36,7 +42,9 @@ same-length-2 : tie.Need-same-length-2
 same-length-2 c = search needs
 
 returns : tie.Need-returns
-returns c = waited-ends (c .before .before .before .before .before .before .before .before .before .before .before .before .before .before .before .before .before .args .input .now) (c .before .before .before .before .before .before .before .before .before .before .before .read-more .last .0) (c .before .before .before .before .before .before .before .before .before .before .before .before .before .before .before .before .before .args .run) (c .flushed2 .result)
+returns c =
+    let s = c .before .before .before .before .before .before .before .before .before .before .before .before .before .before .before .before .before .args in
+    waited-ends (s .input .now) (c .before .before .before .before .before .before .before .before .before .before .before .read-more .last .0) (s .run) (c .flushed2 .result)
 
 same-length-3 : tie.Need-same-length-3
 same-length-3 c = search needs
@@ -45,7 +53,10 @@ same-length-4 : tie.Need-same-length-4
 same-length-4 c = search needs
 
 returns-2 : tie.Need-returns-2
-returns-2 c = waited-goes (c .before .before .before .before .before .before .before .before .before .before .before .args .input .now) (c .before .before .before .before .before .read-more .last .0) (c .before .before .before .before .before .before .before .before .before .before .before .args .run) (c .before .r2 .given .0 .0) (came-as (c .before .before .before .before .before .before .before .before .before .before .before .args .input .now) (c .before .before .before .before .before .read-more .last .0) (c .before .before .before .before .before .before .before .before .before .before .before .args .run) (c .before .before .before .before .before .before .before .flushed .result) (c .before .r2 .given .0 .0) (c .before .before .before .before .before .read-more .result) (c .before .before .before .before .before .before .before .flushed .ensures) (c .before .before .before .before .before .read-more .ensures) (came-goes (c .before .before .before .before .before .read-more .result) (c .before .r2 .given .0 .0) (c .before .r2 .given .1)))
+unfolding runOf
+returns-2 c =
+    let read = c .before .before .before .before .before .read-more in
+    waited-goes (read .result) (c .before .before .before .before .before .before .before .flushed .ensures) (read .ensures) (ap runOf (c .before .r2 .given .1))
 
 same-length-5 : tie.Need-same-length-5
 same-length-5 c = search needs
@@ -54,7 +65,10 @@ same-length-6 : tie.Need-same-length-6
 same-length-6 c = search needs
 
 returns-3 : tie.Need-returns-3
-returns-3 c = waited-goes (c .before .before .before .before .before .before .before .before .before .before .before .args .input .now) (c .before .before .before .before .before .read-more .last .0) (c .before .before .before .before .before .before .before .before .before .before .before .args .run) (c .before .r3 .given .0 .0) (came-as (c .before .before .before .before .before .before .before .before .before .before .before .args .input .now) (c .before .before .before .before .before .read-more .last .0) (c .before .before .before .before .before .before .before .before .before .before .before .args .run) (c .before .before .before .before .before .before .before .flushed .result) (c .before .r3 .given .0 .0) (c .before .before .before .before .before .read-more .result) (c .before .before .before .before .before .before .before .flushed .ensures) (c .before .before .before .before .before .read-more .ensures) (came-waits (c .before .before .before .before .before .read-more .result) (c .before .r3 .given .0 .0) (c .before .r3 .given .1)))
+unfolding runOf
+returns-3 c =
+    let read = c .before .before .before .before .before .read-more in
+    waited-goes (read .result) (c .before .before .before .before .before .before .before .flushed .ensures) (read .ensures) (ap runOf (c .before .r3 .given .1))
 
 same-length-7 : tie.Need-same-length-7
 same-length-7 c = search needs
@@ -63,7 +77,10 @@ same-length-8 : tie.Need-same-length-8
 same-length-8 c = search needs
 
 returns-4 : tie.Need-returns-4
-returns-4 c = waited-goes (c .before .before .before .before .before .before .before .before .before .before .before .args .input .now) (c .before .before .before .before .before .read-more .last .0) (c .before .before .before .before .before .before .before .before .before .before .before .args .run) (c .before .r4 .given .0 .0) (came-as (c .before .before .before .before .before .before .before .before .before .before .before .args .input .now) (c .before .before .before .before .before .read-more .last .0) (c .before .before .before .before .before .before .before .before .before .before .before .args .run) (c .before .before .before .before .before .before .before .flushed .result) (c .before .r4 .given .0 .0) (c .before .before .before .before .before .read-more .result) (c .before .before .before .before .before .before .before .flushed .ensures) (c .before .before .before .before .before .read-more .ensures) (came-full (c .before .before .before .before .before .read-more .result) (c .before .r4 .given .0 .0) (c .before .r4 .given .1)))
+unfolding runOf
+returns-4 c =
+    let read = c .before .before .before .before .before .read-more in
+    waited-goes (read .result) (c .before .before .before .before .before .before .before .flushed .ensures) (read .ensures) (ap runOf (c .before .r4 .given .1))
 
 pub wait-spec : {M : Type 1} → statement M
 wait-spec =

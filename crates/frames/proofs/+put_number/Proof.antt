@@ -1,4 +1,4 @@
--- `put_number`: the digits of the tenth, and the last digit behind them. The number falls at each call.
+-- `put_number`: the digits of the tenth, and the last digit after them. The number falls at each call.
 use mathlib.Core.Path.{sym, ap, _∙_}
 use native.Mathlib.Omega.{arith}
 use mathlib.Core.List.{[], _∷_, _++_}

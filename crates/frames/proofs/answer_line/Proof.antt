@@ -1,4 +1,4 @@
--- `answer_line`: four fields, each written behind the one before.
+-- `answer_line`: four fields, each written after the one before.
 use mathlib.Core.Path.{_∙_}
 use native.Mathlib.Omega.{arith}
 use mathlib.Core.List.{[], _∷_}
@@ -39,11 +39,22 @@ same-length : tie.Need-same-length
 same-length c = search needs
 
 returns : tie.Need-returns
-returns c = let a = c .before .before .before .before .before .before .before .before .before .before .before .before .before .before .before .before .before .before .before .before .args .answer in (
-  wrote-as (four _ _ _ _ ∙ (λ i. line (natShown (add-one (c .before .before .before .before .before .before .before .before .before .before .before .before .before .before .before .before .before .before .before .before .args .before) i) ∷ natShown (c .before .before .before .before .before .before .before .before .before .before .before .before .before .long .ensures i) ∷ natShown (c .before .before .before .before .before .before .before .before .long2 .ensures i) ∷ natShown (c .before .before .before .long3 .ensures i) ∷ [])) ∙ answer-is (suc (c .before .before .before .before .before .before .before .before .before .before .before .before .before .before .before .before .before .before .before .before .args .before)) a)
-      (wrote-then (wrote-then (wrote-then (c .before .before .before .before .before .before .before .before .before .before .before .before .before .before .before .before .before .put-field .ensures .0) (c .before .before .before .before .before .before .before .before .before .before .before .before .put-field2 .ensures .0)) (c .before .before .before .before .before .before .before .put-field3 .ensures .0)) (c .before .before .put-field4 .ensures .0)),
-  omega (arith, c .before .before .before .before .before .before .before .before .before .before .before .before .before .before .before .before .before .put-field .ensures .1, c .before .before .before .before .before .before .before .before .before .before .before .before .put-field2 .ensures .1, c .before .before .before .before .before .before .before .put-field3 .ensures .1, c .before .before .put-field4 .ensures .1),
-)
+returns c =
+    let s = c .before .before .before .before .before .before .before .before .before .before .before .before .before .before .before .before .before .before .before .before .args in
+    let number = c .before .before .before .before .before .before .before .before .before .before .before .before .before .long .ensures in
+    let found = c .before .before .before .before .before .before .before .before .long2 .ensures in
+    let opened = c .before .before .before .long3 .ensures in
+    let one = c .before .before .before .before .before .before .before .before .before .before .before .before .before .before .before .before .before .put-field .ensures in
+    let two = c .before .before .before .before .before .before .before .before .before .before .before .before .put-field2 .ensures in
+    let three = c .before .before .before .before .before .before .before .put-field3 .ensures in
+    let last = c .before .before .put-field4 .ensures in (
+      wrote-as
+          (four _ _ _ _
+          ∙ (λ i. line (natShown (add-one (s .before) i) ∷ natShown (number i) ∷ natShown (found i) ∷ natShown (opened i) ∷ []))
+          ∙ answer-is (suc (s .before)) (s .answer))
+          (wrote-then (wrote-then (wrote-then (one .0) (two .0)) (three .0)) (last .0)),
+      omega (arith, one .1, two .1, three .1, last .1),
+    )
 
 pub answer-line-spec : {M : Type 1} → statement M
 answer-line-spec =

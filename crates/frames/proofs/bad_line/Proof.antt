@@ -1,4 +1,4 @@
--- `bad_line`: the text is copied to the part of the buffer from `at` on, and the place written behind it.
+-- `bad_line`: the text is copied to the part of the buffer from `at` on, and the place written after it.
 use Rattle.frames.proofs.Texts.{wrote-copy, wrote-then, wrote-as}
 use mathlib.Core.Path.{_∙_}
 use mathlib.Core.List.{[], _∷_, _++_}

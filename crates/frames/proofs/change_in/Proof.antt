@@ -1,4 +1,4 @@
--- `change_in`: number and rectangle from the words behind the kind; the second rectangle is not used.
+-- `change_in`: number and rectangle from the words after the kind; the second rectangle is not used.
 use mathlib.Core.Path.{_∙_}
 use Rattle.frames.proofs.Requests.{change-made}
 use Rattle.frames.proofs.Words.{word-kept}

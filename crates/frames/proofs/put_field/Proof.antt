@@ -1,4 +1,4 @@
--- `put_field`: a number has 20 digits at most, so there is room for the byte behind it.
+-- `put_field`: a number has 20 digits at most, so there is room for the byte after it.
 use native.Mathlib.Omega.{arith}
 use Rattle.frames.proofs.Digits.{shown-length}
 use Rattle.frames.proofs.Texts.{wrote-byte, wrote-then}
@@ -19,7 +19,7 @@ same-length : tie.Need-same-length
 same-length c = search needs
 
 returns : tie.Need-returns
-returns c = (wrote-then (c .before .before .put-number .ensures) (wrote-byte (c .before .before .put-number .last .0) (c .before .before .put-number .result) (c .before .before .before .before .before .args .behind)), omega (arith, shown-length (c .before .before .before .before .before .args .n), c .before .before .put-number .ensures .place))
+returns c = (wrote-then (c .before .before .put-number .ensures) (wrote-byte (c .before .before .put-number .last .0) (c .before .before .put-number .result) (c .before .before .before .before .before .args .after)), omega (arith, shown-length (c .before .before .before .before .before .args .n), c .before .before .put-number .ensures .place))
 
 pub put-field-spec : {M : Type 1} → statement M
 put-field-spec =

@@ -1,4 +1,4 @@
--- `search_in`: the window from the words behind the kind.
+-- `search_in`: the window from the words after the kind.
 use Rattle.frames.proofs.Requests.{search-made}
 use borrow.Author.Needs.{needs}
 use Rattle.frames.proofs.search_in.Statement.{statement}

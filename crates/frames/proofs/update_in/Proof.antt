@@ -1,4 +1,4 @@
--- `update_in`: number, old and new rectangle from the words behind the kind.
+-- `update_in`: number, old and new rectangle from the words after the kind.
 use mathlib.Core.Path.{_∙_}
 use Rattle.frames.proofs.Requests.{update-made}
 use Rattle.frames.proofs.Words.{word-kept}

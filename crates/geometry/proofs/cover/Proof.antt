@@ -1,9 +1,5 @@
-use mathlib.Core.Path.{_≡_}
-use mir.Val.{toZ, ofZ}
-use mir.Syntax.{w32}
-use mir.Facts.{toZ-ofZ}
-use borrow.Author.Needs.{sfits-of}
 use Rattle.rules.specs.Geometry.{smaller, larger, cover}
+use Rattle.geometry.proofs.Rects.{rect-back, by-words}
 use borrow.Author.Needs.{needs}
 use Rattle.geometry.proofs.cover.Statement.{statement}
 use Rattle.geometry.proofs.cover.Tie as tie
@@ -31,7 +27,20 @@ larger-requires-2 c κs = search needs
 -- src/lib.rt:74:1
 returns : tie.Need-returns
 unfolding cover
-returns c = let a = c .before .before .before .before .before .before .before .before .before .before .before .before .args .a in let b = c .before .before .before .before .before .before .before .before .before .before .before .before .args .b in let g = c .before .before .before .before .before .before .before .before .before .before .before .struct-told .given in let h = c .before .before .before .before .before .before .before .before .before .before .struct-told2 .given in let l : toZ w32 (ofZ w32 (c .before .before .before .before .before .before .before .before .before .smaller .result)) ≡ smaller (a .lowX) (b .lowX) = rw (toZ-ofZ {w = w32} {z = c .before .before .before .before .before .before .before .before .before .smaller .result} (sfits-of (c .before .before .before .before .before .before .before .before .before .smaller .ok)), c .before .before .before .before .before .before .before .before .before .smaller .ensures, toZ-ofZ {w = w32} {z = a .lowX} (sfits-of (g .0 .1)), toZ-ofZ {w = w32} {z = b .lowX} (sfits-of (h .0 .1))) in let m : toZ w32 (ofZ w32 (c .before .before .before .before .before .before .smaller2 .result)) ≡ smaller (a .lowY) (b .lowY) = rw (toZ-ofZ {w = w32} {z = c .before .before .before .before .before .before .smaller2 .result} (sfits-of (c .before .before .before .before .before .before .smaller2 .ok)), c .before .before .before .before .before .before .smaller2 .ensures, toZ-ofZ {w = w32} {z = a .lowY} (sfits-of (g .1 .0 .1)), toZ-ofZ {w = w32} {z = b .lowY} (sfits-of (h .1 .0 .1))) in let n : toZ w32 (ofZ w32 (c .before .before .before .larger .result)) ≡ larger (a .highX) (b .highX) = rw (toZ-ofZ {w = w32} {z = c .before .before .before .larger .result} (sfits-of (c .before .before .before .larger .ok)), c .before .before .before .larger .ensures, toZ-ofZ {w = w32} {z = a .highX} (sfits-of (g .1 .1 .0 .1)), toZ-ofZ {w = w32} {z = b .highX} (sfits-of (h .1 .1 .0 .1))) in let o : toZ w32 (ofZ w32 (c .larger2 .result)) ≡ larger (a .highY) (b .highY) = rw (toZ-ofZ {w = w32} {z = c .larger2 .result} (sfits-of (c .larger2 .ok)), c .larger2 .ensures, toZ-ofZ {w = w32} {z = a .highY} (sfits-of (g .1 .1 .1 .0 .1)), toZ-ofZ {w = w32} {z = b .highY} (sfits-of (h .1 .1 .1 .0 .1))) in rw (l, m, n, o)
+returns c =
+    let s = c .before .before .before .before .before .before .before .before .before .before .before .before in
+    let a = rect-back (s .args .a) (c .before .before .before .before .before .before .before .before .before .before .before .struct-told .given) in
+    let b = rect-back (s .args .b) (c .before .before .before .before .before .before .before .before .before .before .struct-told2 .given) in
+    let lowX = c .before .before .before .before .before .before .before .before .before .smaller in
+    let lowY = c .before .before .before .before .before .before .smaller2 in
+    let highX = c .before .before .before .larger in
+    let highY = c .larger2 in
+    rw (
+      by-words smaller (lowX .ok) (lowX .ensures) (a .lowX) (b .lowX),
+      by-words smaller (lowY .ok) (lowY .ensures) (a .lowY) (b .lowY),
+      by-words larger (highX .ok) (highX .ensures) (a .highX) (b .highX),
+      by-words larger (highY .ok) (highY .ensures) (a .highY) (b .highY),
+    )
 
 pub cover-spec : {M : Type 1} → statement M
 cover-spec =

@@ -1,6 +1,6 @@
-use mathlib.Core.Path.{sym, _∙_}
 use mir.Facts.{toZ-ofZ}
 use Rattle.rules.specs.Geometry.{larger}
+use Rattle.geometry.proofs.Rects.{by-test}
 use borrow.Author.Needs.{needs}
 use Rattle.geometry.proofs.larger.Statement.{statement}
 use Rattle.geometry.proofs.larger.Tie as tie
@@ -15,12 +15,12 @@ le-requires c κs = search needs
 -- src/lib.rt:67:1
 returns : tie.Need-returns
 unfolding larger
-returns c = let s = c .before .before in let e = sym (c .before .le .ensures) ∙ c .if1 .taken in let d = rw (toZ-ofZ (s .fits .a), toZ-ofZ (s .fits .b)) at e in rw (toZ-ofZ (s .fits .b), d)
+returns c = let f = c .before .before .fits in rw (toZ-ofZ (f .b), by-test (f .a) (f .b) (c .before .le .ensures) (c .if1 .taken))
 
 -- src/lib.rt:67:1
 returns-2 : tie.Need-returns-2
 unfolding larger
-returns-2 c = let s = c .before .before in let e = sym (c .before .le .ensures) ∙ c .if1 .left in let d = rw (toZ-ofZ (s .fits .a), toZ-ofZ (s .fits .b)) at e in rw (toZ-ofZ (s .fits .a), d)
+returns-2 c = let f = c .before .before .fits in rw (toZ-ofZ (f .a), by-test (f .a) (f .b) (c .before .le .ensures) (c .if1 .left))
 
 pub larger-spec : {M : Type 1} → statement M
 larger-spec = tie.close (tie.spec le-requires returns returns-2)

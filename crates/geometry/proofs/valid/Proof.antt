@@ -1,8 +1,6 @@
-use mir.Syntax.{w32}
-use mir.Facts.{toZ-ofZ}
-use borrow.Author.Needs.{sfits-of}
 use Rattle.rules.specs.Geometry.{valid}
 use borrow.Author.Needs.{needs}
+use Rattle.geometry.proofs.Rects.{rect-back}
 use Rattle.geometry.proofs.valid.Statement.{statement}
 use Rattle.geometry.proofs.valid.Tie as tie
 use Rattle.geometry.proofs.valid.Reads as reads
@@ -11,54 +9,47 @@ use Rattle.geometry.proofs.and.Reads as and-reads
 use Rattle.geometry.proofs.in_range.Reads as in-range-reads
 use Rattle.geometry.proofs.le.Reads as le-reads
 
--- src/lib.rt:41:19
 in-range-requires : tie.Need-in-range-requires
 in-range-requires c κs = search needs
 
--- src/lib.rt:41:37
 in-range-requires-2 : tie.Need-in-range-requires-2
 in-range-requires-2 c κs = search needs
 
--- src/lib.rt:41:9
 and-requires : tie.Need-and-requires
 and-requires c κs = search needs
 
--- src/lib.rt:42:28
 in-range-requires-3 : tie.Need-in-range-requires-3
 in-range-requires-3 c κs = search needs
 
--- src/lib.rt:42:19
 and-requires-2 : tie.Need-and-requires-2
 and-requires-2 c κs = search needs
 
--- src/lib.rt:42:48
 in-range-requires-4 : tie.Need-in-range-requires-4
 in-range-requires-4 c κs = search needs
 
--- src/lib.rt:42:9
 and-requires-3 : tie.Need-and-requires-3
 and-requires-3 c κs = search needs
 
--- src/lib.rt:43:18
 le-requires : tie.Need-le-requires
 le-requires c κs = search needs
 
--- src/lib.rt:43:9
 and-requires-4 : tie.Need-and-requires-4
 and-requires-4 c κs = search needs
 
--- src/lib.rt:43:40
 le-requires-2 : tie.Need-le-requires-2
 le-requires-2 c κs = search needs
 
--- src/lib.rt:43:5
 and-requires-5 : tie.Need-and-requires-5
 and-requires-5 c κs = search needs
 
--- src/lib.rt:38:1
 returns : tie.Need-returns
 unfolding valid
-returns c = let r = c .before .before .before .before .before .before .before .before .before .before .before .before .before .before .before .before .before .before .before .args .r in let g = c .before .before .before .before .before .before .before .before .before .before .before .before .before .before .before .before .before .before .struct-told .given in cc (toZ-ofZ {w = w32} {z = r .lowX} (sfits-of (g .0 .1)), toZ-ofZ {w = w32} {z = r .lowY} (sfits-of (g .1 .0 .1)), toZ-ofZ {w = w32} {z = r .highX} (sfits-of (g .1 .1 .0 .1)), toZ-ofZ {w = w32} {z = r .highY} (sfits-of (g .1 .1 .1 .0 .1)))
+returns c =
+    let a =
+    rect-back
+    (c .before .before .before .before .before .before .before .before .before .before .before .before .before .before .before .before .before .before .before .args .r)
+    (c .before .before .before .before .before .before .before .before .before .before .before .before .before .before .before .before .before .before .struct-told .given) in
+    cc (a .lowX, a .lowY, a .highX, a .highY)
 
 pub valid-spec : {M : Type 1} → statement M
 valid-spec =

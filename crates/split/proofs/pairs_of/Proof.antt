@@ -8,7 +8,7 @@ use Prim.Native.Nat.{ℕ, _+_, _-_, _≤_, _<_}
 use native.Mathlib.Omega.{arith}
 use Rattle.rules.specs.declared.Rect.{Rect}
 use Rattle.rules.specs.Choose.{rectFrom}
-use Rattle.split.specs.declared.Pair.{Pair}
+use Rattle.split.specs.declared.KeyedSeeds.{KeyedSeeds}
 use Rattle.split.specs.State.{Keyed, seedsOf}
 use Rattle.split.proofs.pairs_of.Statement.{statement}
 use Rattle.split.proofs.pairs_of.Tie as tie
@@ -18,7 +18,7 @@ use Rattle.geometry.proofs.waste.Reads as waste-reads
 use Rattle.split.proofs.keep.Reads as keep-reads
 
 -- j is at most 9 and past i; the pair is keyed; what is left to look at gives what the whole gives
-record Pass (i : ℕ) (nine : List Rect) (b₀ b : Pair) (j : ℕ) : Type 0 where
+record Pass (i : ℕ) (nine : List Rect) (b₀ b : KeyedSeeds) (j : ℕ) : Type 0 where
   most : j ≤ 9
   past : i < j
   keyed : Keyed nine b
@@ -31,10 +31,10 @@ abbrev μ-loop : tie.MeasureT-loop
 μ-loop i nine a b₀ j₀ b j = 9 - j
 
 -- the pair of i and j, with the key that the code has for it
-pair : ℕ → ℕ → ℕ → Pair
+pair : ℕ → ℕ → ℕ → KeyedSeeds
 pair i j k = record { first = i; second = j; key = k }
 
-module _ {i : ℕ} {nine : List Rect} {b₀ b : Pair} {j : ℕ} (u : Pass i nine b₀ b j) (h : j < 9) (k : ℕ)
+module _ {i : ℕ} {nine : List Rect} {b₀ b : KeyedSeeds} {j : ℕ} (u : Pass i nine b₀ b j) (h : j < 9) (k : ℕ)
     (e : subℕ k 8000000000000000000 ≡ wasteOf nine (seeds i j)) where
   new-keyed : Keyed nine (pair i j k)
   unfolding pair

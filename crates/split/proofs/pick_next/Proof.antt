@@ -1,6 +1,6 @@
 use borrow.Author.Needs.{needs}
 use mathlib.Core.Path.{_≡_, sym, _∙_}
-use mathlib.Core.Bool.{Bool, true, false, cond}
+use mathlib.Core.Bool.{Bool, false, cond}
 use mathlib.Core.List.{List}
 use Prim.Native.Nat.{ℕ, _+_, _-_, _≤_, _<_}
 use native.Mathlib.Omega.{arith}
@@ -8,9 +8,10 @@ use lib.ListN.{length, getD}
 use Rattle.rules.specs.declared.Rect.{Rect}
 use Rattle.rules.specs.Choose.{rectFrom}
 use Rattle.rules.specs.Split.{preference, mostPreferring}
-use Rattle.split.specs.declared.Next.{Next}
+use Rattle.split.specs.declared.KeyedPlace.{KeyedPlace}
 use Rattle.split.specs.State.{widerNext, unjoined}
-use Rattle.split.proofs.Nexts.{ahead, next-key, next-step, next-none, next-first}
+use Rattle.geometry.proofs.Rules.{chosen}
+use Rattle.split.proofs.Nexts.{ahead, Preferred, next-key, next-step, next-none, next-first}
 use Rattle.split.proofs.pick_next.Statement.{statement}
 use Rattle.split.proofs.pick_next.Tie as tie
 use Rattle.split.proofs.pick_next.Reads as reads
@@ -20,27 +21,23 @@ use Rattle.split.proofs.look.Reads as look-reads
 use Rattle.split.proofs.preference.Reads as preference-reads
 
 -- the key is the place's preference, and the places from i on give what all give
-record Turn (one two : Rect) (nine : List Rect) (joined : List Bool) (best : Next) (i : ℕ) : Type 0 where
+record Turn (one two : Rect) (nine : List Rect) (joined : List Bool) (best : KeyedPlace) (i : ℕ) : Type 0 where
   most : i ≤ 9
   marks : length joined ≡ 9
-  key : best .key ≡ preference nine one two (best .at)
+  key : Preferred nine one two best
   rest : ahead nine one two joined (best .at) i ≡ mostPreferring nine one two (unjoined joined 0)
 
 -- a turn, whether the place has a group or not
-turn : {one two : Rect} {nine : List Rect} {joined : List Bool} {best : Next} {i : ℕ} → Turn one two nine joined best i → i < 9
+turn : {one two : Rect} {nine : List Rect} {joined : List Bool} {best : KeyedPlace} {i : ℕ} → Turn one two nine joined best i → i < 9
     → Turn one two nine joined (cond (getD joined i false) best (widerNext nine one two best i)) (i + 1)
 turn {one} {two} {nine} {joined} {best} {i} u h =
     let l : i < length joined = omega arith in
     record {
       most = omega arith;
       marks = u .marks;
-      key = kept (getD joined i false);
+      key = chosen (Preferred nine one two) (getD joined i false) (u .key) (next-key nine one two best i (u .key));
       rest = sym (next-step nine one two joined best i l (u .key)) ∙ u .rest;
     }
-  where
-    kept : (t : Bool) → (cond t best (widerNext nine one two best i)) .key ≡ preference nine one two ((cond t best (widerNext nine one two best i)) .at)
-    kept true = u .key
-    kept false = next-key nine one two best i (u .key)
 
 abbrev Inv-loop : tie.InvT-loop
 Inv-loop one two nine joined at key best₀ i₀ best i = Turn one two nine joined best i

@@ -6,7 +6,7 @@ use native.Mathlib.Omega.{arith}
 use Rattle.rules.specs.declared.Rect.{Rect}
 use Rattle.rules.specs.Choose.{rectFrom}
 use Rattle.rules.specs.Split.{wasteOf, pickSeeds}
-use Rattle.split.specs.declared.Pair.{Pair}
+use Rattle.split.specs.declared.KeyedSeeds.{KeyedSeeds}
 use Rattle.split.specs.State.{Keyed, seedsOf}
 use Rattle.split.proofs.Seeds.{outer, outer-step, outer-none, outer-all}
 use Rattle.split.proofs.pick_seeds.Statement.{statement}
@@ -17,7 +17,7 @@ use Rattle.geometry.proofs.waste.Reads as waste-reads
 use Rattle.split.proofs.pairs_of.Reads as pairs-of-reads
 
 -- the pair is keyed, and the first members from i on give what all give
-record Round (nine : List Rect) (b : Pair) (i : ℕ) : Type 0 where
+record Round (nine : List Rect) (b : KeyedSeeds) (i : ℕ) : Type 0 where
   most : i ≤ 9
   keyed : Keyed nine b
   rest : outer nine (seedsOf b) i ≡ pickSeeds nine

@@ -1,4 +1,6 @@
 use Rattle.rules.specs.Split.{secondFirst}
+use mathlib.Core.Path.{refl}
+use Rattle.geometry.proofs.Rules.{by-rule}
 use borrow.Author.Needs.{needs}
 use Rattle.split.proofs.second_first.Statement.{statement}
 use Rattle.split.proofs.second_first.Tie as tie
@@ -6,32 +8,34 @@ use Rattle.split.proofs.second_first.Reads as reads
 use Rattle.split.proofs.second_first.Lts as lts
 use Rattle.geometry.proofs.area.Reads as area-reads
 use Rattle.geometry.proofs.enlargement.Reads as enlargement-reads
-use Rattle.split.proofs.before.Reads as before-reads
+use Rattle.geometry.proofs.less_then.Reads as less-then-reads
 
--- src/lib.rt:257:9
 enlargement-requires : tie.Need-enlargement-requires
 enlargement-requires c κs = search needs
 
--- src/lib.rt:258:9
 enlargement-requires-2 : tie.Need-enlargement-requires-2
 enlargement-requires-2 c κs = search needs
 
--- src/lib.rt:259:9
 area-requires : tie.Need-area-requires
 area-requires c κs = search needs
 
--- src/lib.rt:260:9
 area-requires-2 : tie.Need-area-requires-2
 area-requires-2 c κs = search needs
 
--- src/lib.rt:261:5
-before-requires : tie.Need-before-requires
-before-requires c κs = search needs
+less-then-requires : tie.Need-less-then-requires
+less-then-requires c κs = search needs
 
--- src/lib.rt:251:1
+less-then-requires-2 : tie.Need-less-then-requires-2
+less-then-requires-2 c κs = search needs
+
 returns : tie.Need-returns
 unfolding secondFirst
-returns c = rw (c .before2 .ensures, c .before .before .before .before .enlargement .ensures .0, c .before .before .before .enlargement2 .ensures .0, c .before .before .area .ensures .0, c .before .area2 .ensures .0)
+returns c =
+    by-rule
+    (c .before .before .before .before .before .enlargement .ensures .0)
+    (c .before .before .before .before .enlargement2 .ensures .0)
+    (c .less-then2 .ensures)
+    (by-rule (c .before .before .before .area .ensures .0) (c .before .before .area2 .ensures .0) (c .before .less-then .ensures) refl)
 
 pub second-first-spec : {M : Type 1} → statement M
 second-first-spec =
@@ -41,5 +45,6 @@ second-first-spec =
     enlargement-requires-2
     area-requires
     area-requires-2
-    before-requires
+    less-then-requires
+    less-then-requires-2
     returns)

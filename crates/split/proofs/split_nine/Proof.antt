@@ -6,7 +6,7 @@ use native.Mathlib.Omega.{arith}
 use Rattle.rules.specs.declared.Rect.{Rect}
 use Rattle.rules.specs.Split as S
 use Rattle.rules.specs.Split.{quadraticGroups}
-use Rattle.split.specs.declared.Groups.{Groups}
+use Rattle.split.specs.declared.Grouping.{Grouping}
 use Rattle.split.specs.State.{Fill, Ok, groupsOf, ends}
 use Rattle.split.proofs.Starts.{starts-same, ends-same, whole}
 use Rattle.split.proofs.split_nine.Statement.{statement}
@@ -18,7 +18,7 @@ use Rattle.split.proofs.begun.Reads as begun-reads
 use Rattle.split.proofs.pick_seeds.Reads as pick-seeds-reads
 
 -- n places have joined, and what the groups come to is what the definition says
-record Turn (nine : List Rect) (t : Groups) (n : ℕ) : Type 0 where
+record Turn (nine : List Rect) (t : Grouping) (n : ℕ) : Type 0 where
   most : n ≤ 7
   ok : Ok nine t
   count : t .ones + t .twos ≡ n + 2
