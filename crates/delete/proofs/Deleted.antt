@@ -11,7 +11,7 @@ use Rattle.rules.specs.declared.Record.{Record}
 use Rattle.rules.specs.Pool.{Pool, stored, putRecords}
 use Rattle.rules.specs.Layout.{read}
 use Rattle.rules.specs.Insert.{Change, Done, NoneFree, ours}
-use Rattle.rules.specs.Delete.{Path, Condensed, findLeaf, condense, shorten, shortened, reinsert, deleteRecord}
+use Rattle.rules.specs.Delete.{Path, Condensed, pathTo, condense, shorten, shortened, reinsert, deleteRecord}
 use Rattle.rules_laws.proofs.Orders.{never-both}
 use Rattle.rules_laws.proofs.Splits.{ours-lawful}
 use Rattle.rules_laws.proofs.Parts.{counted, those-all}
@@ -62,7 +62,7 @@ pub record Asked (w₀ : List ℤ) (r : Record) (way : Way) : Type 0 where
   pub fit : Fit w₀
   pub whole : Whole (read w₀)
   pub found : way .found ≡ true
-  pub shows : Gives (findLeaf (read w₀) r (read w₀ .height) (read w₀ .root)) (read w₀ .height) way
+  pub shows : Gives (pathTo (read w₀) r) (read w₀ .height) way
 
 -- .. and w₁ is w₀ with a record counted off, h its height
 pub record CountedOff (w₀ : List ℤ) (h : ℕ) (w₁ : List ℤ) : Type 0 where
@@ -83,8 +83,8 @@ module _ {w₀ : List ℤ} {r : Record} {way : Way} (g : Asked w₀ r way) where
   abbrev less : Pool
   less = putRecords p (p .records - 1)
 
-  finds : findLeaf p r (p .height) (p .root) ≡ some path
-  finds = shows-some (findLeaf p r (p .height) (p .root)) (p .height) way (g .found) (g .shows) .0
+  finds : pathTo p r ≡ some path
+  finds = shows-some (pathTo p r) (p .height) way (g .found) (g .shows) .0
 
   led : Leads p r (p .height) (p .root) path
   led = subst (EachWay (Leads p r (p .height) (p .root))) finds (find-leads p r (p .height) (p .root))
@@ -111,7 +111,7 @@ module _ {w₀ : List ℤ} {r : Record} {way : Way} (g : Asked w₀ r way) where
           tree = stands ours ours-lawful p (g .whole) r path led .tree;
           once = standing-once less [] (stands ours ours-lawful p (g .whole) r path led);
           leads = way-there ours ours-lawful p (g .whole) r path led;
-          long = shows-some (findLeaf p r (p .height) (p .root)) (p .height) way (g .found) (g .shows) .1;
+          long = shows-some (pathTo p r) (p .height) way (g .found) (g .shows) .1;
           high = high;
         })
 

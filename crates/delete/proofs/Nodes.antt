@@ -26,7 +26,8 @@ use Rattle.insert_laws.proofs.Sums.{among-without}
 use Rattle.insert_laws.proofs.Under.{tree-fits}
 use Rattle.free_slots.specs.declared.FreeSlots.{FreeSlots}
 use Rattle.free_slots.specs.Known.{Known}
-use Rattle.insert.proofs.Fitted.{slot-in, most-slots, fits-stored}
+use Rattle.nodes.proofs.Slots.{most-slots}
+use Rattle.insert.proofs.Fitted.{slot-in, fits-stored}
 use Rattle.delete.specs.Aside as A
 
 -- ---- slots

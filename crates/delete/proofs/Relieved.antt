@@ -1,5 +1,5 @@
 -- CT3 and CT4 at one node, as the code leaves it: the pool, the entries set aside, and what is known of the free slots.
-use mathlib.Core.Path.{_≡_, sym, ap, subst, _∙_}
+use mathlib.Core.Path.{_≡_, sym, ap, subst, subst⁻¹, _∙_}
 use mathlib.Core.Logic.{_≢_}
 use mathlib.Core.List.{List, _++_}
 use Prim.Native.Nat.{ℕ, _≤_, _<_}
@@ -18,11 +18,26 @@ use Rattle.pool.specs.Slots.{Fit}
 use Rattle.free_slots.specs.declared.FreeSlots.{FreeSlots}
 use Rattle.free_slots.specs.Known.{Known, moreSlot}
 use Rattle.free_slots.proofs.Known.{known-more, known-put}
+use Rattle.nodes.specs.Reading.{LeadsOn}
 use Rattle.sound_laws.specs.Tree.{Slot}
 use Rattle.sound_laws.proofs.Frame.{put-length, put-other}
 use Rattle.delete_laws.specs.Shrunk.{condensed}
 use Rattle.delete.specs.declared.Asides.{Asides}
 use Rattle.delete.specs.Aside.{asidesOf, withFree, Roomy, Has, ChildAt}
+
+-- ---- the entry leads to its child
+
+pub child-leads : {p : Pool} {s : SlotNumber} {i : ℕ} {t : SlotNumber} → ChildAt p s i t → LeadsOn p s i
+child-leads {p} c =
+    let to = subst⁻¹ (Slot p) (c .is) (c .slot) in
+    record {
+      low = c .parent .slot .low;
+      high = c .parent .slot .high;
+      inner = c .inner;
+      there = c .there;
+      childLow = to .low;
+      childHigh = to .high;
+    }
 
 -- ---- what is known of the free slots
 

@@ -22,9 +22,7 @@ use find_leaf::Way;
 use free_slots::FreeSlots;
 use insert::Outcome;
 use rules::Entry;
-use rules::Pointer;
 use rules::Record;
-use rules::Rect;
 use rules::SlotNumber;
 
 // What CondenseTree has in hand on its way up: the entries set aside, each with the level of the node that it was in, and what is known of
@@ -34,21 +32,6 @@ struct Asides {
     levels: [usize; 14],
     count: usize,
     free: FreeSlots,
-}
-
-// Five zero words.
-fn no_entry() -> Entry
-    ensures { λ r. ⌜ r ≡ P.noEntry ⌝ }
-{
-    Entry {
-        rect: Rect {
-            lowX: 0,
-            lowY: 0,
-            highX: 0,
-            highY: 0,
-        },
-        pointer: Pointer::Child(SlotNumber(0)),
-    }
 }
 
 // ---- D2, and CT3 and CT4 at one node
@@ -90,21 +73,8 @@ fn zero_slot(pool: &mut [i32], s: SlotNumber)
     ensures is { λ _. ⌜ L.read (now (pool .exit)) ≡ P.zeroSlot (L.read (now (pool .entry))) s ⌝ }
     ensures fit { λ _. ⌜ Fit (now (pool .exit)) ⌝ }
 {
-    let none = [no_entry(); 9];
+    let none = [pool::no_entry(); 9];
     pool::put_node(pool, s, 0, none, 0);
-}
-
-// "Covers on the path are made tight": the cover of the child t, which the entry at place i of the node at s leads to.
-fn tighten(pool: &mut [i32], s: SlotNumber, i: usize, t: SlotNumber)
-    requires { ⌜ Fit (now pool) ⌝ }
-    requires { ⌜ ChildAt (L.read (now pool)) s i t ⌝ }
-    requires { ⌜ 0 < length (P.entriesAt (L.read (now pool)) t) ⌝ }
-    ensures is { λ _. ⌜ L.read (now (pool .exit)) ≡ P.tighten (L.read (now (pool .entry))) s i ⌝ }
-    ensures fit { λ _. ⌜ Fit (now (pool .exit)) ⌝ }
-{
-    let rect = free_slots::cover_of(pool, t);
-    let pointer = Pointer::Child(t);
-    pool::put_entry_of(pool, s, i, Entry { rect, pointer });
 }
 
 // "its entries are set aside", behind those of the levels below, each with its node's level.
@@ -171,7 +141,7 @@ fn relieve(pool: &mut [i32], s: SlotNumber, i: usize, t: SlotNumber, asides: Asi
         zero_slot(pool, t);
         return with_free(more, t);
     }
-    tighten(pool, s, i, t);
+    nodes::tighten(pool, s, i);
     asides
 }
 
@@ -183,7 +153,7 @@ fn none_aside(free: FreeSlots) -> Asides
     ensures roomy { λ r. ⌜ Roomy r ⌝ }
     ensures free { λ r. ⌜ r .free ≡ free ⌝ }
 {
-    let entries = [no_entry(); 14];
+    let entries = [pool::no_entry(); 14];
     let levels = [0; 14];
     Asides {
         entries,

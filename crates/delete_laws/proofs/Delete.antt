@@ -14,7 +14,7 @@ use Rattle.rules.specs.Pool.{Pool, nodeAt, entriesAt, entryAt, childOf, stored,
 use Rattle.rules.specs.Sound.{soundPool}
 use Rattle.rules.specs.Insert.{Choice, Change, Done, NoneFree}
 use Rattle.rules.specs.Lawful.{Lawful}
-use Rattle.rules.specs.Delete.{Path, Condensed, findLeaf, condense, shorten, shortened, reinsert, putBack, deleteRecord}
+use Rattle.rules.specs.Delete.{Path, Condensed, pathTo, condense, shorten, shortened, reinsert, putBack, deleteRecord}
 use Rattle.rules_laws.proofs.Orders.{never-both}
 use Rattle.rules_laws.proofs.Parts.{those-all}
 use Rattle.sound_laws.specs.Tree.{treeRecords, Whole}
@@ -184,11 +184,11 @@ module _ (c : Choice) where
   -- ---- D1 to D4
 
   module _ (p : Pool) (r : Record) where
-    delete-none : findLeaf p r (p .height) (p .root) ≡ none → deleteRecord c p r ≡ Done p
+    delete-none : pathTo p r ≡ none → deleteRecord c p r ≡ Done p
     unfolding deleteRecord
     delete-none h = rw (h, deleteRecord)
 
-    pub delete-some : (way : Path) → findLeaf p r (p .height) (p .root) ≡ some way
+    pub delete-some : (way : Path) → pathTo p r ≡ some way
         → deleteRecord c p r ≡ putBack c (condense (putRecords p (p .records - 1)) way)
     unfolding deleteRecord
     delete-some way h = rw (h, deleteRecord)
@@ -196,16 +196,16 @@ module _ (c : Choice) where
     module _ (w : Whole p) where
       -- a pair that is not held changes nothing
       pub delete-other : held p r ≡ false → deleteRecord c p r ≡ Done p
-      delete-other n = go (findLeaf p r (p .height) (p .root)) refl
+      delete-other n = go (pathTo p r) refl
         where
-          go : (o : Option Path) → findLeaf p r (p .height) (p .root) ≡ o → deleteRecord c p r ≡ Done p
+          go : (o : Option Path) → pathTo p r ≡ o → deleteRecord c p r ≡ Done p
           go none h = delete-none h
           go (some way) h = never-both (find-held p w r .1 (subst Found (sym h) tt)) n
 
       pub delete-each : Lawful c → held p r ≡ true → EachPool (Deleted p r) (deleteRecord c p r)
-      delete-each lawful y = go (findLeaf p r (p .height) (p .root)) refl
+      delete-each lawful y = go (pathTo p r) refl
         where
-          go : (o : Option Path) → findLeaf p r (p .height) (p .root) ≡ o → EachPool (Deleted p r) (deleteRecord c p r)
+          go : (o : Option Path) → pathTo p r ≡ o → EachPool (Deleted p r) (deleteRecord c p r)
           go none h = absurd (subst Found h (find-held p w r .0 y))
           go (some way) h =
               rw (delete-some way h)
@@ -213,9 +213,9 @@ module _ (c : Choice) where
 
       -- with slots enough a delete is done, and leaves as many
       pub delete-room : Lawful c → deleteRoom (p .height) ≤ freeCount p → Sure (SlotRoom p (2 * (p .height - 1))) (deleteRecord c p r)
-      delete-room lawful room = go (findLeaf p r (p .height) (p .root)) refl
+      delete-room lawful room = go (pathTo p r) refl
         where
-          go : (o : Option Path) → findLeaf p r (p .height) (p .root) ≡ o → Sure (SlotRoom p (2 * (p .height - 1))) (deleteRecord c p r)
+          go : (o : Option Path) → pathTo p r ≡ o → Sure (SlotRoom p (2 * (p .height - 1))) (deleteRecord c p r)
           go none h = rw (delete-none h) (record { high = omega arith; left = omega arith })
           go (some way) h =
               rw (delete-some way h)

@@ -24,25 +24,14 @@ use Rattle.sound_laws.proofs.Walk.{no-tree, inner-of, records-leaf, records-inn
 use Rattle.search_laws.proofs.Covers.{holds-meets}
 use Rattle.search_laws.proofs.Found.{record-held}
 use Rattle.delete_laws.specs.Way.{Leads, EachWay, Found}
+use Rattle.delete_laws.proofs.Clauses.{entry-none, entry-yes, entry-no, or-some, or-none, child-none, child-yes, child-no, leaf-none, leaf-at, leaf-below}
 
 -- ---- FL2, in a leaf
 
 module _ (r : Record) (s : SlotNumber) where
-  entry-yes : (i : ℕ) (e : Entry) (es : List Entry) → samePair r (recordOf e) ≡ true → findEntry r s i (e ∷ es) ≡ some (place s i ∷ [])
-  unfolding findEntry
-  entry-yes i e es h = rw (h, findEntry)
-
-  entry-no : (i : ℕ) (e : Entry) (es : List Entry) → samePair r (recordOf e) ≡ false → findEntry r s i (e ∷ es) ≡ findEntry r s (suc i) es
-  unfolding findEntry
-  entry-no i e es h = rw (h, findEntry)
-
   -- the pair stands in the leaf at the place given
   abbrev Here : ℕ → List Entry → Path → Type 0
   Here i es way = (k : ℕ) × (way ≡ place s (i + k) ∷ []) × (k < length es) × (recordOf (entryFrom es k) ≡ r)
-
-  entry-none : (i : ℕ) → findEntry r s i [] ≡ none
-  unfolding findEntry
-  entry-none i = refl
 
   here-later : (i : ℕ) (e : Entry) (es : List Entry) (o : Option Path) → EachWay (Here (suc i) es) o → EachWay (Here i (e ∷ es)) o
   unfolding entryFrom
@@ -52,7 +41,7 @@ module _ (r : Record) (s : SlotNumber) where
 
   entry-here : (i : ℕ) (es : List Entry) → EachWay (Here i es) (findEntry r s i es)
   unfolding entryFrom
-  entry-here i [] = rw (entry-none i) tt
+  entry-here i [] = rw (entry-none r s i) tt
   entry-here i (e ∷ es) = go (samePair r (recordOf e)) refl (entry-here (suc i) es)
     where
       first : samePair r (recordOf e) ≡ true → Here i (e ∷ es) (place s i ∷ [])
@@ -60,8 +49,8 @@ module _ (r : Record) (s : SlotNumber) where
 
       go : (b : Bool) → samePair r (recordOf e) ≡ b → EachWay (Here (suc i) es) (findEntry r s (suc i) es)
           → EachWay (Here i (e ∷ es)) (findEntry r s i (e ∷ es))
-      go true h later = rw (entry-yes i e es h) (first h)
-      go false h later = rw (entry-no i e es h) (here-later i e es (findEntry r s (suc i) es) later)
+      go true h later = rw (entry-yes r s i e es h) (first h)
+      go false h later = rw (entry-no r s i e es h) (here-later i e es (findEntry r s (suc i) es) later)
 
   entry-found : (i : ℕ) (es : List Entry) → Among r (map recordOf es) → Found (findEntry r s i es)
   entry-found i [] m = absurd (List·Memᴰ·not-nil m)
@@ -69,35 +58,14 @@ module _ (r : Record) (s : SlotNumber) where
     where
       go : (b : Bool) → samePair r (recordOf e) ≡ b → (Among r (map recordOf es) → Found (findEntry r s (suc i) es))
           → Found (findEntry r s i (e ∷ es))
-      go true h later = rw (entry-yes i e es h) tt
+      go true h later = rw (entry-yes r s i e es h) tt
       go false h later =
-          rw (entry-no i e es h)
+          rw (entry-no r s i e es h)
           (⊎-elim (λ q. never-both (same-pair r (recordOf e) .1 q) h) later (List·Memᴰ·cases-cons m))
 
 -- ---- FL1, in an inner node
 
 module _ (find : SlotNumber → Option Path) (r : Rect) (s : SlotNumber) where
-  child-none : (i : ℕ) → findChild find r s i [] ≡ none
-  unfolding findChild
-  child-none i = refl
-
-  child-yes : (i : ℕ) (e : Entry) (es : List Entry) → meets (e .rect) r ≡ true
-      → findChild find r s i (e ∷ es) ≡ orLater s i (find (childOf e)) (findChild find r s (suc i) es)
-  unfolding findChild
-  child-yes i e es h = rw (h, findChild)
-
-  child-no : (i : ℕ) (e : Entry) (es : List Entry) → meets (e .rect) r ≡ false → findChild find r s i (e ∷ es) ≡ findChild find r s (suc i) es
-  unfolding findChild
-  child-no i e es h = rw (h, findChild)
-
-  or-some : (i : ℕ) (way : Path) (later : Option Path) → orLater s i (some way) later ≡ some (place s i ∷ way)
-  unfolding orLater
-  or-some i way later = refl
-
-  or-none : (i : ℕ) (later : Option Path) → orLater s i none later ≡ later
-  unfolding orLater
-  or-none i later = refl
-
   module _ (Good : SlotNumber → Path → Type 0) (each : (t : SlotNumber) → EachWay (Good t) (find t)) where
     abbrev Below : ℕ → List Entry → Path → Type 0
     Below i es way = (k : ℕ) × (rest : Path) × (way ≡ place s (i + k) ∷ rest) × (k < length es) × Good (childOf (entryFrom es k)) rest
@@ -110,19 +78,19 @@ module _ (find : SlotNumber → Option Path) (r : Rect) (s : SlotNumber) where
 
     child-below : (i : ℕ) (es : List Entry) → EachWay (Below i es) (findChild find r s i es)
     unfolding entryFrom
-    child-below i [] = rw (child-none i) tt
+    child-below i [] = rw (child-none find r s i) tt
     child-below i (e ∷ es) = go (meets (e .rect) r) refl (child-below (suc i) es)
       where
         or : (o : Option Path) → EachWay (Good (childOf e)) o → (later : Option Path) → EachWay (Below (suc i) es) later
             → EachWay (Below i (e ∷ es)) (orLater s i o later)
-        or none g later h = rw (or-none i later) (below-later i e es later h)
+        or none g later h = rw (or-none s i later) (below-later i e es later h)
         or (some way) g later h =
-            rw (or-some i way later) (0, way, ap (λ (n : ℕ). place s n ∷ way) (omega arith), omega arith, g)
+            rw (or-some s i way later) (0, way, ap (λ (n : ℕ). place s n ∷ way) (omega arith), omega arith, g)
 
         go : (b : Bool) → meets (e .rect) r ≡ b → EachWay (Below (suc i) es) (findChild find r s (suc i) es)
             → EachWay (Below i (e ∷ es)) (findChild find r s i (e ∷ es))
-        go true h later = rw (child-yes i e es h) (or (find (childOf e)) (each (childOf e)) (findChild find r s (suc i) es) later)
-        go false h later = rw (child-no i e es h) (below-later i e es (findChild find r s (suc i) es) later)
+        go true h later = rw (child-yes find r s i e es h) (or (find (childOf e)) (each (childOf e)) (findChild find r s (suc i) es) later)
+        go false h later = rw (child-no find r s i e es h) (below-later i e es (findChild find r s (suc i) es) later)
 
   child-found : (i : ℕ) (es : List Entry) (x : Entry) → Among x es → meets (x .rect) r ≡ true → Found (find (childOf x))
       → Found (findChild find r s i es)
@@ -132,31 +100,19 @@ module _ (find : SlotNumber → Option Path) (r : Rect) (s : SlotNumber) where
       or : (o : Option Path) → find (childOf e) ≡ o → (Among x es → Found (findChild find r s (suc i) es))
           → Found (orLater s i o (findChild find r s (suc i) es))
       or none q later =
-          rw (or-none i (findChild find r s (suc i) es))
+          rw (or-none s i (findChild find r s (suc i) es))
           (⊎-elim (λ h. absurd (subst Found (ap (λ (y : Entry). find (childOf y)) h ∙ q) f)) later (List·Memᴰ·cases-cons m))
-      or (some way) q later = rw (or-some i way (findChild find r s (suc i) es)) tt
+      or (some way) q later = rw (or-some s i way (findChild find r s (suc i) es)) tt
 
       go : (b : Bool) → meets (e .rect) r ≡ b → (Among x es → Found (findChild find r s (suc i) es)) → Found (findChild find r s i (e ∷ es))
-      go true h later = rw (child-yes i e es h) (or (find (childOf e)) refl later)
+      go true h later = rw (child-yes find r s i e es h) (or (find (childOf e)) refl later)
       go false h later =
-          rw (child-no i e es h)
+          rw (child-no find r s i e es h)
           (⊎-elim (λ q. never-both (ap (λ (y : Entry). meets (y .rect) r) (sym q) ∙ k) h) later (List·Memᴰ·cases-cons m))
 
 -- ---- FindLeaf
 
 module _ (p : Pool) (r : Record) where
-  leaf-at : (s : SlotNumber) → findLeaf p r 1 s ≡ findEntry r s 0 (entriesAt p s)
-  unfolding findLeaf
-  leaf-at s = refl
-
-  leaf-none : (s : SlotNumber) → findLeaf p r 0 s ≡ none
-  unfolding findLeaf
-  leaf-none s = refl
-
-  leaf-below : (l : ℕ) (s : SlotNumber) → findLeaf p r (suc (suc l)) s ≡ findChild (λ t. findLeaf p r (suc l) t) (r .rect) s 0 (entriesAt p s)
-  unfolding findLeaf
-  leaf-below l s = refl
-
   each-way : (Good Fine : Path → Type 0) → ((way : Path) → Good way → Fine way) → (o : Option Path) → EachWay Good o → EachWay Fine o
   each-way Good Fine f none h = tt
   each-way Good Fine f (some way) h = f way h
@@ -164,14 +120,14 @@ module _ (p : Pool) (r : Record) where
   -- the way that it gives leads to the pair
   pub find-leads : (l : ℕ) (s : SlotNumber) → EachWay (Leads p r l s) (findLeaf p r l s)
   unfolding Leads entryAt
-  find-leads zero s = rw (leaf-none s) tt
+  find-leads zero s = rw (leaf-none p r s) tt
   find-leads (suc zero) s =
-      rw (leaf-at s)
+      rw (leaf-at p r s)
       (each-way (Here r s 0 (entriesAt p s)) (Leads p r 1 s)
       (λ way h. (h .0, h .1 ∙ ap (λ (n : ℕ). place s n ∷ []) (omega arith), h .2, h .3)) (findEntry r s 0 (entriesAt p s))
       (entry-here r s 0 (entriesAt p s)))
   find-leads (suc (suc l)) s =
-      rw (leaf-below l s)
+      rw (leaf-below p r l s)
       (each-way (Below find (r .rect) s (Leads p r (suc l)) (find-leads (suc l)) 0 (entriesAt p s)) (Leads p r (suc (suc l)) s)
       (λ way h. (h .0, h .1, h .2 ∙ ap (λ (n : ℕ). place s n ∷ h .1) (omega arith), h .3, h .4)) (findChild find (r .rect) s 0 (entriesAt p s))
       (child-below find (r .rect) s (Leads p r (suc l)) (find-leads (suc l)) 0 (entriesAt p s)))
@@ -194,12 +150,12 @@ module _ (p : Pool) (r : Record) where
   pub record-found : (l : ℕ) (s : SlotNumber) → Tree p l s → Among r (recordsIn p l s) → meets (r .rect) (r .rect) ≡ true
       → Found (findLeaf p r l s)
   record-found zero s d m v = absurd (no-tree p s d)
-  record-found (suc zero) s d m v = rw (leaf-at s) (entry-found r s 0 (entriesAt p s) (rw (records-leaf p s) at m))
+  record-found (suc zero) s d m v = rw (leaf-at p r s) (entry-found r s 0 (entriesAt p s) (rw (records-leaf p s) at m))
   record-found (suc (suc l)) s d m v =
       let n : Among r (joined (map (λ (e : Entry). recordsIn p (suc l) (childOf e)) (entriesAt p s))) = rw (records-inner p s l) at m in
       let x = among-joined (λ (e : Entry). recordsIn p (suc l) (childOf e)) r (entriesAt p s) n in
       let i = inner-of p l s d .each (x .0) (x .1) in
       let h = record-held p (suc l) (childOf (x .0)) (i .child) r (x .2) in
-      rw (leaf-below l s)
+      rw (leaf-below p r l s)
       (child-found (λ t. findLeaf p r (suc l) t) (r .rect) s 0 (entriesAt p s) (x .0) (x .1)
       (ap (λ (a : Rect). meets a (r .rect)) (i .tight) ∙ holds-meets (r .rect) h v) (record-found (suc l) (childOf (x .0)) (i .child) (x .2) v))

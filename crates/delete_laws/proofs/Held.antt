@@ -14,7 +14,7 @@ use Rattle.rules.specs.Lists.{oneOf}
 use Rattle.rules.specs.Numbers.{inRange, goodNumber}
 use Rattle.rules.specs.Geometry.{valid, meets, samePair}
 use Rattle.rules.specs.Pool.{Pool, entriesAt, childOf, recordOf, stored, held}
-use Rattle.rules.specs.Delete.{Path, findLeaf}
+use Rattle.rules.specs.Delete.{Path, pathTo}
 use Rattle.rules_laws.proofs.Bools.{and-both}
 use Rattle.rules_laws.proofs.Orders.{never-both}
 use Rattle.rules_laws.proofs.Places.{Among}
@@ -91,13 +91,13 @@ module _ (p : Pool) (w : Whole p) (r : Record) where
   alike-stored = record { each = λ f. sym (stored-in p w f) }
 
   -- "the first exact pair found" is there exactly if the pair is held
-  pub find-held : (held p r ≡ true) ↔ Found (findLeaf p r (p .height) (p .root))
+  pub find-held : (held p r ≡ true) ↔ Found (pathTo p r)
   find-held = (
     (λ h.
         let m = alike-among stored-alike r (held-is r p .0 h) in
         record-found p r (p .height) (p .root) (w .tree) m (valid-meets (r .rect) (record-valid p (p .height) (p .root) (w .tree) r m))),
     (λ f.
-        let way = found-way (Leads p r (p .height) (p .root)) (findLeaf p r (p .height) (p .root)) (find-leads p r (p .height) (p .root)) f in
+        let way = found-way (Leads p r (p .height) (p .root)) (pathTo p r) (find-leads p r (p .height) (p .root)) f in
         held-is r p .1 (alike-among alike-stored r (leads-record p r (p .height) (p .root) (way .0) (way .1)))),
   )
 
@@ -113,10 +113,10 @@ module _ (p : Pool) (w : Whole p) (r : Record) where
     held-number = record-number p (p .height) (p .root) (w .tree) r held-in
 
     -- the way that FindLeaf gives, and that it leads to the exact pair
-    pub find-way : (way : Path) × (findLeaf p r (p .height) (p .root) ≡ some way) × Leads p r (p .height) (p .root) way
-    find-way = go (findLeaf p r (p .height) (p .root)) refl
+    pub find-way : (way : Path) × (pathTo p r ≡ some way) × Leads p r (p .height) (p .root) way
+    find-way = go (pathTo p r) refl
       where
-        go : (o : Option Path) → findLeaf p r (p .height) (p .root) ≡ o
-            → (way : Path) × (findLeaf p r (p .height) (p .root) ≡ some way) × Leads p r (p .height) (p .root) way
+        go : (o : Option Path) → pathTo p r ≡ o
+            → (way : Path) × (pathTo p r ≡ some way) × Leads p r (p .height) (p .root) way
         go none q = absurd (subst Found q (find-held .0 h))
         go (some way) q = (way, q, subst (EachWay (Leads p r (p .height) (p .root))) q (find-leads p r (p .height) (p .root)))

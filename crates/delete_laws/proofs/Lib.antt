@@ -1,4 +1,5 @@
 -- Deleting keeps the tree.
+pub mod Clauses
 pub mod Finds
 pub mod Held
 pub mod Asides

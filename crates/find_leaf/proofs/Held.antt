@@ -9,7 +9,7 @@ use native.Mathlib.Omega.{arith}
 use lib.IntN.{ℤ}
 use Rattle.rules.specs.declared.Record.{Record}
 use Rattle.rules.specs.Pool.{Pool, held}
-use Rattle.rules.specs.Delete.{Path, findLeaf}
+use Rattle.rules.specs.Delete.{Path, pathTo}
 use Rattle.rules.specs.Layout.{validLength, read}
 use Rattle.rules_laws.proofs.Orders.{never-both}
 use Rattle.pool.proofs.Parts.{few-slots}
@@ -31,9 +31,9 @@ same-answer true b f g = sym (f refl)
 same-answer false true f g = g refl
 same-answer false false f g = refl
 
-pub shows-held : (p : Pool) (r : Record) (w : Way) → Whole p → Gives (findLeaf p r (p .height) (p .root)) (p .height) w → w .found ≡ held p r
+pub shows-held : (p : Pool) (r : Record) (w : Way) → Whole p → Gives (pathTo p r) (p .height) w → w .found ≡ held p r
 shows-held p r w whole h =
-    let shown = shows-found (findLeaf p r (p .height) (p .root)) (p .height) w h in
+    let shown = shows-found (pathTo p r) (p .height) w h in
     let is = find-held p whole r in
     same-answer (w .found) (held p r) (λ t. is .1 (shown .0 t)) (λ t. shown .1 (is .0 t))
 

@@ -1,4 +1,4 @@
--- Laws that the proofs of `leaf` cite.
+-- Laws that the proofs of `find_leaf` cite.
 pub mod Places
 pub mod Steps
 pub mod Turns

@@ -43,24 +43,24 @@ pub put-place : (w : Way) (level : ℕ) (s : SlotNumber) (i : ℕ) → Long w �
 put-place w zero s i h low few = absurd (omega arith)
 put-place w (suc k) s i h low few = rw (sub-one (suc k)) (refl, put-here w k s i h (omega arith), put-long w k s i h)
 
--- ---- what is shown
+-- ---- what is given
 
-pub shows-same : (o u : Option Path) (l : ℕ) (w : Way) → u ≡ o → Gives o l w → Gives u l w
-shows-same o u l w e h = rw e h
+pub gives-same : (o u : Option Path) (l : ℕ) (w : Way) → u ≡ o → Gives o l w → Gives u l w
+gives-same o u l w e h = rw e h
 
-pub shows-long : (o : Option Path) (l : ℕ) (w : Way) → Gives o l w → Long w
-shows-long none l w h = h .1
-shows-long (some path) l w h = h .2
+pub gives-long : (o : Option Path) (l : ℕ) (w : Way) → Gives o l w → Long w
+gives-long none l w h = h .1
+gives-long (some path) l w h = h .2
 
--- no way shows at any level
-pub shows-none : (o : Option Path) (l : ℕ) (w : Way) → o ≡ none → Gives none 0 w → Gives o l w
-shows-none o l w e h = rw e h
+-- no way is none at any level
+pub gives-none : (o : Option Path) (l : ℕ) (w : Way) → o ≡ none → Gives none 0 w → Gives o l w
+gives-none o l w e h = rw e h
 
 -- the leaf's place alone
-pub shows-leaf : (o : Option Path) (s : SlotNumber) (i : ℕ) (b w : Way) → o ≡ some (place s i ∷ []) → Gives (some (place s i ∷ pathOf (1 - 1) b)) 1 w
+pub gives-leaf : (o : Option Path) (s : SlotNumber) (i : ℕ) (b w : Way) → o ≡ some (place s i ∷ []) → Gives (some (place s i ∷ pathOf (1 - 1) b)) 1 w
     → Gives o 1 w
 unfolding pathOf
-shows-leaf o s i b w e h = rw e h
+gives-leaf o s i b w e h = rw e h
 
 -- a way below, or else what the later entries give
 module _ (s : SlotNumber) (i : ℕ) (later : Option Path) (l level : ℕ) (b w : Way) where

@@ -1,5 +1,4 @@
 -- Laws that the proofs of `slots` and of the crates above it cite.
-pub mod Covers
 pub mod Frees
 pub mod LowestSlot
 pub mod Known

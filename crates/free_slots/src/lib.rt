@@ -1,4 +1,4 @@
-// The slots of a pool, one after the other: a node's cover, the free slots, and blanking.
+// The slots of a pool, one after the other: the free slots, and blanking.
 ghost use mathlib.Core.Path.{_≡_};
 ghost use mathlib.Core.Bool.{true, cond};
 ghost use lib.Dec.{eqb};
@@ -10,29 +10,12 @@ ghost use Rattle.rules.specs.Pool as P;
 ghost use Rattle.pool.specs.Slots.{InPool};
 ghost use Rattle.free_slots.specs.Known.{Known, lessSlot, moreSlot};
 use rules::FreeSlot;
-use rules::Rect;
 use rules::SlotNumber;
 
 // What is known of the free slots: how many there are, and a slot below which there is none.
 pub struct FreeSlots {
     pub count: usize,
     pub low: SlotNumber,
-}
-
-// A cover: "its rectangle is the smallest holding that node's entries".
-pub fn cover_of(pool: &[i32], s: SlotNumber) -> Rect
-    requires { ⌜ InPool (now pool) s ⌝ }
-    requires { ⌜ 0 < length (P.entriesAt (L.read (now pool)) s) ⌝ }
-    ensures { λ r. ⌜ r ≡ P.coverOf (P.entriesAt (L.read (now (pool .entry))) s) ⌝ }
-{
-    let n = pool::count_of(pool, s);
-    let mut all = pool::rect_of(pool, s, 0);
-    let mut i: usize = 1;
-    while i < n {
-        all = geometry::cover(all, pool::rect_of(pool, s, i));
-        i += 1;
-    }
-    all
 }
 
 // "the lowest free slot", of the slots from a given one on: the lowest of all where every slot below is in use.

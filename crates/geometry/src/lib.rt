@@ -8,6 +8,8 @@ ghost use lib.Signed.{leZ};
 ghost use Rattle.rules.specs.Lists as L;
 ghost use Rattle.rules.specs.Numbers as N;
 ghost use Rattle.rules.specs.Geometry as G;
+use rules::Record;
+use rules::RecordNumber;
 use rules::Rect;
 
 // ---- truths and comparisons
@@ -74,6 +76,20 @@ pub fn same_rect(a: Rect, b: Rect) -> bool
 {
     let low = and(same(a.lowX, b.lowX), same(a.lowY, b.lowY));
     and(and(low, same(a.highX, b.highX)), same(a.highY, b.highY))
+}
+
+fn same_number(a: RecordNumber, b: RecordNumber) -> bool
+    ensures { λ r. ⌜ r ≡ L.same (a .0) (b .0) ⌝ }
+{
+    same(a.0, b.0)
+}
+
+// The same number and the same rectangle.
+pub fn same_pair(a: Record, b: Record) -> bool
+    ensures { λ r. ⌜ r ≡ G.samePair a b ⌝ }
+{
+    let number = same_number(a.number, b.number);
+    and(number, same_rect(a.rect, b.rect))
 }
 
 fn smaller(a: i32, b: i32) -> i32

@@ -38,7 +38,8 @@ use Rattle.insert_laws.proofs.Install.{putTwo, all-fit, split-none, split-at, i
 use Rattle.insert.specs.declared.Growth.the-variants.{One, Two, Stuck}
 use Rattle.insert.specs.Left.{GrewTo}
 use Rattle.insert.specs.State.{Here, Fitted}
-use Rattle.insert.proofs.Fitted.{Stored, fits-stored, fits-valid}
+use Rattle.nodes.proofs.Tight.{Stored}
+use Rattle.insert.proofs.Fitted.{fits-stored, fits-valid}
 
 all-fits : (p : Pool) (l : ℕ) (s : SlotNumber) (e : Entry) → Tree p l s → Fits p l e → (x : Entry) → Among x (entriesAt p s ++ e ∷ []) → Fits p l x
 all-fits p zero s e d f x m = absurd (no-tree p s d)
@@ -140,9 +141,6 @@ module _ {p : Pool} {s : SlotNumber} {e : Entry} (h : Here p s e) (full : 8 ≤ 
 
       second-entries : entriesAt r t ≡ map (entryFrom es) (take (g .twos) (g .two))
       second-entries = rw second (entries-are (putNode q t _) l t _ (put-same q t _ first-slot))
-
-      pub second-some : 0 < length (entriesAt r t)
-      second-some = rw second-entries (omega (arith, group-length es (g .two) (g .twos) (omega (arith, a .whole .all, a .whole .two9)), a .whole .twos))
 
       both-are : r ≡ both
       both-are =

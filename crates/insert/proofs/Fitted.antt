@@ -7,7 +7,6 @@ use Prim.Native.Nat.{ℕ, zero, suc, _≤_}
 use native.Mathlib.Omega.{arith}
 use lib.ListN.{length}
 use lib.IntN.{ℤ}
-use borrow.Author.Tests.{ne-eqb}
 use Rattle.rules.specs.declared.Rect.{Rect}
 use Rattle.rules.specs.declared.SlotNumber.{SlotNumber}
 use Rattle.rules.specs.declared.Pointer.{Pointer}
@@ -16,11 +15,11 @@ use Rattle.rules.specs.declared.Entry.{Entry}
 use Rattle.rules.specs.Numbers.{mostSlots, goodNumber}
 use Rattle.rules.specs.Geometry.{valid}
 use Rattle.rules.specs.Pool.{Pool, entry, entriesAt, childOf, numberOf}
-use Rattle.rules.specs.Layout.{validLength, natural, pointerOf, pointerWord, read}
+use Rattle.rules.specs.Layout.{validLength, pointerOf, pointerWord, read}
 use Rattle.rules_laws.proofs.Orders.{never-both}
-use Rattle.pool.specs.Slots.{InPool, Small}
-use Rattle.pool.proofs.Parts.{few-slots}
-use Rattle.pool.proofs.Written.{read-slots}
+use Rattle.pool.specs.Slots.{InPool}
+use Rattle.nodes.proofs.Slots.{within}
+use Rattle.nodes.proofs.Tight.{Stored, child-stored}
 use Rattle.sound_laws.specs.Tree.{Slot}
 use Rattle.sound_laws.proofs.Entries.{cover-of-valid, tree-valid}
 use Rattle.sound_laws.proofs.Walk.{tree-node}
@@ -29,24 +28,12 @@ use Rattle.insert_laws.proofs.Under.{no-fit, leaf-fits, inner-fits}
 
 -- a slot of the pool is a slot of its words
 pub slot-in : (w : List ℤ) (s : SlotNumber) → validLength w ≡ true → Slot (read w) s → InPool w s
-slot-in w s r k = record { right = r; low = k .low; high = omega (arith, k .high, read-slots w) }
-
-pub most-slots : (w : List ℤ) → validLength w ≡ true → length (read w .slots) ≤ mostSlots
-most-slots w r = omega (arith, read-slots w, few-slots w r)
-
--- a pointer that a word holds, of the level's kind
-pub record Stored (level : ℕ) (q : Pointer) : Type 0 where
-  pub small : Small q
-  pub kind : pointerOf level (pointerWord q) ≡ q
+slot-in w s r k = within w s r (k .low) (k .high)
 
 leaf-stored : (q : Pointer) (r : Rect) → goodNumber (numberOf (entry r q)) ≡ true → Stored 1 q
 unfolding numberOf goodNumber pointerOf pointerWord
 leaf-stored (Number n) r h = record { small = tt; kind = refl }
 leaf-stored (Child s) r h = never-both h refl
-
-pub child-stored : (l : ℕ) (s : SlotNumber) → 2 ≤ l → s .0 ≤ mostSlots → Stored l (Child s)
-unfolding pointerOf pointerWord natural
-child-stored l s two h = record { small = h; kind = rw (pointerOf, ne-eqb l 1 (λ e. omega arith)) }
 
 inner-stored : (l : ℕ) (q : Pointer) (r : Rect) → 2 ≤ l → 1 ≤ childOf (entry r q) .0 → childOf (entry r q) .0 ≤ mostSlots → Stored l q
 unfolding childOf

@@ -34,7 +34,7 @@ use Rattle.insert_laws.proofs.Whole.{head-standing, whole-standing, record-fits
 use Rattle.insert.specs.declared.Outcome.{Outcome}
 use Rattle.insert.specs.declared.Outcome.the-variants.{Made, Refused}
 use Rattle.insert.specs.Left.{Leaves, Upright}
-use Rattle.insert.proofs.Fitted.{most-slots}
+use Rattle.nodes.proofs.Slots.{most-slots}
 
 -- ---- how many records there can be
 

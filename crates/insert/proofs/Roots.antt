@@ -40,7 +40,8 @@ use Rattle.insert.specs.declared.Outcome.{Outcome}
 use Rattle.insert.specs.declared.Outcome.the-variants.{Made, Refused}
 use Rattle.insert.specs.Left.{GrewTo, Leaves, Upright}
 use Rattle.insert.specs.State.{WayDown, Beside, Fitted, grownOf, Risen}
-use Rattle.insert.proofs.Fitted.{Stored, child-stored, fits-stored}
+use Rattle.nodes.proofs.Tight.{Stored, child-stored}
+use Rattle.insert.proofs.Fitted.{fits-stored}
 use Rattle.insert.proofs.Steps.{grown-is, holds-ready}
 
 -- ---- a new root
@@ -62,9 +63,6 @@ module _ {p : Pool} {x : Entry} (h : Beside p x) (few : length (p .slots) ≤ mo
     (height : ℕ) (high : height ≡ p .height) where
   pub beside-slot : Slot p root
   beside-slot = rw top (h .slot)
-
-  pub beside-some : 0 < length (entriesAt p root)
-  beside-some = rw top (h .some)
 
   pub old-stored : Stored (height + 1) (Child root)
   old-stored = child-stored (height + 1) root (omega (arith, h .high)) (omega (arith, beside-slot .high))
@@ -121,7 +119,6 @@ module _ (p : Pool) (k : ℕ) (e : Entry) (low : 1 ≤ p .height) (high : p .hei
   split-risen : (q : Pool) (x : Entry) → G.Grows p (p .height) (p .root) k e (treeSlots p) (Split q x) → Beside q x
   split-risen q x g = record {
     slot = subst⁻¹ (Slot q) (g .2 .root) (tree-node q (p .height) (p .root) (g .1 .tree) .slot);
-    some = subst⁻¹ (λ (s : SlotNumber). 0 < length (entriesAt q s)) (g .2 .root) (omega (arith, g .3));
     few = omega (arith, g .2 .height);
     high = omega (arith, g .2 .height);
     fits = subst⁻¹ (λ (l : ℕ). G.Fits q (suc l) x) (g .2 .height) (g .1 .fit x (List·Memᴰ·head refl));

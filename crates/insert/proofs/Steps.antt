@@ -6,16 +6,13 @@ use mathlib.Core.Bool.{true, false}
 use mathlib.Core.List.{List, [], _∷_, List·Memᴰ·head}
 use Prim.Native.Nat.{ℕ, suc, _+_, _-_, _≤_, _<_}
 use native.Mathlib.Omega.{arith}
-use lib.ListN.{length, set}
+use lib.ListN.{length}
 use lib.IntN.{ℤ}
-use borrow.Author.Tests.{ne-eqb}
-use Rattle.rules.specs.declared.Rect.{Rect}
 use Rattle.rules.specs.declared.SlotNumber.{SlotNumber}
-use Rattle.rules.specs.declared.Pointer.the-variants.{Child}
 use Rattle.rules.specs.declared.Entry.{Entry}
 use Rattle.rules.specs.Numbers.{least}
 use Rattle.rules.specs.Geometry.{valid}
-use Rattle.rules.specs.Pool.{Node, Pool, node, entry, noEntry, nodeAt, entriesAt, entryFrom, entryAt, childOf, isLeaf, rects, coverOf, entryFor, putEntries, tighten}
+use Rattle.rules.specs.Pool.{Node, Pool, node, noEntry, nodeAt, entriesAt, entryFrom, entryAt, childOf, isLeaf, rects, putEntries, tighten}
 use Rattle.rules.specs.Insert.{Grown, Kept, Split, Full, ours, install, adjust, insertBelow}
 use Rattle.rules.specs.Layout.{read}
 use Rattle.rules_laws.proofs.Places.{at-place}
@@ -31,6 +28,8 @@ use Rattle.sound_laws.proofs.Apart.{once-child}
 use Rattle.sound_laws.proofs.Entries.{tree-valid}
 use Rattle.sound_laws.proofs.Frame.{entries-same}
 use Rattle.sound_laws.proofs.Walk.{tree-node}
+use Rattle.nodes.specs.Reading.{LeadsOn}
+use Rattle.nodes.proofs.Tight.{inner-no-leaf}
 use Rattle.insert_laws.specs.Grown as G
 use Rattle.insert_laws.specs.Slots.{leading, isFull, wayUp}
 use Rattle.insert_laws.proofs.Under.{fits-level}
@@ -40,7 +39,7 @@ use Rattle.insert_laws.proofs.Taken.{way-here, run, run-ends, run-goes-on}
 use Rattle.insert.specs.declared.Growth.{Growth}
 use Rattle.insert.specs.declared.Growth.the-variants.{One, Two, Stuck}
 use Rattle.insert.specs.Left.{HoldsPool, GrewTo}
-use Rattle.insert.specs.State.{Here, WayDown, LeadsOn, Fitted, grownOf, Back}
+use Rattle.insert.specs.State.{Here, WayDown, Fitted, grownOf, Back}
 use Rattle.insert.proofs.Fitted.{fits-valid}
 
 -- ---- the words stand for what the definitions give
@@ -61,22 +60,11 @@ holds-ready {f = f} h = record { fit = h .fit; known = subst⁻¹ (λ (p : Pool)
 
 -- ---- an entry made tight
 
-pub inner-no-leaf : (n : Node) → 2 ≤ n .level → isLeaf n ≡ false
-unfolding isLeaf
-inner-no-leaf n h = ne-eqb (n .level) 1 (λ e. omega arith)
-
 module _ (p : Pool) (s : SlotNumber) (i : ℕ) where
-  pub tighten-made : (c : SlotNumber) (r : Rect) → c ≡ childOf (entryAt p s i) → r ≡ coverOf (entriesAt p c)
-      → putEntries p s (set (entriesAt p s) i (entry r (Child c))) ≡ tighten p s i
-  unfolding tighten entryFor
-  tighten-made c r h k =
-      ap (λ (x : Entry). putEntries p s (set (entriesAt p s) i x))
-      (ap (λ (q : Rect). entry q (Child c)) k ∙ ap (λ (d : SlotNumber). entry (coverOf (entriesAt p d)) (Child d)) h)
-
   pub tighten-known : (f : FreeSlots) → Known p f → LeadsOn p s i → Known (tighten p s i) f
   unfolding tighten putEntries
   tighten-known f k h =
-      known-put p f k s (h .slot .low) (h .slot .high) (λ e. omega (arith, h .inner)) (node (nodeAt p s .level) _) (λ e. omega (arith, h .inner))
+      known-put p f k s (h .low) (h .high) (λ e. omega (arith, h .inner)) (node (nodeAt p s .level) _) (λ e. omega (arith, h .inner))
 
 -- ---- the parent, when its child came back
 
@@ -175,7 +163,7 @@ module _ {p : Pool} {n : ℕ} {s : SlotNumber} {e : Entry} (h : WayDown p n s e)
         below-grows ours ours-lawful p (h .level) e (h .fits) (n - 1) (suc below) child (omega (arith, levels)) (inner .child) child-once
         (λ _. omega (arith, inner .enough))
 
-    -- the node has not changed, and its entry leads to the child, which has entries
+    -- the node has not changed, and its entry leads to the child
     module _ (q : Pool) {come left : Node} {taken : List SlotNumber}
         (g : G.Grew (G.spot p (suc below) child) (G.spot q (suc below) child) come left taken (slotsIn p (suc below) child))
         (low : left .level ≤ suc (suc below)) (enough : least ≤ length (entriesAt q child)) where
@@ -187,13 +175,16 @@ module _ {p : Pool} {n : ℕ} {s : SlotNumber} {e : Entry} (h : WayDown p n s e)
       same-entry = ap (λ (es : List Entry). entryFrom es at) (sym (entries-same p q s same))
 
       leads : LeadsOn q s at
-      leads = record {
-        slot = record { low = way-node .slot .low; high = omega (arith, way-node .slot .high, g .long) };
-        inner = omega (arith, ap (λ (m : Node). m .level) same, way-node .level, levels);
-        there = omega (arith, there, ap length (entries-same p q s same));
-        child = subst⁻¹ (λ (x : Entry). Slot q (childOf x)) same-entry (tree-node q (suc below) child (g .tree) .slot);
-        some = subst⁻¹ (λ (x : Entry). 0 < length (entriesAt q (childOf x))) same-entry (omega (arith, enough));
-      }
+      leads =
+          let to = subst⁻¹ (λ (x : Entry). Slot q (childOf x)) same-entry (tree-node q (suc below) child (g .tree) .slot) in
+          record {
+            low = way-node .slot .low;
+            high = omega (arith, way-node .slot .high, g .long);
+            inner = omega (arith, ap (λ (m : Node). m .level) same, way-node .level, levels);
+            there = omega (arith, there, ap length (entries-same p q s same));
+            childLow = to .low;
+            childHigh = to .high;
+          }
 
     kept-back : (q : Pool) (f : FreeSlots) (v : List ℤ) → G.Grows p (suc below) child (h .level) e (slotsIn p (suc below) child) (Kept q)
         → HoldsPool q f v → Back v s at (One f)

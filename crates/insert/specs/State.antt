@@ -6,10 +6,11 @@ use lib.ListN.{length, getD}
 use lib.IntN.{ℤ}
 use Rattle.rules.specs.declared.SlotNumber.{SlotNumber}
 use Rattle.rules.specs.declared.Entry.{Entry}
-use Rattle.rules.specs.Pool.{Pool, nodeAt, entriesAt, entryAt, childOf, tighten}
+use Rattle.rules.specs.Pool.{Pool, entriesAt, tighten}
 use Rattle.rules.specs.Layout.{read}
 use Rattle.rules.specs.Insert as I
 use Rattle.pool.specs.Slots.{Fit}
+use Rattle.nodes.specs.Reading.{LeadsOn}
 use Rattle.free_slots.specs.declared.FreeSlots.{FreeSlots}
 use Rattle.free_slots.specs.Known.{Known}
 use Rattle.sound_laws.specs.Tree.{slotsIn, Once, Slot, Tree}
@@ -38,18 +39,9 @@ pub record WayDown (p : Pool) (n : ℕ) (s : SlotNumber) (e : Entry) : Type 0 wh
   pub fits : Fits p level e
   pub few : n + level ≤ 64
 
--- entry i of the node at s leads to a node with entries
-pub record LeadsOn (p : Pool) (s : SlotNumber) (i : ℕ) : Type 0 where
-  pub slot : Slot p s
-  pub inner : 2 ≤ nodeAt p s .level
-  pub there : i < length (entriesAt p s)
-  pub child : Slot p (childOf (entryAt p s i))
-  pub some : 0 < length (entriesAt p (childOf (entryAt p s i)))
-
--- the root has entries, and the other entry may stand beside its own in a new root
+-- the other entry may stand beside the root's own in a new root
 pub record Beside (p : Pool) (x : Entry) : Type 0 where
   pub slot : Slot p (p .root)
-  pub some : 0 < length (entriesAt p (p .root))
   pub few : p .height ≤ 64
   pub high : 1 ≤ p .height
   pub fits : Fits p (suc (p .height)) x

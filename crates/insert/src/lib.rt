@@ -17,7 +17,7 @@ ghost use Rattle.sound_laws.specs.Tree.{Whole};
 ghost use Rattle.insert_laws.specs.Grown.{Fits};
 ghost use Rattle.insert_laws.specs.Slots.{leading, isFull, wayUp, slotsNeeded};
 ghost use Rattle.insert.specs.Left.{GrewTo, Leaves, Upright};
-ghost use Rattle.insert.specs.State.{Inside, Here, WayDown, LeadsOn, Beside, Fitted, grownOf, Back, Risen};
+ghost use Rattle.insert.specs.State.{Inside, Here, WayDown, Beside, Fitted, grownOf, Back, Risen};
 use free_slots::FreeSlots;
 use rules::Entry;
 use rules::FreeSlot;
@@ -131,7 +131,7 @@ fn split_node(pool: &mut [i32], s: SlotNumber, e: Entry, t: SlotNumber) -> Entry
     let twos = g.twos;
     put_group(pool, s, level, nine, one, ones);
     put_group(pool, t, level, nine, two, twos);
-    let rect = free_slots::cover_of(pool, t);
+    let rect = nodes::cover_of(pool, t);
     Entry {
         rect,
         pointer: Pointer::Child(t),
@@ -161,22 +161,6 @@ fn install(pool: &mut [i32], s: SlotNumber, e: Entry, free: FreeSlots) -> Growth
     }
 }
 
-// AT3: entry i of the node at s gets the smallest rectangle that holds its child's entries.
-fn tighten(pool: &mut [i32], s: SlotNumber, i: usize)
-    requires { ⌜ Fit (now pool) ⌝ }
-    requires { ⌜ LeadsOn (L.read (now pool)) s i ⌝ }
-    ensures is { λ _. ⌜ L.read (now (pool .exit)) ≡ P.tighten (L.read (now (pool .entry))) s i ⌝ }
-    ensures fit { λ _. ⌜ Fit (now (pool .exit)) ⌝ }
-{
-    let c = pool::child_of(pool, s, i);
-    let rect = free_slots::cover_of(pool, c);
-    let tight = Entry {
-        rect,
-        pointer: Pointer::Child(c),
-    };
-    pool::put_entry_of(pool, s, i, tight);
-}
-
 // "AdjustTree sets each path cover tight and adds the partner last in the parent.": at the parent s, whose entry i leads to the child.
 fn adjust(pool: &mut [i32], s: SlotNumber, i: usize, grown: Growth) -> Growth
     requires { ⌜ Back (now pool) s i grown ⌝ }
@@ -184,11 +168,11 @@ fn adjust(pool: &mut [i32], s: SlotNumber, i: usize, grown: Growth) -> Growth
 {
     match grown {
         Growth::One(free) => {
-            tighten(pool, s, i);
+            nodes::tighten(pool, s, i);
             Growth::One(free)
         }
         Growth::Two(partner, free) => {
-            tighten(pool, s, i);
+            nodes::tighten(pool, s, i);
             install(pool, s, partner, free)
         }
         Growth::Stuck => Growth::Stuck,
@@ -224,7 +208,7 @@ fn new_root(pool: &mut [i32], partner: Entry, free: FreeSlots) -> Outcome
         FreeSlot::At(t) => {
             let root = pool::root_of(pool);
             let height = pool::height_of(pool);
-            let rect = free_slots::cover_of(pool, root);
+            let rect = nodes::cover_of(pool, root);
             let old = Entry {
                 rect,
                 pointer: Pointer::Child(root),

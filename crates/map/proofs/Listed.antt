@@ -18,7 +18,7 @@ use Rattle.rules.specs.Geometry.{valid}
 use Rattle.rules.specs.Pool.{Pool}
 use Rattle.rules.specs.Layout.{validLength, read}
 use Rattle.rules.specs.Sound.{sound}
-use Rattle.rules.specs.Search.{found, foundIn, opened}
+use Rattle.rules.specs.Search.{found, opened, foundFromRoot}
 use Rattle.rules.specs.Insert.{Choice, Change, Done, NoneFree, insertRecord}
 use Rattle.rules.specs.Delete.{deleteRecord, updateRecord}
 use Rattle.rules.specs.Request.{Turn, turn, afterChange, insertFault, deleteFault, updateFault, searchFault, request}
@@ -48,7 +48,7 @@ module _ (w : List ℤ) (right : validLength w ≡ true) (s : sound w ≡ true) 
   found-size window =
       omega (
         arith,
-        alike-length (ordered-alike (foundIn (read w) window (read w .height) (read w .root))),
+        alike-length (ordered-alike (foundFromRoot (read w) window)),
         found-few w right (sound-tree w s) window,
         right-size w right,
       )

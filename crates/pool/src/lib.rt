@@ -146,7 +146,7 @@ fn put_entry(pool: &mut [i32], at: usize, e: Entry)
 }
 
 // Five zero words.
-fn no_entry() -> Entry
+pub fn no_entry() -> Entry
     ensures { λ r. ⌜ r ≡ P.noEntry ⌝ }
 {
     Entry {

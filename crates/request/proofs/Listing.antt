@@ -14,7 +14,7 @@ use Rattle.rules.specs.declared.Reply.{Reply}
 use Rattle.rules.specs.declared.Reply.the-variants.{Listed, BadRectangle, NoRoom}
 use Rattle.rules.specs.Geometry.{valid}
 use Rattle.rules.specs.Layout.{slotCount, read}
-use Rattle.rules.specs.Search.{foundIn, ordered, found, opened}
+use Rattle.rules.specs.Search.{ordered, found, opened, foundFromRoot}
 use Rattle.rules.specs.Insert.{ours}
 use Rattle.rules.specs.Answers.{answerOf}
 use Rattle.rules.specs.Request.{Turn, turn, request}
@@ -46,7 +46,7 @@ quiet n t s v u e h = record {
 module _ (w : List ℤ) (f : FreeSlots) (r : Ready w f) (window : Rect) where
   -- the records found, in the order of the walk
   abbrev walk : List Record
-  walk = foundIn (read w) window (read w .height) (read w .root)
+  walk = foundFromRoot (read w) window
 
   found-is : found (read w) window ≡ ordered walk
   unfolding found

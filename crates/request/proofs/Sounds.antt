@@ -13,7 +13,7 @@ use Rattle.rules.specs.Numbers.{most}
 use Rattle.rules.specs.Pool.{Pool, nodeAt, entriesAt, slot, isLeaf, recordOf, stored, slotNumbers}
 use Rattle.rules.specs.Layout.{validLength, slotCount, words, read, sameWords}
 use Rattle.rules.specs.Sound.{nothingElse, soundPool, sound}
-use Rattle.rules.specs.Search.{foundIn}
+use Rattle.rules.specs.Search.{foundFromRoot}
 use Rattle.rules_laws.proofs.Bools.{and-both, both-and}
 use Rattle.rules_laws.proofs.Orders.{never-both}
 use Rattle.rules_laws.proofs.Places.{Among, length-upFrom}
@@ -101,6 +101,6 @@ module _ (w : List ℤ) (right : validLength w ≡ true) where
       omega (arith, few, ap length (stored-are (read w)), length-joined (recordsAt (read w)) (slotNumbers (read w)), size-slots (read w), read-slots w)
 
   -- a search finds no more than that
-  pub found-few : Whole (read w) → (window : Rect) → length (foundIn (read w) window (read w .height) (read w .root)) ≤ 8 * slotCount w
+  pub found-few : Whole (read w) → (window : Rect) → length (foundFromRoot (read w) window) ≤ 8 * slotCount w
   found-few whole window =
       omega (arith, stored-few, alike-length (found-alike (read w) window whole), those-fewer (recordMeets window) (stored (read w)))

@@ -1,4 +1,4 @@
--- A walk, a step at a time: one walk behind another is a walk over what both find and open, because the second leaves the first one's items
+-- A walk, a step at a time: one walk after another is a walk over what both find and open, because the second leaves the first one's items
 -- as they are.
 use mathlib.Core.Path.{_≡_, refl, sym, ap, ap₂, subst, _∙_}
 use mathlib.Core.Bool.{true}
@@ -14,7 +14,7 @@ use Rattle.rules.specs.declared.RecordNumber.{RecordNumber}
 use Rattle.rules.specs.declared.Record.{Record}
 use Rattle.rules.specs.Pool.{Pool, entriesAt, entryAt, numberOf, recordOf}
 use Rattle.rules.specs.Layout.{validLength, rectOf, read}
-use Rattle.rules.specs.Search.{foundIn, openedIn, opened}
+use Rattle.rules.specs.Search.{foundIn, openedIn, opened, foundFromRoot}
 use Rattle.pool.specs.Slots.{InPool, spotOf}
 use Rattle.pool.proofs.Parts.{slot-few}
 use Rattle.pool.proofs.Stores.{spot-inside, spot-entry}
@@ -49,7 +49,7 @@ went-none pool u a rs n d e =
       long = refl;
     }
 
--- ---- one walk behind another
+-- ---- one walk after another
 
 pub room-first : {u : List ℤ} {a : Walked} {all : List Record} {both : ℕ} (rs ts : List Record) (m n : ℕ) → all ≡ rs ++ ts → both ≡ m + n → ItemRoom u a all both → ItemRoom u a rs m
 room-first rs ts m n d e r = record { room = omega (arith, ap length d, length-append rs ts, r .room); opened = omega (arith, e, r .opened) }
@@ -147,7 +147,7 @@ went-one {w} {u} {s} {a} p i h room v z at d e f =
 
 module _ (w : List ℤ) (window : Rect) (right : validLength w ≡ true) (h : ℕ) (s : SlotNumber) (low : read w .height ≤ 8) (d : h ≡ read w .height) (e : s ≡ read w .root) where
   abbrev all : List Record
-  all = foundIn (read w) window (read w .height) (read w .root)
+  all = foundFromRoot (read w) window
 
   same-found : foundIn (read w) window h s ≡ all
   same-found = ap₂ (foundIn (read w) window) d e

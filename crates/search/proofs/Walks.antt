@@ -18,29 +18,17 @@ use Rattle.rules.specs.Geometry.{meets}
 use Rattle.rules.specs.Choose.{rectFrom}
 use Rattle.rules.specs.Pool.{Pool, rects, noEntry, entriesAt, entryFrom, entryAt, childOf, recordOf}
 use Rattle.rules.specs.Layout.{validLength, read}
-use Rattle.rules.specs.Search.{meeting, foundIn, openedIn}
+use Rattle.rules.specs.Search.{foundIn, openedIn}
 use Rattle.pool.proofs.Parts.{rect-entry}
 use Rattle.search_laws.proofs.Lists.{total-those}
+use Rattle.search_laws.proofs.Clauses.{found-leaf, found-inner, opened-none, opened-leaf, opened-inner}
 use Rattle.sound_laws.proofs.Joins.{joined-those, total-zero}
 use Rattle.search.specs.State.{openedBelow, heldBelow, foundBelow, openedFrom, foundFrom}
 use Rattle.search.proofs.Sums.{total-end, total-next, total-most, joined-end, joined-next, joined-ones}
-use Rattle.search.proofs.Nodes.{same-entries, most-entries}
+use Rattle.nodes.proofs.Slots.{same-entries, most-entries}
 
 module _ (p : Pool) (window : Rect) where
   -- ---- nodes opened
-
-  pub opened-none : (s : SlotNumber) → openedIn p window 0 s ≡ 0
-  unfolding openedIn
-  opened-none s = refl
-
-  opened-leaf : (s : SlotNumber) → openedIn p window 1 s ≡ 1
-  unfolding openedIn
-  opened-leaf s = refl
-
-  opened-clause : (l : ℕ) (s : SlotNumber) → openedIn p window (suc (suc l)) s
-      ≡ suc (total (map (λ (e : Entry). openedIn p window (suc l) (childOf e)) (those (λ e. meets (e .rect) window) (entriesAt p s))))
-  unfolding openedIn meeting
-  opened-clause l s = refl
 
   below-is : (l : ℕ) (es : List Entry) → map (λ (e : Entry). cond (meets (e .rect) window) (openedIn p window l (childOf e)) 0) es ≡ map (openedBelow p window l) es
   unfolding openedBelow
@@ -48,7 +36,7 @@ module _ (p : Pool) (window : Rect) where
 
   opened-step : (l : ℕ) (s : SlotNumber) → openedIn p window (suc (suc l)) s ≡ suc (total (map (openedBelow p window (suc l)) (entriesAt p s)))
   opened-step l s =
-      opened-clause l s
+      opened-inner p window l s
       ∙ ap suc (total-those (λ (e : Entry). openedIn p window (suc l) (childOf e)) (λ e. meets (e .rect) window) (entriesAt p s) ∙ ap total (below-is (suc l) (entriesAt p s)))
 
   opened-met : (l : ℕ) (e : Entry) → meets (e .rect) window ≡ true → openedBelow p window l e ≡ openedIn p window l (childOf e)
@@ -64,7 +52,7 @@ module _ (p : Pool) (window : Rect) where
   below-leaf e = go (meets (e .rect) window) refl
     where
       go : (t : Bool) → meets (e .rect) window ≡ t → openedBelow p window 0 e ≡ 0
-      go true q = opened-met 0 e q ∙ opened-none (childOf e)
+      go true q = opened-met 0 e q ∙ opened-none p window (childOf e)
       go false q = opened-missed 0 e q
 
   from-start : (l : ℕ) (s : SlotNumber) → total (map (openedBelow p window l) (entriesAt p s)) ≡ openedFrom p window l s 0
@@ -72,7 +60,7 @@ module _ (p : Pool) (window : Rect) where
   from-start l s = refl
 
   opened-all : (l : ℕ) (s : SlotNumber) → openedIn p window (suc l) s ≡ 1 + openedFrom p window l s 0
-  opened-all zero s = omega (arith, opened-leaf s, from-start 0 s, total-zero (openedBelow p window 0) (entriesAt p s) (λ e among. below-leaf e))
+  opened-all zero s = omega (arith, opened-leaf p window s, from-start 0 s, total-zero (openedBelow p window 0) (entriesAt p s) (λ e among. below-leaf e))
   opened-all (suc l) s = omega (arith, opened-step l s, from-start (suc l) s)
 
   opened-fewer : (l : ℕ) (e : Entry) → openedBelow p window l e ≤ openedIn p window l (childOf e)
@@ -83,19 +71,6 @@ module _ (p : Pool) (window : Rect) where
       go false q = omega (arith, opened-missed l e q)
 
   -- ---- records found
-
-  pub found-none : (s : SlotNumber) → foundIn p window 0 s ≡ []
-  unfolding foundIn
-  found-none s = refl
-
-  leaf-clause : (s : SlotNumber) → foundIn p window 1 s ≡ map recordOf (those (λ e. meets (e .rect) window) (entriesAt p s))
-  unfolding foundIn meeting
-  leaf-clause s = refl
-
-  found-clause : (l : ℕ) (s : SlotNumber) → foundIn p window (suc (suc l)) s
-      ≡ joined (map (λ (e : Entry). foundIn p window (suc l) (childOf e)) (those (λ e. meets (e .rect) window) (entriesAt p s)))
-  unfolding foundIn meeting
-  found-clause l s = refl
 
   held-leaf : (es : List Entry) → map (λ (e : Entry). recordOf e ∷ []) es ≡ map (heldBelow p window 0) es
   unfolding heldBelow
@@ -109,8 +84,8 @@ module _ (p : Pool) (window : Rect) where
   found-each : (l : ℕ) (s : SlotNumber) → foundIn p window (suc l) s ≡ joined (map (heldBelow p window l) (those (λ e. meets (e .rect) window) (entriesAt p s)))
   found-each zero s =
       let es = those (λ e. meets (e .rect) window) (entriesAt p s) in
-      leaf-clause s ∙ sym (joined-ones recordOf es) ∙ ap joined (held-leaf es)
-  found-each (suc l) s = found-clause l s ∙ ap joined (held-inner l (those (λ e. meets (e .rect) window) (entriesAt p s)))
+      found-leaf p window s ∙ sym (joined-ones recordOf es) ∙ ap joined (held-leaf es)
+  found-each (suc l) s = found-inner p window l s ∙ ap joined (held-inner l (those (λ e. meets (e .rect) window) (entriesAt p s)))
 
   found-are : (l : ℕ) (es : List Entry) → map (λ (e : Entry). cond (meets (e .rect) window) (heldBelow p window l e) []) es ≡ map (foundBelow p window l) es
   unfolding foundBelow

@@ -10,7 +10,7 @@ use Rattle.rules.specs.declared.Record.{Record}
 use Rattle.rules.specs.declared.Entry.{Entry}
 use Rattle.rules.specs.Lists.{joined, total}
 use Rattle.rules.specs.Geometry.{meets}
-use Rattle.rules.specs.Pool.{Pool, entriesAt, childOf, recordOf}
+use Rattle.rules.specs.Pool.{Pool, entriesAt, entryAt, childOf, recordOf}
 use Rattle.rules.specs.Search.{foundIn, openedIn}
 
 -- "opens every child whose entry rectangle meets the window": the nodes opened below an entry, whose child has the level given
@@ -25,6 +25,13 @@ heldBelow p window (suc l) e = foundIn p window (suc l) (childOf e)
 -- the records found below an entry
 unfoldable pub foundBelow : Pool → Rect → ℕ → Entry → List Record
 foundBelow p window level e = cond (meets (e .rect) window) (heldBelow p window level e) []
+
+-- .. below the entry at place i of the node at s
+abbrev pub openedAt : Pool → Rect → ℕ → SlotNumber → ℕ → ℕ
+openedAt p window level s i = openedBelow p window level (entryAt p s i)
+
+abbrev pub foundAt : Pool → Rect → ℕ → SlotNumber → ℕ → List Record
+foundAt p window level s i = foundBelow p window level (entryAt p s i)
 
 -- .. and below the entries from place i on of the node at s, whose children have the level given
 unfoldable pub openedFrom : Pool → Rect → ℕ → SlotNumber → ℕ → ℕ

@@ -11,10 +11,8 @@ ghost use Rattle.rules.specs.Pool as P;
 ghost use Rattle.rules.specs.Search as F;
 ghost use Rattle.pool.specs.Slots.{InPool};
 ghost use Rattle.found_items.specs.Items.{itemsFrom, Pointing};
-ghost use Rattle.search.specs.State.{openedBelow, foundBelow, openedFrom, foundFrom};
+ghost use Rattle.search.specs.State.{openedAt, foundAt, openedFrom, foundFrom};
 ghost use Rattle.search.specs.Walk.{ItemRoom, Went};
-use rules::Pointer;
-use rules::RecordNumber;
 use rules::Rect;
 use rules::SlotNumber;
 
@@ -24,59 +22,7 @@ pub struct Walked {
     pub opened: usize,
 }
 
-// ---- nodes read, whatever the slot number
-
-// The slot that is read for a number: slots are counted from 1, and the definitions read 0 as 1. No sound pool names slot 0.
-fn slot_read(s: SlotNumber) -> SlotNumber
-    ensures low { λ r. ⌜ 1 ≤ r .0 ⌝ }
-    ensures same { λ r. ⌜ r .0 - 1 ≡ s .0 - 1 ⌝ }
-{
-    let n = s.0;
-    if n == 0 {
-        return SlotNumber(1);
-    }
-    s
-}
-
-// How many entries are in use; beyond the last slot there are none.
-fn count_at(pool: &[i32], s: SlotNumber) -> usize
-    requires { ⌜ L.validLength (now pool) ≡ true ⌝ }
-    requires { ⌜ 1 ≤ s .0 ⌝ }
-    ensures is { λ r. ⌜ r ≡ length (P.entriesAt (L.read (now (pool .entry))) s) ⌝ }
-    ensures most { λ r. ⌜ r ≤ 8 ⌝ }
-{
-    let n = s.0;
-    if pool::slot_count(pool) < n {
-        return 0;
-    }
-    pool::count_of(pool, s)
-}
-
-// The child that the entry at place i leads to; a leaf's entry has none.
-fn child_at(pool: &[i32], s: SlotNumber, i: usize) -> SlotNumber
-    requires { ⌜ InPool (now pool) s ⌝ }
-    requires { ⌜ i < length (P.entriesAt (L.read (now pool)) s) ⌝ }
-    ensures { λ r. ⌜ r ≡ P.childOf (P.entryAt (L.read (now (pool .entry))) s i) ⌝ }
-{
-    let p = pool::entry_pointer(pool, s, i);
-    match p {
-        Pointer::Number(_) => SlotNumber(0),
-        Pointer::Child(c) => c,
-    }
-}
-
-// The record number of the entry at place i; an inner node's entry has none.
-fn number_at(pool: &[i32], s: SlotNumber, i: usize) -> RecordNumber
-    requires { ⌜ InPool (now pool) s ⌝ }
-    requires { ⌜ i < length (P.entriesAt (L.read (now pool)) s) ⌝ }
-    ensures { λ r. ⌜ r ≡ P.numberOf (P.entryAt (L.read (now (pool .entry))) s i) ⌝ }
-{
-    let p = pool::entry_pointer(pool, s, i);
-    match p {
-        Pointer::Number(n) => n,
-        Pointer::Child(_) => RecordNumber(0),
-    }
-}
+// ---- the walk
 
 // Whether an entry's rectangle meets the window: "touching counts".
 fn meets_window(r: Rect, window: Rect) -> bool
@@ -84,8 +30,6 @@ fn meets_window(r: Rect, window: Rect) -> bool
 {
     geometry::meets(r, window)
 }
-
-// ---- the walk
 
 // The record of the entry at place i becomes the next item.
 fn list_record(pool: &[i32], s: SlotNumber, i: usize, items: &mut [i32], done: Walked) -> Walked
@@ -96,7 +40,7 @@ fn list_record(pool: &[i32], s: SlotNumber, i: usize, items: &mut [i32], done: W
 {
     let at = done.next;
     let opened = done.opened;
-    let n = number_at(pool, s, i);
+    let n = nodes::number_at(pool, s, i);
     let spot = pool::spot(s, i);
     found_items::put_item(items, at, n, spot);
     let next = at + 1;
@@ -119,8 +63,8 @@ fn list_node(
     if level == 0 {
         return done;
     }
-    let t = slot_read(s);
-    let n = count_at(pool, t);
+    let t = nodes::slot_read(s);
+    let n = nodes::count_at(pool, t);
     let w = list_entries(pool, window, level - 1, t, 0, n, items, done);
     let next = w.next;
     let below = w.opened;
@@ -165,8 +109,8 @@ fn list_entry(
 ) -> Walked
     requires { ⌜ InPool (now pool) s ⌝ }
     requires { ⌜ i < length (P.entriesAt (L.read (now pool)) s) ⌝ }
-    requires { ⌜ ItemRoom (now items) done (foundBelow (L.read (now pool)) window below (P.entryAt (L.read (now pool)) s i)) (openedBelow (L.read (now pool)) window below (P.entryAt (L.read (now pool)) s i)) ⌝ }
-    ensures { λ r. ⌜ Went (now (pool .entry)) (now (items .entry)) (now (items .exit)) done r (foundBelow (L.read (now (pool .entry))) window below (P.entryAt (L.read (now (pool .entry))) s i)) (openedBelow (L.read (now (pool .entry))) window below (P.entryAt (L.read (now (pool .entry))) s i)) ⌝ }
+    requires { ⌜ ItemRoom (now items) done (foundAt (L.read (now pool)) window below s i) (openedAt (L.read (now pool)) window below s i) ⌝ }
+    ensures { λ r. ⌜ Went (now (pool .entry)) (now (items .entry)) (now (items .exit)) done r (foundAt (L.read (now (pool .entry))) window below s i) (openedAt (L.read (now (pool .entry))) window below s i) ⌝ }
 {
     let r = pool::rect_of(pool, s, i);
     if !meets_window(r, window) {
@@ -175,7 +119,7 @@ fn list_entry(
     if below == 0 {
         return list_record(pool, s, i, items, done);
     }
-    let c = child_at(pool, s, i);
+    let c = nodes::child_at(pool, s, i);
     list_node(pool, window, below, c, items, done)
 }
 

@@ -14,7 +14,7 @@ use Rattle.rules.specs.Lists.{those}
 use Rattle.rules.specs.Geometry.{samePair}
 use Rattle.rules.specs.Pool.{Pool, slotNumbers, nodeAt, stored}
 use Rattle.rules.specs.Sound.{inUse, isRoot, soundPool}
-use Rattle.rules.specs.Search.{ordered, foundIn, found, opened}
+use Rattle.rules.specs.Search.{ordered, foundFromRoot, found, opened}
 use Rattle.rules_laws.proofs.Places.{Among}
 use Rattle.rules_laws.proofs.Parts.{among-those}
 use Rattle.sound_laws.specs.Tree.{treeSlots, Whole}
@@ -31,7 +31,7 @@ use Rattle.search_laws.proofs.Order.{alike-back, alike-among, ordered-a
 module _ (p : Pool) (w : Whole p) (window : Rect) where
   pub search-exact : found p window ≡ ordered (those (recordMeets window) (stored p))
   unfolding found
-  search-exact = ordered-same (foundIn p window (p .height) (p .root)) (those (recordMeets window) (stored p)) (found-alike p window w)
+  search-exact = ordered-same (foundFromRoot p window) (those (recordMeets window) (stored p)) (found-alike p window w)
 
   pub opened-exact : opened p window ≡ suc (length (those (nodeMeets p window) (those (otherNode p) (slotNumbers p))))
   opened-exact =

@@ -11,7 +11,7 @@ use Rattle.rules.specs.declared.Entry.{Entry}
 use Rattle.rules.specs.Lists.{those, joined}
 use Rattle.rules.specs.Geometry.{meets}
 use Rattle.rules.specs.Pool.{Pool, entriesAt, childOf, recordOf, coverOf, stored}
-use Rattle.rules.specs.Search.{meeting, foundIn}
+use Rattle.rules.specs.Search.{foundIn, foundFromRoot}
 use Rattle.rules_laws.proofs.Places.{Among}
 use Rattle.rules_laws.proofs.Parts.{those-map}
 use Rattle.sound_laws.specs.Tree.{recordsIn, treeRecords, Tree, Whole}
@@ -21,6 +21,7 @@ use Rattle.sound_laws.proofs.Whole.{stored-in}
 use Rattle.search_laws.specs.Window.{recordMeets, nodeMeets}
 use Rattle.search_laws.specs.Order.{Alike}
 use Rattle.search_laws.proofs.Covers.{HoldsRect, holds-on, holds-misses, cover-of-holds}
+use Rattle.search_laws.proofs.Clauses.{found-leaf, found-inner}
 use Rattle.search_laws.proofs.Lists.{those-nothing, those-and, those-joined}
 
 module _ (p : Pool) where
@@ -40,17 +41,6 @@ module _ (p : Pool) where
       holds-on (child-holds l s d (q .0) (q .1)) (record-held (suc l) (childOf (q .0)) (inner-of p l s d .each (q .0) (q .1) .child) r (q .2))
 
   module _ (window : Rect) where
-    -- ---- the clauses
-
-    found-leaf : (s : SlotNumber) → foundIn p window 1 s ≡ map recordOf (those (λ e. meets (e .rect) window) (entriesAt p s))
-    unfolding foundIn meeting
-    found-leaf s = refl
-
-    found-inner : (l : ℕ) (s : SlotNumber) → foundIn p window (suc (suc l)) s
-        ≡ joined (map (λ (e : Entry). foundIn p window (suc l) (childOf e)) (those (λ e. meets (e .rect) window) (entriesAt p s)))
-    unfolding foundIn meeting
-    found-inner l s = refl
-
     leaf-found : (es : List Entry) → map recordOf (those (λ e. meets (e .rect) window) es) ≡ those (recordMeets window) (map recordOf es)
     unfolding recordOf
     leaf-found es = sym (those-map recordOf (recordMeets window) es)
@@ -62,9 +52,9 @@ module _ (p : Pool) where
 
     pub found-in : (l : ℕ) (s : SlotNumber) → Tree p l s → foundIn p window l s ≡ those (recordMeets window) (recordsIn p l s)
     found-in zero s d = absurd (no-tree p s d)
-    found-in (suc zero) s d = rw (found-leaf s, records-leaf p s) (leaf-found (entriesAt p s))
+    found-in (suc zero) s d = rw (found-leaf p window s, records-leaf p s) (leaf-found (entriesAt p s))
     found-in (suc (suc l)) s d =
-        rw (found-inner l s, records-inner p s l, joined-those finds met es, those-joined (recordMeets window) below es)
+        rw (found-inner p window l s, records-inner p s l, joined-those finds met es, those-joined (recordMeets window) below es)
         (ap joined (map-same (λ e. cond (met e) (finds e) []) (λ e. those (recordMeets window) (below e)) es
         (λ e m. let i = inner-of p l s d .each e m in part e (i .child) (i .tight) (found-in (suc l) (childOf e) (i .child)) (met e) refl)))
       where
@@ -86,7 +76,7 @@ module _ (p : Pool) where
         part e c tight ih false h = rw h (sym (none-found (suc l) (childOf e) c (rw tight at h)))
 
     -- of all that is stored, each as often
-    pub found-alike : Whole p → Alike (foundIn p window (p .height) (p .root)) (those (recordMeets window) (stored p))
+    pub found-alike : Whole p → Alike (foundFromRoot p window) (those (recordMeets window) (stored p))
     found-alike w = record {
       each = λ q.
           rw (found-in (p .height) (p .root) (w .tree), ← those-and (recordMeets window) q (treeRecords p), ← those-and (recordMeets window) q (stored p))

@@ -14,7 +14,7 @@ use Rattle.rules.specs.Lists.{those, joined, total}
 use Rattle.rules.specs.Geometry.{meets}
 use Rattle.rules.specs.Pool.{Pool, entriesAt, childOf, coverOf}
 use Rattle.rules.specs.Sound.{isRoot}
-use Rattle.rules.specs.Search.{meeting, openedIn, opened}
+use Rattle.rules.specs.Search.{openedIn, opened}
 use Rattle.rules_laws.proofs.Places.{Among, nothing}
 use Rattle.rules_laws.proofs.Parts.{those-yes, those-none, those-parted, count-cons}
 use Rattle.sound_laws.specs.Tree.{slotsIn, treeSlots, Tree, Whole}
@@ -24,6 +24,7 @@ use Rattle.sound_laws.proofs.Walk.{slots-leaf, slots-inner, no-tree, inner-of, 
 use Rattle.sound_laws.proofs.Whole.{all-once}
 use Rattle.search_laws.specs.Window.{nodeMeets}
 use Rattle.search_laws.proofs.Covers.{HoldsRect, holds-self, holds-on, holds-misses}
+use Rattle.search_laws.proofs.Clauses.{opened-leaf, opened-inner}
 use Rattle.search_laws.proofs.Lists.{those-nothing, total-those}
 use Rattle.search_laws.proofs.Found.{child-holds}
 
@@ -58,17 +59,6 @@ module _ (p : Pool) where
       e ∙ ap (λ (ss : List SlotNumber). p .root ∷ ss) (nothing rest (omega (arith, all-once p w (p .root), ap length e)))
 
   module _ (window : Rect) where
-    -- ---- the clauses
-
-    opened-leaf : (s : SlotNumber) → openedIn p window 1 s ≡ 1
-    unfolding openedIn
-    opened-leaf s = refl
-
-    opened-inner : (l : ℕ) (s : SlotNumber) → openedIn p window (suc (suc l)) s
-        ≡ suc (total (map (λ (e : Entry). openedIn p window (suc l) (childOf e)) (those (λ e. meets (e .rect) window) (entriesAt p s))))
-    unfolding openedIn meeting
-    opened-inner l s = refl
-
     -- ---- what is opened
 
     none-opened : (l : ℕ) (s : SlotNumber) → Tree p l s → nodeMeets p window s ≡ false → those (nodeMeets p window) (slotsIn p l s) ≡ []
@@ -78,9 +68,9 @@ module _ (p : Pool) where
     pub opened-in : (l : ℕ) (s : SlotNumber) → Tree p l s
         → openedIn p window l s + length (those (nodeMeets p window) (s ∷ [])) ≡ suc (length (those (nodeMeets p window) (slotsIn p l s)))
     opened-in zero s d = absurd (no-tree p s d)
-    opened-in (suc zero) s d = rw (opened-leaf s, slots-leaf p s) (omega arith)
+    opened-in (suc zero) s d = rw (opened-leaf p window s, slots-leaf p s) (omega arith)
     opened-in (suc (suc l)) s d =
-        rw (opened-inner l s, slots-inner p s l)
+        rw (opened-inner p window l s, slots-inner p s l)
         (omega (
           arith,
           count-cons (nodeMeets p window) s (joined (map below es)),

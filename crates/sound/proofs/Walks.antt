@@ -1,70 +1,58 @@
--- The node check and the entry check, a step at a time, as the code has them.
+-- The node check and the entry check, a step at a time, as the code has them: an entry that fits is sound where its child is.
 use mathlib.Core.Path.{_≡_, refl, sym, ap, _∙_}
-use mathlib.Core.Bool.{Bool, true, false, _&&_}
-use mathlib.Core.List.{List, [], _∷_}
+use mathlib.Core.Bool.{Bool, true, false}
 use Prim.Native.Nat.{ℕ, zero, suc, _+_, _-_, _≤_, _<_}
 use native.Mathlib.Numerals.{sub-one}
 use native.Mathlib.Omega.{arith}
-use lib.Dec.{eqb}
 use lib.ListN.{length, drop, getD, length-map, List·getD-map}
-use lib.IntN.{ℤ}
-use borrow.Author.Tests.{leb-true, ne-eqb}
+use borrow.Author.Tests.{ne-eqb}
 use Rattle.rules.specs.declared.SlotNumber.{SlotNumber}
 use Rattle.rules.specs.declared.Entry.{Entry}
 use Rattle.rules.specs.Lists.{every, upFrom}
-use Rattle.rules.specs.Geometry.{noRect, coverAll, sameRect}
-use Rattle.rules.specs.Pool.{Pool, slot, noEntry, slotNumbers, nodeAt, entriesAt, childOf, rects, coverOf}
-use Rattle.rules.specs.Layout.{validLength, read}
+use Rattle.rules.specs.Pool.{Pool, slot, noEntry, slotNumbers, nodeAt, entriesAt, entryFrom, entryAt, childOf}
 use Rattle.rules.specs.Sound.{isSlot, leafEntrySound, innerEntrySound, nodeSound, inUse, usedSound}
 use Rattle.rules_laws.proofs.Bools.{and-both}
 use Rattle.rules_laws.proofs.Places.{length-upFrom, getD-upFrom}
-use Rattle.pool.specs.Slots.{InPool}
-use Rattle.pool.proofs.Written.{read-slots}
-use Rattle.sound.specs.State.{innerSound}
+use Rattle.sound.specs.State.{entryFits, innerSound}
 use Rattle.sound.proofs.Everies.{every-fails, every-goes}
-
--- a slot of the pool that is read is a slot of the words
-pub slot-in : (w : List ℤ) (s : SlotNumber) → validLength w ≡ true → isSlot (read w) s ≡ true → InPool w s
-unfolding isSlot
-slot-in w s r e =
-    let b = and-both _ _ e in
-    let l : s .0 ≤ length (read w .slots) = leb-true (s .0) (length (read w .slots)) (b .1) in
-    record { right = r; low = leb-true 1 (s .0) (b .0); high = omega (arith, read-slots w) }
-
-pub cover-none : (es : List Entry) → length es ≡ 0 → noRect ≡ coverOf es
-unfolding coverOf coverAll rects
-cover-none [] e = refl
-cover-none (x ∷ es) e = absurd (omega arith)
 
 -- ---- the entry check
 
-abbrev fits : Pool → ℕ → Entry → Bool
-fits p below e = isSlot p (childOf e) && eqb (nodeAt p (childOf e) .level) below && sameRect (e .rect) (coverOf (entriesAt p (childOf e)))
-
-module _ (p : Pool) (below : ℕ) (f : SlotNumber → Bool) (e : Entry) where
-  inner-no : fits p below e ≡ false → innerEntrySound p below f e ≡ false
+module _ (p : Pool) (below : ℕ) (e : Entry) where
+  inner-no : entryFits p below e ≡ false → innerSound p below e ≡ false
   unfolding innerEntrySound
   inner-no q = rw (innerEntrySound, q)
 
-  inner-yes : fits p below e ≡ true → innerEntrySound p below f e ≡ f (childOf e)
+  inner-yes : entryFits p below e ≡ true → innerSound p below e ≡ nodeSound p below (childOf e)
   unfolding innerEntrySound
   inner-yes q = rw (innerEntrySound, q)
 
--- the child of an entry that fits is a slot
-pub fits-slot : (p : Pool) (below : ℕ) (e : Entry) → fits p below e ≡ true → isSlot p (childOf e) ≡ true
-fits-slot p below e q = and-both _ _ (and-both _ _ q .0) .0
+  -- the child of an entry that fits is a slot
+  pub fits-slot : entryFits p below e ≡ true → isSlot p (childOf e) ≡ true
+  fits-slot q = and-both _ _ (and-both _ _ q .0) .0
 
--- ---- .. over the entries from i on
+-- ---- .. over the entries from place i on: e is the first of them, and a says whether it fits
 
-module _ (p : Pool) (level : ℕ) (es : List Entry) (i : ℕ) (h : i < length es) (e : Entry) (at : e ≡ getD es i noEntry) where
-  pub entry-fails : fits p (level - 1) e ≡ false → every (innerSound p level) (drop i es) ≡ false
-  entry-fails q = every-fails (innerSound p level) es i noEntry h (ap (innerSound p level) (sym at) ∙ inner-no p (level - 1) (λ t. nodeSound p (level - 1) t) e q)
+module _ (p : Pool) (below : ℕ) (s : SlotNumber) (i : ℕ) (h : i < length (entriesAt p s)) (e : Entry) (at : e ≡ entryAt p s i) where
+  first-is : {b : Bool} → innerSound p below e ≡ b → innerSound p below (getD (entriesAt p s) i noEntry) ≡ b
+  unfolding entryAt entryFrom
+  first-is q = ap (innerSound p below) (sym at) ∙ q
 
-  pub node-fails : fits p (level - 1) e ≡ true → nodeSound p (level - 1) (childOf e) ≡ false → every (innerSound p level) (drop i es) ≡ false
-  node-fails q n = every-fails (innerSound p level) es i noEntry h (ap (innerSound p level) (sym at) ∙ inner-yes p (level - 1) (λ t. nodeSound p (level - 1) t) e q ∙ n)
+  pub entry-fails : entryFits p below e ≡ false → every (innerSound p below) (drop i (entriesAt p s)) ≡ false
+  entry-fails q = every-fails (innerSound p below) (entriesAt p s) i noEntry h (first-is (inner-no p below e q))
 
-  pub both-hold : fits p (level - 1) e ≡ true → nodeSound p (level - 1) (childOf e) ≡ true → every (innerSound p level) (drop i es) ≡ every (innerSound p level) (drop (i + 1) es)
-  both-hold q n = every-goes (innerSound p level) es i noEntry h (ap (innerSound p level) (sym at) ∙ inner-yes p (level - 1) (λ t. nodeSound p (level - 1) t) e q ∙ n)
+  -- the child is asked
+  module _ (fits : entryFits p below e ≡ true) (c : SlotNumber) (child : c ≡ childOf e) where
+    asked : {b : Bool} → nodeSound p below c ≡ b → innerSound p below (getD (entriesAt p s) i noEntry) ≡ b
+    asked q = first-is (inner-yes p below e fits ∙ ap (nodeSound p below) (sym child) ∙ q)
+
+    pub node-fails : nodeSound p below c ≡ false → every (innerSound p below) (drop i (entriesAt p s)) ≡ false
+    node-fails q = every-fails (innerSound p below) (entriesAt p s) i noEntry h (asked q)
+
+    -- b is what the later entries answer
+    pub both-hold : nodeSound p below c ≡ true → (b : Bool) → b ≡ every (innerSound p below) (drop (i + 1) (entriesAt p s))
+        → b ≡ every (innerSound p below) (drop i (entriesAt p s))
+    both-hold q b later = later ∙ sym (every-goes (innerSound p below) (entriesAt p s) i noEntry h (asked q))
 
 -- ---- the node check
 
@@ -77,11 +65,15 @@ module _ (p : Pool) (s : SlotNumber) where
   unfolding nodeSound
   node-leaf = refl
 
-  pub node-inner : (level : ℕ) → 2 ≤ level → nodeSound p level s ≡ every (innerSound p level) (drop 0 (entriesAt p s))
+  inner-clause : (level : ℕ) → 2 ≤ level → nodeSound p level s ≡ every (innerSound p (level - 1)) (drop 0 (entriesAt p s))
   unfolding nodeSound
-  node-inner zero h = absurd (omega arith)
-  node-inner (suc zero) h = absurd (omega arith)
-  node-inner (suc (suc l)) h = rw (sub-one (suc (suc l)))
+  inner-clause zero h = absurd (omega arith)
+  inner-clause (suc zero) h = absurd (omega arith)
+  inner-clause (suc (suc l)) h = rw (sub-one (suc (suc l)))
+
+  -- b is what all its entries answer
+  pub node-inner : (level : ℕ) → 2 ≤ level → (b : Bool) → b ≡ every (innerSound p (level - 1)) (drop 0 (entriesAt p s)) → b ≡ nodeSound p level s
+  node-inner level two b all = all ∙ sym (inner-clause level two)
 
 -- ---- every slot
 

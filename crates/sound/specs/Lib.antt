@@ -1,2 +1,2 @@
--- A short name for the entry check of a level.
+-- Short names for what is asked of an inner entry.
 pub mod State

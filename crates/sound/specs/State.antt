@@ -1,10 +1,16 @@
--- A short name for the entry check of a level.
-use mathlib.Core.Bool.{Bool}
-use Prim.Native.Nat.{ℕ, _-_}
+-- Short names for what is asked of an inner entry.
+use mathlib.Core.Bool.{Bool, _&&_}
+use Prim.Native.Nat.{ℕ}
+use lib.Dec.{eqb}
 use Rattle.rules.specs.declared.Entry.{Entry}
-use Rattle.rules.specs.Pool.{Pool}
-use Rattle.rules.specs.Sound.{nodeSound, innerEntrySound}
+use Rattle.rules.specs.Geometry.{sameRect}
+use Rattle.rules.specs.Pool.{Pool, nodeAt, entriesAt, childOf, coverOf}
+use Rattle.rules.specs.Sound.{isSlot, nodeSound, innerEntrySound}
 
--- the entry of a node of a level is sound
+-- all that needs no walk: the child is a slot of the level below, and the entry's rectangle is its cover
+abbrev pub entryFits : Pool → ℕ → Entry → Bool
+entryFits p below e = isSlot p (childOf e) && eqb (nodeAt p (childOf e) .level) below && sameRect (e .rect) (coverOf (entriesAt p (childOf e)))
+
+-- the entry is sound, whose child has the level below
 abbrev pub innerSound : Pool → ℕ → Entry → Bool
-innerSound p level = innerEntrySound p (level - 1) (λ t. nodeSound p (level - 1) t)
+innerSound p below = innerEntrySound p below (λ t. nodeSound p below t)

@@ -1,20 +1,15 @@
 // Soundness of a pool, over any words of a valid length. The node check calls the entry check and the entry check calls the node check;
 // the level and the entries left fall.
 ghost use mathlib.Core.Path.{_≡_};
-ghost use mathlib.Core.Bool.{true, false, _&&_};
-ghost use Prim.Native.Nat.{_+_, _-_, _<_, _≤_};
-ghost use lib.Dec.{eqb};
-ghost use lib.ListN.{drop};
+ghost use mathlib.Core.Bool.{true};
+ghost use lib.ListN.{length, drop};
 ghost use Rattle.rules.specs.Lists.{every};
-ghost use Rattle.rules.specs.Geometry as G;
 ghost use Rattle.rules.specs.Layout as L;
 ghost use Rattle.rules.specs.Pool as P;
 ghost use Rattle.rules.specs.Sound as S;
 ghost use Rattle.pool.specs.Slots.{InPool};
-ghost use Rattle.sound.specs.State.{innerSound};
+ghost use Rattle.sound.specs.State.{entryFits, innerSound};
 use rules::Entry;
-use rules::Pointer;
-use rules::Rect;
 use rules::SlotNumber;
 
 // "A leaf entry needs a valid rectangle and number."
@@ -22,10 +17,7 @@ fn leaf_entry_sound(e: Entry) -> bool
     ensures { λ r. ⌜ r ≡ S.leafEntrySound e ⌝ }
 {
     let r = e.rect;
-    let p = e.pointer;
-    let Pointer::Number(n) = p else {
-        return false;
-    };
+    let n = nodes::number_of(e);
     let ok = geometry::le(1, n.0);
     geometry::and(geometry::valid(r), ok)
 }
@@ -47,58 +39,20 @@ fn leaf_sound(pool: &[i32], s: SlotNumber) -> bool
     true
 }
 
-// "a slot from 1 to N"
-fn is_slot(pool: &[i32], s: SlotNumber) -> bool
-    ensures { λ r. ⌜ r ≡ S.isSlot (L.read (now (pool .entry))) s ⌝ }
-{
-    let n = s.0;
-    if n < 1 {
-        return false;
-    }
-    n <= pool::slot_count(pool)
-}
-
-// The smallest rectangle that holds a node's entries; of none, the point (0, 0).
-fn cover_at(pool: &[i32], s: SlotNumber) -> Rect
-    requires { ⌜ InPool (now pool) s ⌝ }
-    ensures { λ r. ⌜ r ≡ P.coverOf (P.entriesAt (L.read (now (pool .entry))) s) ⌝ }
-{
-    if pool::count_of(pool, s) == 0 {
-        return Rect {
-            lowX: 0,
-            lowY: 0,
-            highX: 0,
-            highY: 0,
-        };
-    }
-    free_slots::cover_of(pool, s)
-}
-
 // "its pointer is a slot from 1 to N whose node is .. one level lower, and its rectangle is the smallest holding that node's entries"
 fn entry_fits(pool: &[i32], e: Entry, below: usize) -> bool
     requires { ⌜ L.validLength (now pool) ≡ true ⌝ }
-    ensures { λ r. ⌜ r ≡ (S.isSlot (L.read (now (pool .entry))) (P.childOf e) && eqb (P.nodeAt (L.read (now (pool .entry))) (P.childOf e) .level) below && G.sameRect (e .rect) (P.coverOf (P.entriesAt (L.read (now (pool .entry))) (P.childOf e)))) ⌝ }
+    ensures { λ r. ⌜ r ≡ entryFits (L.read (now (pool .entry))) below e ⌝ }
 {
     let r = e.rect;
-    let c = child(e);
-    if !is_slot(pool, c) {
+    let c = nodes::child(e);
+    if !nodes::is_slot(pool, c) {
         return false;
     }
     if pool::level_of(pool, c) != below {
         return false;
     }
-    geometry::same_rect(r, cover_at(pool, c))
-}
-
-// The child that an inner entry leads to.
-fn child(e: Entry) -> SlotNumber
-    ensures { λ r. ⌜ r ≡ P.childOf e ⌝ }
-{
-    let p = e.pointer;
-    match p {
-        Pointer::Number(_) => SlotNumber(0),
-        Pointer::Child(s) => s,
-    }
+    geometry::same_rect(r, nodes::cover_of(pool, c))
 }
 
 // "A node is sound when its entries are": the node at s, which has the level given.
@@ -112,29 +66,29 @@ fn node_sound(pool: &[i32], level: usize, s: SlotNumber) -> bool
     if level == 1 {
         return leaf_sound(pool, s);
     }
-    entries_sound(pool, level, s, 0)
+    let n = pool::count_of(pool, s);
+    entries_sound(pool, level - 1, s, 0, n)
 }
 
 // "an inner entry is sound when its pointer is a slot from 1 to N whose node is sound and one level lower, ..": the entries from place i on
-// of the node at s, which has the level given.
-fn entries_sound(pool: &[i32], level: usize, s: SlotNumber, i: usize) -> bool
+// of the node at s, which has n. What they lead to has the level below.
+fn entries_sound(pool: &[i32], below: usize, s: SlotNumber, i: usize, n: usize) -> bool
     requires { ⌜ InPool (now pool) s ⌝ }
-    requires { ⌜ 2 ≤ level ⌝ }
-    requires { ⌜ i ≤ 8 ⌝ }
-    ensures { λ r. ⌜ r ≡ every (innerSound (L.read (now (pool .entry))) level) (drop i (P.entriesAt (L.read (now (pool .entry))) s)) ⌝ }
+    requires { ⌜ n ≡ length (P.entriesAt (L.read (now pool)) s) ⌝ }
+    ensures { λ r. ⌜ r ≡ every (innerSound (L.read (now (pool .entry))) below) (drop i (P.entriesAt (L.read (now (pool .entry))) s)) ⌝ }
 {
-    if pool::count_of(pool, s) <= i {
+    if n <= i {
         return true;
     }
     let e = pool::entry_of(pool, s, i);
-    if !entry_fits(pool, e, level - 1) {
+    if !entry_fits(pool, e, below) {
         return false;
     }
-    let c = child(e);
-    if !node_sound(pool, level - 1, c) {
+    let c = nodes::child(e);
+    if !node_sound(pool, below, c) {
         return false;
     }
-    entries_sound(pool, level, s, i + 1)
+    entries_sound(pool, below, s, i + 1, n)
 }
 
 // The node at s is free, or sound.

@@ -8,7 +8,7 @@ use native.Mathlib.Decide.{ℕ-discrete}
 use lib.Dec.{leb, eqb}
 use lib.ListN.{length, getD, drop, drop-of-length-le, length-append, length-map}
 use lib.Seq.{drop-cons}
-use borrow.Author.Tests.{le-leb, lt-leb, eq-eqb, ne-eqb}
+use borrow.Author.Tests.{le-leb, eq-eqb, ne-eqb}
 use Rattle.rules.specs.declared.SlotNumber.{SlotNumber}
 use Rattle.rules.specs.Lists.{those, every, joined, upFrom}
 use Rattle.rules.specs.Pool.{Node, Pool, slot, freeNode, slotNumbers, nodeAt, entriesAt, recordOf, isLeaf, stored}
@@ -133,17 +133,13 @@ shaped-is p s = refl
 -- ---- the root
 
 module _ (p : Pool) where
-  pub root-low : p .root .0 < 1 → false ≡ rootSound p
-  unfolding rootSound isSlot
-  root-low h = rw (lt-leb 1 (p .root .0) h)
+  pub root-none : isSlot p (p .root) ≡ false → false ≡ rootSound p
+  unfolding rootSound
+  root-none e = rw e
 
-  pub root-high : length (p .slots) < p .root .0 → 1 ≤ p .root .0 → false ≡ rootSound p
-  unfolding rootSound isSlot
-  root-high h l = rw (le-leb 1 (p .root .0) l, lt-leb (p .root .0) (length (p .slots)) h)
-
-  pub root-level : 1 ≤ p .root .0 → p .root .0 ≤ length (p .slots) → eqb (nodeAt p (p .root) .level) (p .height) ≡ rootSound p
-  unfolding rootSound isSlot
-  root-level l h = rw (le-leb 1 (p .root .0) l, le-leb (p .root .0) (length (p .slots)) h)
+  pub root-level : isSlot p (p .root) ≡ true → eqb (nodeAt p (p .root) .level) (p .height) ≡ rootSound p
+  unfolding rootSound
+  root-level e = rw e
 
 -- ---- the records
 

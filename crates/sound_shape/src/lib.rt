@@ -82,19 +82,11 @@ fn count_parents(pool: &[i32], counts: &mut [u32; 4096])
 
 // ---- what is asked of each slot
 
-fn same_slot(a: SlotNumber, b: SlotNumber) -> bool
-    ensures { λ r. ⌜ r ≡ P.sameSlot a b ⌝ }
-{
-    let m = a.0;
-    let n = b.0;
-    m == n
-}
-
 fn is_root(pool: &[i32], s: SlotNumber) -> bool
     requires { ⌜ L.validLength (now pool) ≡ true ⌝ }
     ensures { λ r. ⌜ r ≡ S.isRoot (L.read (now (pool .entry))) s ⌝ }
 {
-    same_slot(s, pool::root_of(pool))
+    nodes::same_slot(s, pool::root_of(pool))
 }
 
 // "levels are 0 to the height"
@@ -206,11 +198,7 @@ fn root_sound(pool: &[i32]) -> bool
     ensures { λ r. ⌜ r ≡ S.rootSound (L.read (now (pool .entry))) ⌝ }
 {
     let root = pool::root_of(pool);
-    let n = root.0;
-    if n < 1 {
-        return false;
-    }
-    if pool::slot_count(pool) < n {
+    if !nodes::is_slot(pool, root) {
         return false;
     }
     pool::level_of(pool, root) == pool::height_of(pool)

@@ -6,7 +6,7 @@ use Rattle.delete.proofs.none_aside.Statement.{statement}
 use Rattle.delete.proofs.none_aside.Tie as tie
 use Rattle.delete.proofs.none_aside.Reads as reads
 use Rattle.delete.proofs.none_aside.Lts as lts
-use Rattle.delete.proofs.no_entry.Reads as no-entry-reads
+use Rattle.pool.proofs.no_entry.Reads as no-entry-reads
 
 -- src/lib.rt:186:20
 no-entry-requires : tie.Need-no-entry-requires

@@ -6,7 +6,7 @@ use Rattle.rules.specs.Layout.{read}
 use Rattle.free_slots.specs.declared.FreeSlots.{FreeSlots}
 use Rattle.sound_laws.specs.Tree.{Slot}
 use Rattle.delete.proofs.Nodes.{few-read, in-pool, free-few}
-use Rattle.delete.proofs.Relieved.{out-slot, has-gone, has-tight}
+use Rattle.delete.proofs.Relieved.{child-leads, out-slot, has-gone, has-tight}
 use borrow.Author.Needs.{needs}
 use Rattle.delete.proofs.relieve.Statement.{statement}
 use Rattle.delete.proofs.relieve.Tie as tie
@@ -16,7 +16,7 @@ use Rattle.pool.proofs.count_of.Reads as count-of-reads
 use Rattle.pool.proofs.level_of.Reads as level-of-reads
 use Rattle.delete.proofs.set_aside.Reads as set-aside-reads
 use Rattle.delete.proofs.take_out.Reads as take-out-reads
-use Rattle.delete.proofs.tighten.Reads as tighten-reads
+use Rattle.nodes.proofs.tighten.Reads as tighten-reads
 use Rattle.delete.proofs.with_free.Reads as with-free-reads
 use Rattle.delete.proofs.zero_slot.Reads as zero-slot-reads
 
@@ -59,7 +59,7 @@ returns c = let s = c .before .before .before .before .before .before .before .b
 
 -- src/lib.rt:174:5
 tighten-requires : tie.Need-tighten-requires
-tighten-requires c κs = let s = c .before .before .before .before in (s .pre .0, (s .pre .1 .0, omega (arith, c .before .before .count-of .ensures .0, c .before .if1 .left)))
+tighten-requires c κs = let s = c .before .before .before .before in (s .pre .0, child-leads (s .pre .1 .0))
 
 -- src/lib.rt:159:1
 same-length-2 : tie.Need-same-length-2

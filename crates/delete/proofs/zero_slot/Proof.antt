@@ -7,7 +7,7 @@ use Rattle.delete.proofs.zero_slot.Tie as tie
 use Rattle.delete.proofs.zero_slot.Reads as reads
 use Rattle.delete.proofs.zero_slot.Lts as lts
 use Rattle.pool.proofs.put_node.Reads as put-node-reads
-use Rattle.delete.proofs.no_entry.Reads as no-entry-reads
+use Rattle.pool.proofs.no_entry.Reads as no-entry-reads
 
 -- src/lib.rt:93:17
 no-entry-requires : tie.Need-no-entry-requires

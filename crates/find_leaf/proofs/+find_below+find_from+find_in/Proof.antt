@@ -1,10 +1,13 @@
-use Prim.Native.Nat.{_+_, _*_, _-_}
+-- FindLeaf: a node, its entries from a place on, one entry. 10 for each level, and between two levels the entries that are left.
+use Prim.Native.Nat.{_+_, _*_, _-_, _≤_}
 use native.Mathlib.Omega.{arith}
-use Rattle.rules.specs.Pool.{entryAt}
+use lib.ListN.{length}
+use Rattle.rules.specs.Pool.{entriesAt, entryAt}
 use Rattle.rules.specs.Layout.{read}
 use Rattle.rules_laws.proofs.Bools.{not-true, not-false}
+use Rattle.nodes.proofs.Slots.{most-entries}
 use Rattle.find_leaf.specs.State.{findBelow}
-use Rattle.find_leaf.proofs.Places.{shows-long}
+use Rattle.find_leaf.proofs.Places.{gives-long}
 use Rattle.find_leaf.proofs.Turns.{none-in, leaf-in, inner-in, child-ends, child-found, child-later, below-none, below-in}
 use Prim.Native.Nat.{ℕ, _<_}
 use borrow.Fn.Kinds.{In}
@@ -18,25 +21,24 @@ use Rattle.find_leaf.proofs.+find_below+find_from+find_in.Lts-find_from
 use Rattle.find_leaf.proofs.find_in.Reads as find-in
 use Rattle.find_leaf.proofs.find_in.Kinds as find-in-kinds
 use Rattle.find_leaf.proofs.+find_below+find_from+find_in.Lts-find_in as find-in-lts
-use Rattle.geometry.proofs.meets.Reads as meets-reads
-use Rattle.find_leaf.proofs.child.Reads as child-reads
-use Rattle.find_leaf.proofs.count_at.Reads as count-at-reads
-use Rattle.find_leaf.proofs.entry_at.Reads as entry-at-reads
 use Rattle.find_leaf.proofs.find_entry.Reads as find-entry-reads
 use Rattle.find_leaf.proofs.nowhere.Reads as nowhere-reads
 use Rattle.find_leaf.proofs.placed.Reads as placed-reads
-use Rattle.find_leaf.proofs.rect_at.Reads as rect-at-reads
+use Rattle.geometry.proofs.meets.Reads as meets-reads
+use Rattle.nodes.proofs.child_at.Reads as child-at-reads
+use Rattle.nodes.proofs.count_at.Reads as count-at-reads
+use Rattle.nodes.proofs.rect_at.Reads as rect-at-reads
 use Rattle.find_leaf.proofs.+find_below+find_from+find_in.{statement}
 use Rattle.find_leaf.proofs.+find_below+find_from+find_in.Tie.{close}
 
 abbrev μ-find-below : Measures 1 find-below-kinds.ps ℕ
-μ-find-below κs a = 10 * (a .1 .1 .0) + 10
+μ-find-below κs a = 10 * (a .1 .1 .0) + 1
 
 abbrev μ-find-from : Measures 1 find-from-kinds.ps ℕ
-μ-find-from κs a = 10 * (a .1 .1 .0) + a .1 .1 .1 .1 .0
+μ-find-from κs a = 10 * (a .1 .1 .0) + 1 + (a .1 .1 .1 .1 .1 .0 - a .1 .1 .1 .1 .0)
 
 abbrev μ-find-in : Measures 1 find-in-kinds.ps ℕ
-μ-find-in κs a = 10 * (a .1 .1 .0) + 9
+μ-find-in κs a = 10 * (a .1 .1 .0)
 
 abbrev find-below-at : ℕ → In 1 find-below-kinds.ps
 find-below-at t =
@@ -59,7 +61,6 @@ find-in-at t = and 1 find-in-kinds.ps (is 1 find-in-kinds.ps μ-find-in t) find-
 abbrev find-in-below : ℕ → In 1 find-in-kinds.ps
 find-in-below t = and 1 find-in-kinds.ps (falls 1 find-in-kinds.ps _<_ μ-find-in t) find-in.Pre
 
--- src/lib.rt:214:9
 find-below-rect-at-requires : (t : ℕ) → find-below-lts.Need-rect-at-requires (
   rect-at-reads.Asked,
   rect-at-reads.Learnt,
@@ -67,16 +68,13 @@ find-below-rect-at-requires : (t : ℕ) → find-below-lts.Need-rect-at-requires
   meets-reads.Learnt,
   nowhere-reads.Asked,
   nowhere-reads.Learnt,
-  entry-at-reads.Asked,
-  entry-at-reads.Learnt,
-  child-reads.Asked,
-  child-reads.Learnt,
+  child-at-reads.Asked,
+  child-at-reads.Learnt,
   find-in-below t,
   find-in.Post,
 ) (find-below-at t) find-below.Post
 find-below-rect-at-requires t c κs = (c .pre .1 .0, c .pre .1 .1 .1)
 
--- src/lib.rt:215:9
 find-below-meets-requires : (t : ℕ) → find-below-lts.Need-meets-requires (
   rect-at-reads.Asked,
   rect-at-reads.Learnt,
@@ -84,16 +82,13 @@ find-below-meets-requires : (t : ℕ) → find-below-lts.Need-meets-requires (
   meets-reads.Learnt,
   nowhere-reads.Asked,
   nowhere-reads.Learnt,
-  entry-at-reads.Asked,
-  entry-at-reads.Learnt,
-  child-reads.Asked,
-  child-reads.Learnt,
+  child-at-reads.Asked,
+  child-at-reads.Learnt,
   find-in-below t,
   find-in.Post,
 ) (find-below-at t) find-below.Post
 find-below-meets-requires t c κs = tt
 
--- src/lib.rt:216:9
 find-below-nowhere-requires : (t : ℕ) → find-below-lts.Need-nowhere-requires (
   rect-at-reads.Asked,
   rect-at-reads.Learnt,
@@ -101,16 +96,13 @@ find-below-nowhere-requires : (t : ℕ) → find-below-lts.Need-nowhere-requires
   meets-reads.Learnt,
   nowhere-reads.Asked,
   nowhere-reads.Learnt,
-  entry-at-reads.Asked,
-  entry-at-reads.Learnt,
-  child-reads.Asked,
-  child-reads.Learnt,
+  child-at-reads.Asked,
+  child-at-reads.Learnt,
   find-in-below t,
   find-in.Post,
 ) (find-below-at t) find-below.Post
 find-below-nowhere-requires t c κs = tt
 
--- src/lib.rt:216:9
 find-below-returns : (t : ℕ) → find-below-lts.Need-returns (
   rect-at-reads.Asked,
   rect-at-reads.Learnt,
@@ -118,50 +110,32 @@ find-below-returns : (t : ℕ) → find-below-lts.Need-returns (
   meets-reads.Learnt,
   nowhere-reads.Asked,
   nowhere-reads.Learnt,
-  entry-at-reads.Asked,
-  entry-at-reads.Learnt,
-  child-reads.Asked,
-  child-reads.Learnt,
+  child-at-reads.Asked,
+  child-at-reads.Learnt,
   find-in-below t,
   find-in.Post,
 ) (find-below-at t) find-below.Post
-find-below-returns t c = let s = c .before .before .before .before in let w = s .args .pool .now in let e = entryAt (read w) (s .args .s) (s .args .i) in below-none (read w) (s .args .r) (s .args .level) e (c .before .before .before .rect-at .result) (c .before .before .meets .result) (c .before .before .before .rect-at .ensures) (c .before .before .meets .ensures) (c .nowhere .result) (not-true (c .before .before .meets .result) (c .before .if1 .taken)) (c .nowhere .ensures)
+find-below-returns t c =
+    let s = c .before .before .before .before in
+    let p = read (s .args .pool .now) in
+    let q = c .before .before .before .rect-at in
+    let m = c .before .before .meets in
+    below-none p (s .args .r) (s .args .below) (entryAt p (s .args .s) (s .args .i)) (q .result) (m .result) (q .ensures) (m .ensures) (c .nowhere .result) (not-true (m .result) (c .before .if1 .taken)) (c .nowhere .ensures)
 
--- src/lib.rt:218:19
-find-below-entry-at-requires : (t : ℕ) → find-below-lts.Need-entry-at-requires (
+find-below-child-at-requires : (t : ℕ) → find-below-lts.Need-child-at-requires (
   rect-at-reads.Asked,
   rect-at-reads.Learnt,
   meets-reads.Asked,
   meets-reads.Learnt,
   nowhere-reads.Asked,
   nowhere-reads.Learnt,
-  entry-at-reads.Asked,
-  entry-at-reads.Learnt,
-  child-reads.Asked,
-  child-reads.Learnt,
+  child-at-reads.Asked,
+  child-at-reads.Learnt,
   find-in-below t,
   find-in.Post,
 ) (find-below-at t) find-below.Post
-find-below-entry-at-requires t c κs = (c .before .before .before .pre .1 .0, c .before .before .before .pre .1 .1 .1)
+find-below-child-at-requires t c κs = let s = c .before .before .before in (s .pre .1 .0, s .pre .1 .1 .1)
 
--- src/lib.rt:218:9
-find-below-child-requires : (t : ℕ) → find-below-lts.Need-child-requires (
-  rect-at-reads.Asked,
-  rect-at-reads.Learnt,
-  meets-reads.Asked,
-  meets-reads.Learnt,
-  nowhere-reads.Asked,
-  nowhere-reads.Learnt,
-  entry-at-reads.Asked,
-  entry-at-reads.Learnt,
-  child-reads.Asked,
-  child-reads.Learnt,
-  find-in-below t,
-  find-in.Post,
-) (find-below-at t) find-below.Post
-find-below-child-requires t c κs = tt
-
--- src/lib.rt:219:5
 find-below-find-in-requires : (t : ℕ) → find-below-lts.Need-find-in-requires (
   rect-at-reads.Asked,
   rect-at-reads.Learnt,
@@ -169,16 +143,13 @@ find-below-find-in-requires : (t : ℕ) → find-below-lts.Need-find-in-requires
   meets-reads.Learnt,
   nowhere-reads.Asked,
   nowhere-reads.Learnt,
-  entry-at-reads.Asked,
-  entry-at-reads.Learnt,
-  child-reads.Asked,
-  child-reads.Learnt,
+  child-at-reads.Asked,
+  child-at-reads.Learnt,
   find-in-below t,
   find-in.Post,
 ) (find-below-at t) find-below.Post
-find-below-find-in-requires t c κs = (omega (arith, c .before .before .before .before .before .pre .0), (c .before .before .before .before .before .pre .1 .0, c .before .before .before .before .before .pre .1 .1 .0))
+find-below-find-in-requires t c κs = let s = c .before .before .before .before in (omega (arith, s .pre .0), (s .pre .1 .0, s .pre .1 .1 .0))
 
--- src/lib.rt:208:1
 find-below-returns-2 : (t : ℕ) → find-below-lts.Need-returns-2 (
   rect-at-reads.Asked,
   rect-at-reads.Learnt,
@@ -186,21 +157,23 @@ find-below-returns-2 : (t : ℕ) → find-below-lts.Need-returns-2 (
   meets-reads.Learnt,
   nowhere-reads.Asked,
   nowhere-reads.Learnt,
-  entry-at-reads.Asked,
-  entry-at-reads.Learnt,
-  child-reads.Asked,
-  child-reads.Learnt,
+  child-at-reads.Asked,
+  child-at-reads.Learnt,
   find-in-below t,
   find-in.Post,
 ) (find-below-at t) find-below.Post
-find-below-returns-2 t c = let s = c .before .before .before .before .before .before in let w = s .args .pool .now in let e = entryAt (read w) (s .args .s) (s .args .i) in below-in (read w) (s .args .r) (s .args .level) e (c .before .before .before .before .before .rect-at .result) (c .before .before .before .before .meets .result) (c .before .before .before .before .before .rect-at .ensures) (c .before .before .before .before .meets .ensures) (c .before .before .entry-at .result) (c .before .child .result) (c .find-in .result) (not-false (c .before .before .before .before .meets .result) (c .before .before .before .if1 .left)) (c .before .before .entry-at .ensures) (c .before .child .ensures) (c .find-in .ensures)
+find-below-returns-2 t c =
+    let s = c .before .before .before .before .before in
+    let p = read (s .args .pool .now) in
+    let q = c .before .before .before .before .rect-at in
+    let m = c .before .before .before .meets in
+    let child = c .before .child-at in
+    below-in p (s .args .r) (s .args .below) (entryAt p (s .args .s) (s .args .i)) (q .result) (m .result) (q .ensures) (m .ensures)
+    (child .result) (c .find-in .result) (not-false (m .result) (c .before .before .if1 .left)) (child .ensures) (c .find-in .ensures)
 
--- src/lib.rt:194:9
 find-from-nowhere-requires : (t : ℕ) → find-from-lts.Need-nowhere-requires (
   nowhere-reads.Asked,
   nowhere-reads.Learnt,
-  count-at-reads.Asked,
-  count-at-reads.Learnt,
   find-below-below t,
   find-below.Post,
   placed-reads.Asked,
@@ -210,12 +183,9 @@ find-from-nowhere-requires : (t : ℕ) → find-from-lts.Need-nowhere-requires (
 ) (find-from-at t) find-from.Post
 find-from-nowhere-requires t c κs = tt
 
--- src/lib.rt:194:9
 find-from-returns : (t : ℕ) → find-from-lts.Need-returns (
   nowhere-reads.Asked,
   nowhere-reads.Learnt,
-  count-at-reads.Asked,
-  count-at-reads.Learnt,
   find-below-below t,
   find-below.Post,
   placed-reads.Asked,
@@ -223,59 +193,15 @@ find-from-returns : (t : ℕ) → find-from-lts.Need-returns (
   find-from-below t,
   find-from.Post,
 ) (find-from-at t) find-from.Post
-find-from-returns t c = let s = c .before .before in let w = s .args .pool .now in child-ends (read w) (s .args .r) (s .args .s) (s .args .level) (s .args .left) (c .nowhere .result) (c .before .if1 .taken) (c .nowhere .ensures)
+find-from-returns t c =
+    let s = c .before .before in
+    let p = read (s .args .pool .now) in
+    let end : length (entriesAt p (s .args .s)) ≤ s .args .i = omega (arith, s .pre .1 .1 .1, c .before .if1 .taken) in
+    child-ends p (s .args .r) (s .args .s) (s .args .i) (c .nowhere .result) end (c .nowhere .ensures) (s .args .below)
 
--- src/lib.rt:196:9
-find-from-count-at-requires : (t : ℕ) → find-from-lts.Need-count-at-requires (
-  nowhere-reads.Asked,
-  nowhere-reads.Learnt,
-  count-at-reads.Asked,
-  count-at-reads.Learnt,
-  find-below-below t,
-  find-below.Post,
-  placed-reads.Asked,
-  placed-reads.Learnt,
-  find-from-below t,
-  find-from.Post,
-) (find-from-at t) find-from.Post
-find-from-count-at-requires t c κs = c .before .pre .1 .0
-
--- src/lib.rt:197:13
-find-from-sub-i : (t : ℕ) → find-from-lts.Need-sub-i (
-  nowhere-reads.Asked,
-  nowhere-reads.Learnt,
-  count-at-reads.Asked,
-  count-at-reads.Learnt,
-  find-below-below t,
-  find-below.Post,
-  placed-reads.Asked,
-  placed-reads.Learnt,
-  find-from-below t,
-  find-from.Post,
-) (find-from-at t) find-from.Post
-find-from-sub-i t c = omega (arith, c .before .before .pre .1 .1 .1 .1, c .count-at .ensures .0, c .before .if1 .left)
-
--- src/lib.rt:198:17
-find-from-sub-under : (t : ℕ) → find-from-lts.Need-sub-under (
-  nowhere-reads.Asked,
-  nowhere-reads.Learnt,
-  count-at-reads.Asked,
-  count-at-reads.Learnt,
-  find-below-below t,
-  find-below.Post,
-  placed-reads.Asked,
-  placed-reads.Learnt,
-  find-from-below t,
-  find-from.Post,
-) (find-from-at t) find-from.Post
-find-from-sub-under t c = omega (arith, c .before .before .pre .1 .1 .0)
-
--- src/lib.rt:199:9
 find-from-find-below-requires : (t : ℕ) → find-from-lts.Need-find-below-requires (
   nowhere-reads.Asked,
   nowhere-reads.Learnt,
-  count-at-reads.Asked,
-  count-at-reads.Learnt,
   find-below-below t,
   find-below.Post,
   placed-reads.Asked,
@@ -283,14 +209,27 @@ find-from-find-below-requires : (t : ℕ) → find-from-lts.Need-find-below-requ
   find-from-below t,
   find-from.Post,
 ) (find-from-at t) find-from.Post
-find-from-find-below-requires t c κs = (omega (arith, c .before .before .pre .0, c .before .before .pre .1 .1 .0, c .before .if1 .left), (c .before .before .pre .1 .0, (omega (arith, c .before .before .pre .1 .1 .1 .0), omega (arith, c .before .before .pre .1 .1 .1 .1, c .count-at .ensures .0, c .before .if1 .left))))
+find-from-find-below-requires t c κs =
+    let s = c .before in (
+      omega (arith, s .pre .0, c .if1 .left),
+      (s .pre .1 .0, (omega (arith, s .pre .1 .1 .0), omega (arith, s .pre .1 .1 .1, c .if1 .left))),
+    )
 
--- src/lib.rt:201:9
+find-from-add-placed : (t : ℕ) → find-from-lts.Need-add-placed (
+  nowhere-reads.Asked,
+  nowhere-reads.Learnt,
+  find-below-below t,
+  find-below.Post,
+  placed-reads.Asked,
+  placed-reads.Learnt,
+  find-from-below t,
+  find-from.Post,
+) (find-from-at t) find-from.Post
+find-from-add-placed t c = omega (arith, c .before .before .before .pre .1 .1 .0)
+
 find-from-placed-requires : (t : ℕ) → find-from-lts.Need-placed-requires (
   nowhere-reads.Asked,
   nowhere-reads.Learnt,
-  count-at-reads.Asked,
-  count-at-reads.Learnt,
   find-below-below t,
   find-below.Post,
   placed-reads.Asked,
@@ -298,14 +237,17 @@ find-from-placed-requires : (t : ℕ) → find-from-lts.Need-placed-requires (
   find-from-below t,
   find-from.Post,
 ) (find-from-at t) find-from.Post
-find-from-placed-requires t c κs = let s = c .before .before .before .before in let w = s .args .pool .now in (shows-long (findBelow (read w) (s .args .r) (s .args .level - 1) (entryAt (read w) (s .args .s) (c .before .before .count-at .result - s .args .left))) (s .args .level - 1) (c .before .find-below .result) (c .before .find-below .ensures), (omega (arith, s .pre .1 .1 .0), omega (arith, s .pre .1 .1 .1 .0)))
+find-from-placed-requires t c κs =
+    let s = c .before .before .before in
+    let p = read (s .args .pool .now) in
+    let way = c .before .find-below in (
+      gives-long (findBelow p (s .args .r) (s .args .below) (entryAt p (s .args .s) (s .args .i))) (s .args .below) (way .result) (way .ensures),
+      (omega arith, omega (arith, s .pre .1 .1 .0)),
+    )
 
--- src/lib.rt:201:9
 find-from-returns-2 : (t : ℕ) → find-from-lts.Need-returns-2 (
   nowhere-reads.Asked,
   nowhere-reads.Learnt,
-  count-at-reads.Asked,
-  count-at-reads.Learnt,
   find-below-below t,
   find-below.Post,
   placed-reads.Asked,
@@ -313,14 +255,16 @@ find-from-returns-2 : (t : ℕ) → find-from-lts.Need-returns-2 (
   find-from-below t,
   find-from.Post,
 ) (find-from-at t) find-from.Post
-find-from-returns-2 t c = let s = c .before .before .before .before .before in let w = s .args .pool .now in child-found (read w) (s .args .r) (s .args .s) (s .args .left) (omega (arith, c .before .before .before .before .if1 .left)) (s .pre .1 .1 .1 .1) (c .before .before .before .count-at .result) (c .before .before .before .count-at .ensures .0) (s .args .level) (c .before .before .find-below .result) (c .placed .result) (c .before .before .find-below .ensures) (c .before .if2 .taken) (c .placed .ensures)
+find-from-returns-2 t c =
+    let s = c .before .before .before .before in
+    let p = read (s .args .pool .now) in
+    let there : s .args .i < length (entriesAt p (s .args .s)) = omega (arith, s .pre .1 .1 .1, c .before .before .before .if1 .left) in
+    let way = c .before .before .find-below in
+    child-found p (s .args .r) (s .args .s) (s .args .i) there (s .args .below) (way .result) (c .placed .result) (way .ensures) (c .before .if2 .taken) (c .placed .ensures)
 
--- src/lib.rt:203:34
-find-from-sub-find-from : (t : ℕ) → find-from-lts.Need-sub-find-from (
+find-from-add-find-from : (t : ℕ) → find-from-lts.Need-add-find-from (
   nowhere-reads.Asked,
   nowhere-reads.Learnt,
-  count-at-reads.Asked,
-  count-at-reads.Learnt,
   find-below-below t,
   find-below.Post,
   placed-reads.Asked,
@@ -328,14 +272,13 @@ find-from-sub-find-from : (t : ℕ) → find-from-lts.Need-sub-find-from (
   find-from-below t,
   find-from.Post,
 ) (find-from-at t) find-from.Post
-find-from-sub-find-from t c = omega (arith, c .before .before .before .if1 .left)
+find-from-add-find-from t c =
+    let s = c .before .before .before in
+    omega (arith, s .pre .1 .1 .1, c .before .before .if1 .left, most-entries (s .args .pool .now) (s .pre .1 .0) (s .args .s))
 
--- src/lib.rt:203:5
 find-from-find-from-requires : (t : ℕ) → find-from-lts.Need-find-from-requires (
   nowhere-reads.Asked,
   nowhere-reads.Learnt,
-  count-at-reads.Asked,
-  count-at-reads.Learnt,
   find-below-below t,
   find-below.Post,
   placed-reads.Asked,
@@ -343,14 +286,13 @@ find-from-find-from-requires : (t : ℕ) → find-from-lts.Need-find-from-requir
   find-from-below t,
   find-from.Post,
 ) (find-from-at t) find-from.Post
-find-from-find-from-requires t c κs = (omega (arith, c .before .before .before .before .pre .0, c .before .before .before .if1 .left), (c .before .before .before .before .pre .1 .0, (c .before .before .before .before .pre .1 .1 .0, (c .before .before .before .before .pre .1 .1 .1 .0, omega (arith, c .before .before .before .before .pre .1 .1 .1 .1)))))
+find-from-find-from-requires t c κs =
+    let s = c .before .before .before in
+    (omega (arith, s .pre .0, c .before .before .if1 .left), (s .pre .1 .0, (s .pre .1 .1 .0, s .pre .1 .1 .1)))
 
--- src/lib.rt:186:1
 find-from-returns-3 : (t : ℕ) → find-from-lts.Need-returns-3 (
   nowhere-reads.Asked,
   nowhere-reads.Learnt,
-  count-at-reads.Asked,
-  count-at-reads.Learnt,
   find-below-below t,
   find-below.Post,
   placed-reads.Asked,
@@ -358,9 +300,13 @@ find-from-returns-3 : (t : ℕ) → find-from-lts.Need-returns-3 (
   find-from-below t,
   find-from.Post,
 ) (find-from-at t) find-from.Post
-find-from-returns-3 t c = let s = c .before .before .before .before .before in let w = s .args .pool .now in child-later (read w) (s .args .r) (s .args .s) (s .args .left) (omega (arith, c .before .before .before .before .if1 .left)) (s .pre .1 .1 .1 .1) (c .before .before .before .count-at .result) (c .before .before .before .count-at .ensures .0) (s .args .level) (c .before .before .find-below .result) (c .find-from .result) (c .before .before .find-below .ensures) (c .before .if2 .left) (c .find-from .ensures)
+find-from-returns-3 t c =
+    let s = c .before .before .before .before in
+    let p = read (s .args .pool .now) in
+    let there : s .args .i < length (entriesAt p (s .args .s)) = omega (arith, s .pre .1 .1 .1, c .before .before .before .if1 .left) in
+    let way = c .before .before .find-below in
+    child-later p (s .args .r) (s .args .s) (s .args .i) there (s .args .below) (way .result) (c .find-from .result) (way .ensures) (c .before .if2 .left) (c .find-from .ensures)
 
--- src/lib.rt:175:9
 find-in-nowhere-requires : (t : ℕ) → find-in-lts.Need-nowhere-requires (
   nowhere-reads.Asked,
   nowhere-reads.Learnt,
@@ -373,7 +319,6 @@ find-in-nowhere-requires : (t : ℕ) → find-in-lts.Need-nowhere-requires (
 ) (find-in-at t) find-in.Post
 find-in-nowhere-requires t c κs = tt
 
--- src/lib.rt:175:9
 find-in-returns : (t : ℕ) → find-in-lts.Need-returns (
   nowhere-reads.Asked,
   nowhere-reads.Learnt,
@@ -384,9 +329,11 @@ find-in-returns : (t : ℕ) → find-in-lts.Need-returns (
   find-from-below t,
   find-from.Post,
 ) (find-in-at t) find-in.Post
-find-in-returns t c = let s = c .before .before in let w = s .args .pool .now in none-in (read w) (s .args .r) (s .args .s) (s .args .level) (c .nowhere .result) (c .before .if1 .taken) (c .nowhere .ensures)
+find-in-returns t c =
+    let s = c .before .before in
+    let p = read (s .args .pool .now) in
+    none-in p (s .args .r) (s .args .s) (s .args .level) (c .nowhere .result) (c .before .if1 .taken) (c .nowhere .ensures)
 
--- src/lib.rt:177:9
 find-in-count-at-requires : (t : ℕ) → find-in-lts.Need-count-at-requires (
   nowhere-reads.Asked,
   nowhere-reads.Learnt,
@@ -399,7 +346,6 @@ find-in-count-at-requires : (t : ℕ) → find-in-lts.Need-count-at-requires (
 ) (find-in-at t) find-in.Post
 find-in-count-at-requires t c κs = c .before .pre .1 .0
 
--- src/lib.rt:179:9
 find-in-find-entry-requires : (t : ℕ) → find-in-lts.Need-find-entry-requires (
   nowhere-reads.Asked,
   nowhere-reads.Learnt,
@@ -410,9 +356,8 @@ find-in-find-entry-requires : (t : ℕ) → find-in-lts.Need-find-entry-requires
   find-from-below t,
   find-from.Post,
 ) (find-in-at t) find-in.Post
-find-in-find-entry-requires t c κs = (c .before .before .before .pre .1 .0, omega (arith, c .before .count-at .ensures .0))
+find-in-find-entry-requires t c κs = (c .before .before .before .pre .1 .0, c .before .count-at .ensures .0)
 
--- src/lib.rt:179:9
 find-in-returns-2 : (t : ℕ) → find-in-lts.Need-returns-2 (
   nowhere-reads.Asked,
   nowhere-reads.Learnt,
@@ -423,9 +368,23 @@ find-in-returns-2 : (t : ℕ) → find-in-lts.Need-returns-2 (
   find-from-below t,
   find-from.Post,
 ) (find-in-at t) find-in.Post
-find-in-returns-2 t c = let s = c .before .before .before .before in let w = s .args .pool .now in leaf-in (read w) (s .args .r) (s .args .s) (s .args .level) (c .before .before .count-at .result) (c .find-entry .result) (c .before .if2 .taken) (c .before .before .count-at .ensures .0) (c .find-entry .ensures)
+find-in-returns-2 t c =
+    let s = c .before .before .before .before in
+    let p = read (s .args .pool .now) in
+    leaf-in p (s .args .r) (s .args .s) (s .args .level) (c .find-entry .result) (c .before .if2 .taken) (c .find-entry .ensures)
 
--- src/lib.rt:181:5
+find-in-sub-find-from : (t : ℕ) → find-in-lts.Need-sub-find-from (
+  nowhere-reads.Asked,
+  nowhere-reads.Learnt,
+  count-at-reads.Asked,
+  count-at-reads.Learnt,
+  find-entry-reads.Asked,
+  find-entry-reads.Learnt,
+  find-from-below t,
+  find-from.Post,
+) (find-in-at t) find-in.Post
+find-in-sub-find-from t c = omega (arith, c .before .before .if1 .left)
+
 find-in-find-from-requires : (t : ℕ) → find-in-lts.Need-find-from-requires (
   nowhere-reads.Asked,
   nowhere-reads.Learnt,
@@ -436,9 +395,12 @@ find-in-find-from-requires : (t : ℕ) → find-in-lts.Need-find-from-requires (
   find-from-below t,
   find-from.Post,
 ) (find-in-at t) find-in.Post
-find-in-find-from-requires t c κs = (omega (arith, c .before .before .before .pre .0, c .before .count-at .ensures .1), (c .before .before .before .pre .1 .0, (omega (arith, c .before .before .if1 .left, c .if2 .left), (c .before .before .before .pre .1 .1, omega (arith, c .before .count-at .ensures .0)))))
+find-in-find-from-requires t c κs =
+    let s = c .before .before .before in
+    let n = c .before .count-at in
+    let some = c .before .before .if1 .left in
+    (omega (arith, s .pre .0, n .ensures .1, some), (s .pre .1 .0, (omega (arith, s .pre .1 .1, some), n .ensures .0)))
 
--- src/lib.rt:169:1
 find-in-returns-3 : (t : ℕ) → find-in-lts.Need-returns-3 (
   nowhere-reads.Asked,
   nowhere-reads.Learnt,
@@ -449,7 +411,11 @@ find-in-returns-3 : (t : ℕ) → find-in-lts.Need-returns-3 (
   find-from-below t,
   find-from.Post,
 ) (find-in-at t) find-in.Post
-find-in-returns-3 t c = let s = c .before .before .before .before in let w = s .args .pool .now in inner-in (read w) (s .args .r) (s .args .s) (s .args .level) (c .before .before .count-at .result) (c .find-from .result) (omega (arith, c .before .before .before .if1 .left, c .before .if2 .left)) (c .before .before .count-at .ensures .0) (c .find-from .ensures)
+find-in-returns-3 t c =
+    let s = c .before .before .before .before in
+    let p = read (s .args .pool .now) in
+    let two : 2 ≤ s .args .level = omega (arith, c .before .before .before .if1 .left, c .before .if2 .left) in
+    inner-in p (s .args .r) (s .args .s) (s .args .level) (c .find-from .result) two (c .find-from .ensures)
 
 pub +find-below+find-from+find-in-spec : {M : Type 1} → statement M
 +find-below+find-from+find-in-spec =
@@ -460,10 +426,8 @@ pub +find-below+find-from+find-in-spec : {M : Type 1} → statement M
       meets-reads.Learnt,
       nowhere-reads.Asked,
       nowhere-reads.Learnt,
-      entry-at-reads.Asked,
-      entry-at-reads.Learnt,
-      child-reads.Asked,
-      child-reads.Learnt,
+      child-at-reads.Asked,
+      child-at-reads.Learnt,
       find-in-below t,
       find-in.Post,
     )
@@ -473,15 +437,12 @@ pub +find-below+find-from+find-in-spec : {M : Type 1} → statement M
     (find-below-meets-requires t)
     (find-below-nowhere-requires t)
     (find-below-returns t)
-    (find-below-entry-at-requires t)
-    (find-below-child-requires t)
+    (find-below-child-at-requires t)
     (find-below-find-in-requires t)
     (find-below-returns-2 t))
     (λ t. find-from-lts.spec (
       nowhere-reads.Asked,
       nowhere-reads.Learnt,
-      count-at-reads.Asked,
-      count-at-reads.Learnt,
       find-below-below t,
       find-below.Post,
       placed-reads.Asked,
@@ -493,13 +454,11 @@ pub +find-below+find-from+find-in-spec : {M : Type 1} → statement M
     find-from.Post
     (find-from-nowhere-requires t)
     (find-from-returns t)
-    (find-from-count-at-requires t)
-    (find-from-sub-i t)
-    (find-from-sub-under t)
     (find-from-find-below-requires t)
+    (find-from-add-placed t)
     (find-from-placed-requires t)
     (find-from-returns-2 t)
-    (find-from-sub-find-from t)
+    (find-from-add-find-from t)
     (find-from-find-from-requires t)
     (find-from-returns-3 t))
     λ t. find-in-lts.spec (
@@ -519,5 +478,6 @@ pub +find-below+find-from+find-in-spec : {M : Type 1} → statement M
     (find-in-count-at-requires t)
     (find-in-find-entry-requires t)
     (find-in-returns-2 t)
+    (find-in-sub-find-from t)
     (find-in-find-from-requires t)
     (find-in-returns-3 t)

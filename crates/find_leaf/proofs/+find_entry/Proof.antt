@@ -1,5 +1,10 @@
+-- The leaf's entries from a place on: the first that is the pair, or what those after it give. The entries left fall.
+use Prim.Native.Nat.{_-_, _<_}
 use native.Mathlib.Omega.{arith}
+use lib.ListN.{length}
+use Rattle.rules.specs.Pool.{entriesAt}
 use Rattle.rules.specs.Layout.{read}
+use Rattle.nodes.proofs.Slots.{most-entries}
 use Rattle.find_leaf.proofs.Turns.{entry-ends, entry-found, entry-later}
 use Prim.Native.Nat.{ℕ, _<_}
 use borrow.Fn.Kinds.{In}
@@ -7,17 +12,16 @@ use borrow.Fn.PlainCycle.{Measures, is, falls, and}
 use Rattle.find_leaf.proofs.find_entry.Reads as find-entry
 use Rattle.find_leaf.proofs.find_entry.Kinds as find-entry-kinds
 use Rattle.find_leaf.proofs.+find_entry.Lts-find_entry as find-entry-lts
-use Rattle.find_leaf.proofs.count_at.Reads as count-at-reads
-use Rattle.find_leaf.proofs.entry_at.Reads as entry-at-reads
 use Rattle.find_leaf.proofs.nowhere.Reads as nowhere-reads
 use Rattle.find_leaf.proofs.placed.Reads as placed-reads
-use Rattle.find_leaf.proofs.record_of.Reads as record-of-reads
-use Rattle.find_leaf.proofs.same_pair.Reads as same-pair-reads
+use Rattle.geometry.proofs.same_pair.Reads as same-pair-reads
+use Rattle.nodes.proofs.entry_at.Reads as entry-at-reads
+use Rattle.nodes.proofs.record_of.Reads as record-of-reads
 use Rattle.find_leaf.proofs.+find_entry.{statement}
 use Rattle.find_leaf.proofs.+find_entry.Tie.{close}
 
 abbrev μ-find-entry : Measures 1 find-entry-kinds.ps ℕ
-μ-find-entry κs a = a .1 .1 .1 .0
+μ-find-entry κs a = a .1 .1 .1 .1 .0 - a .1 .1 .1 .0
 
 abbrev find-entry-at : ℕ → In 1 find-entry-kinds.ps
 find-entry-at t =
@@ -27,12 +31,9 @@ abbrev find-entry-below : ℕ → In 1 find-entry-kinds.ps
 find-entry-below t =
     and 1 find-entry-kinds.ps (falls 1 find-entry-kinds.ps _<_ μ-find-entry t) find-entry.Pre
 
--- src/lib.rt:157:9
 find-entry-nowhere-requires : (t : ℕ) → find-entry-lts.Need-nowhere-requires (
   nowhere-reads.Asked,
   nowhere-reads.Learnt,
-  count-at-reads.Asked,
-  count-at-reads.Learnt,
   entry-at-reads.Asked,
   entry-at-reads.Learnt,
   record-of-reads.Asked,
@@ -46,12 +47,9 @@ find-entry-nowhere-requires : (t : ℕ) → find-entry-lts.Need-nowhere-requires
 ) (find-entry-at t) find-entry.Post
 find-entry-nowhere-requires t c κs = tt
 
--- src/lib.rt:157:9
 find-entry-returns : (t : ℕ) → find-entry-lts.Need-returns (
   nowhere-reads.Asked,
   nowhere-reads.Learnt,
-  count-at-reads.Asked,
-  count-at-reads.Learnt,
   entry-at-reads.Asked,
   entry-at-reads.Learnt,
   record-of-reads.Asked,
@@ -63,52 +61,14 @@ find-entry-returns : (t : ℕ) → find-entry-lts.Need-returns (
   find-entry-below t,
   find-entry.Post,
 ) (find-entry-at t) find-entry.Post
-find-entry-returns t c = let s = c .before .before in let w = s .args .pool .now in entry-ends (read w) (s .args .r) (s .args .s) (s .args .left) (c .nowhere .result) (c .before .if1 .taken) (c .nowhere .ensures)
+find-entry-returns t c =
+    let s = c .before .before in
+    let p = read (s .args .pool .now) in
+    entry-ends p (s .args .r) (s .args .s) (s .args .i) (c .nowhere .result) (omega (arith, s .pre .1 .1, c .before .if1 .taken)) (c .nowhere .ensures)
 
--- src/lib.rt:159:9
-find-entry-count-at-requires : (t : ℕ) → find-entry-lts.Need-count-at-requires (
-  nowhere-reads.Asked,
-  nowhere-reads.Learnt,
-  count-at-reads.Asked,
-  count-at-reads.Learnt,
-  entry-at-reads.Asked,
-  entry-at-reads.Learnt,
-  record-of-reads.Asked,
-  record-of-reads.Learnt,
-  same-pair-reads.Asked,
-  same-pair-reads.Learnt,
-  placed-reads.Asked,
-  placed-reads.Learnt,
-  find-entry-below t,
-  find-entry.Post,
-) (find-entry-at t) find-entry.Post
-find-entry-count-at-requires t c κs = c .before .pre .1 .0
-
--- src/lib.rt:160:13
-find-entry-sub-i : (t : ℕ) → find-entry-lts.Need-sub-i (
-  nowhere-reads.Asked,
-  nowhere-reads.Learnt,
-  count-at-reads.Asked,
-  count-at-reads.Learnt,
-  entry-at-reads.Asked,
-  entry-at-reads.Learnt,
-  record-of-reads.Asked,
-  record-of-reads.Learnt,
-  same-pair-reads.Asked,
-  same-pair-reads.Learnt,
-  placed-reads.Asked,
-  placed-reads.Learnt,
-  find-entry-below t,
-  find-entry.Post,
-) (find-entry-at t) find-entry.Post
-find-entry-sub-i t c = omega (arith, c .before .before .pre .1 .1, c .count-at .ensures .0, c .before .if1 .left)
-
--- src/lib.rt:161:9
 find-entry-entry-at-requires : (t : ℕ) → find-entry-lts.Need-entry-at-requires (
   nowhere-reads.Asked,
   nowhere-reads.Learnt,
-  count-at-reads.Asked,
-  count-at-reads.Learnt,
   entry-at-reads.Asked,
   entry-at-reads.Learnt,
   record-of-reads.Asked,
@@ -120,14 +80,11 @@ find-entry-entry-at-requires : (t : ℕ) → find-entry-lts.Need-entry-at-requir
   find-entry-below t,
   find-entry.Post,
 ) (find-entry-at t) find-entry.Post
-find-entry-entry-at-requires t c κs = (c .before .before .pre .1 .0, omega (arith, c .before .before .pre .1 .1, c .count-at .ensures .0, c .before .if1 .left))
+find-entry-entry-at-requires t c κs = let s = c .before in (s .pre .1 .0, omega (arith, s .pre .1 .1, c .if1 .left))
 
--- src/lib.rt:162:21
 find-entry-record-of-requires : (t : ℕ) → find-entry-lts.Need-record-of-requires (
   nowhere-reads.Asked,
   nowhere-reads.Learnt,
-  count-at-reads.Asked,
-  count-at-reads.Learnt,
   entry-at-reads.Asked,
   entry-at-reads.Learnt,
   record-of-reads.Asked,
@@ -141,12 +98,9 @@ find-entry-record-of-requires : (t : ℕ) → find-entry-lts.Need-record-of-requ
 ) (find-entry-at t) find-entry.Post
 find-entry-record-of-requires t c κs = tt
 
--- src/lib.rt:162:8
 find-entry-same-pair-requires : (t : ℕ) → find-entry-lts.Need-same-pair-requires (
   nowhere-reads.Asked,
   nowhere-reads.Learnt,
-  count-at-reads.Asked,
-  count-at-reads.Learnt,
   entry-at-reads.Asked,
   entry-at-reads.Learnt,
   record-of-reads.Asked,
@@ -160,12 +114,9 @@ find-entry-same-pair-requires : (t : ℕ) → find-entry-lts.Need-same-pair-requ
 ) (find-entry-at t) find-entry.Post
 find-entry-same-pair-requires t c κs = tt
 
--- src/lib.rt:163:23
 find-entry-nowhere-requires-2 : (t : ℕ) → find-entry-lts.Need-nowhere-requires-2 (
   nowhere-reads.Asked,
   nowhere-reads.Learnt,
-  count-at-reads.Asked,
-  count-at-reads.Learnt,
   entry-at-reads.Asked,
   entry-at-reads.Learnt,
   record-of-reads.Asked,
@@ -179,12 +130,9 @@ find-entry-nowhere-requires-2 : (t : ℕ) → find-entry-lts.Need-nowhere-requir
 ) (find-entry-at t) find-entry.Post
 find-entry-nowhere-requires-2 t c κs = tt
 
--- src/lib.rt:163:9
 find-entry-placed-requires : (t : ℕ) → find-entry-lts.Need-placed-requires (
   nowhere-reads.Asked,
   nowhere-reads.Learnt,
-  count-at-reads.Asked,
-  count-at-reads.Learnt,
   entry-at-reads.Asked,
   entry-at-reads.Learnt,
   record-of-reads.Asked,
@@ -198,12 +146,9 @@ find-entry-placed-requires : (t : ℕ) → find-entry-lts.Need-placed-requires (
 ) (find-entry-at t) find-entry.Post
 find-entry-placed-requires t c κs = (c .nowhere2 .ensures .1, (omega arith, omega arith))
 
--- src/lib.rt:163:9
 find-entry-returns-2 : (t : ℕ) → find-entry-lts.Need-returns-2 (
   nowhere-reads.Asked,
   nowhere-reads.Learnt,
-  count-at-reads.Asked,
-  count-at-reads.Learnt,
   entry-at-reads.Asked,
   entry-at-reads.Learnt,
   record-of-reads.Asked,
@@ -215,14 +160,19 @@ find-entry-returns-2 : (t : ℕ) → find-entry-lts.Need-returns-2 (
   find-entry-below t,
   find-entry.Post,
 ) (find-entry-at t) find-entry.Post
-find-entry-returns-2 t c = let s = c .before .before .before .before .before .before .before .before in let w = s .args .pool .now in entry-found (read w) (s .args .r) (s .args .s) (s .args .left) (omega (arith, c .before .before .before .before .before .before .before .if1 .left)) (s .pre .1 .1) (c .before .before .before .before .before .before .count-at .result) (c .before .before .before .before .before .before .count-at .ensures .0) (c .before .before .before .before .before .entry-at .result) (c .before .before .before .before .record-of .result) (c .before .before .before .same-pair .result) (c .before .before .before .before .before .entry-at .ensures) (c .before .before .before .before .record-of .ensures) (c .before .before .before .same-pair .ensures) (c .before .nowhere2 .result) (c .placed .result) (c .before .before .if2 .taken) (c .placed .ensures)
+find-entry-returns-2 t c =
+    let s = c .before .before .before .before .before .before .before in
+    let p = read (s .args .pool .now) in
+    let there : s .args .i < length (entriesAt p (s .args .s)) = omega (arith, s .pre .1 .1, c .before .before .before .before .before .before .if1 .left) in
+    let e = c .before .before .before .before .before .entry-at in
+    let x = c .before .before .before .before .record-of in
+    let same = c .before .before .before .same-pair in
+    entry-found p (s .args .r) (s .args .s) (s .args .i) there (e .result) (x .result) (same .result) (e .ensures) (x .ensures) (same .ensures)
+    (c .before .nowhere2 .result) (c .placed .result) (c .before .before .if2 .taken) (c .placed .ensures)
 
--- src/lib.rt:165:28
-find-entry-sub-find-entry : (t : ℕ) → find-entry-lts.Need-sub-find-entry (
+find-entry-add-find-entry : (t : ℕ) → find-entry-lts.Need-add-find-entry (
   nowhere-reads.Asked,
   nowhere-reads.Learnt,
-  count-at-reads.Asked,
-  count-at-reads.Learnt,
   entry-at-reads.Asked,
   entry-at-reads.Learnt,
   record-of-reads.Asked,
@@ -234,14 +184,13 @@ find-entry-sub-find-entry : (t : ℕ) → find-entry-lts.Need-sub-find-entry (
   find-entry-below t,
   find-entry.Post,
 ) (find-entry-at t) find-entry.Post
-find-entry-sub-find-entry t c = omega (arith, c .before .before .before .before .before .if1 .left)
+find-entry-add-find-entry t c =
+    let s = c .before .before .before .before .before in
+    omega (arith, s .pre .1 .1, c .before .before .before .before .if1 .left, most-entries (s .args .pool .now) (s .pre .1 .0) (s .args .s))
 
--- src/lib.rt:165:5
 find-entry-find-entry-requires : (t : ℕ) → find-entry-lts.Need-find-entry-requires (
   nowhere-reads.Asked,
   nowhere-reads.Learnt,
-  count-at-reads.Asked,
-  count-at-reads.Learnt,
   entry-at-reads.Asked,
   entry-at-reads.Learnt,
   record-of-reads.Asked,
@@ -253,14 +202,13 @@ find-entry-find-entry-requires : (t : ℕ) → find-entry-lts.Need-find-entry-re
   find-entry-below t,
   find-entry.Post,
 ) (find-entry-at t) find-entry.Post
-find-entry-find-entry-requires t c κs = (omega (arith, c .before .before .before .before .before .before .pre .0, c .before .before .before .before .before .if1 .left), (c .before .before .before .before .before .before .pre .1 .0, omega (arith, c .before .before .before .before .before .before .pre .1 .1)))
+find-entry-find-entry-requires t c κs =
+    let s = c .before .before .before .before .before in
+    (omega (arith, s .pre .0, c .before .before .before .before .if1 .left), (s .pre .1 .0, s .pre .1 .1))
 
--- src/lib.rt:151:1
 find-entry-returns-3 : (t : ℕ) → find-entry-lts.Need-returns-3 (
   nowhere-reads.Asked,
   nowhere-reads.Learnt,
-  count-at-reads.Asked,
-  count-at-reads.Learnt,
   entry-at-reads.Asked,
   entry-at-reads.Learnt,
   record-of-reads.Asked,
@@ -272,14 +220,20 @@ find-entry-returns-3 : (t : ℕ) → find-entry-lts.Need-returns-3 (
   find-entry-below t,
   find-entry.Post,
 ) (find-entry-at t) find-entry.Post
-find-entry-returns-3 t c = let s = c .before .before .before .before .before .before .before in let w = s .args .pool .now in entry-later (read w) (s .args .r) (s .args .s) (s .args .left) (omega (arith, c .before .before .before .before .before .before .if1 .left)) (s .pre .1 .1) (c .before .before .before .before .before .count-at .result) (c .before .before .before .before .before .count-at .ensures .0) (c .before .before .before .before .entry-at .result) (c .before .before .before .record-of .result) (c .before .before .same-pair .result) (c .before .before .before .before .entry-at .ensures) (c .before .before .before .record-of .ensures) (c .before .before .same-pair .ensures) (c .find-entry .result) (c .before .if2 .left) (c .find-entry .ensures)
+find-entry-returns-3 t c =
+    let s = c .before .before .before .before .before .before in
+    let p = read (s .args .pool .now) in
+    let there : s .args .i < length (entriesAt p (s .args .s)) = omega (arith, s .pre .1 .1, c .before .before .before .before .before .if1 .left) in
+    let e = c .before .before .before .before .entry-at in
+    let x = c .before .before .before .record-of in
+    let same = c .before .before .same-pair in
+    entry-later p (s .args .r) (s .args .s) (s .args .i) there (e .result) (x .result) (same .result) (e .ensures) (x .ensures) (same .ensures)
+    (c .find-entry .result) (c .before .if2 .left) (c .find-entry .ensures)
 
 pub +find-entry-spec : {M : Type 1} → statement M
 +find-entry-spec = close μ-find-entry λ t. find-entry-lts.spec (
   nowhere-reads.Asked,
   nowhere-reads.Learnt,
-  count-at-reads.Asked,
-  count-at-reads.Learnt,
   entry-at-reads.Asked,
   entry-at-reads.Learnt,
   record-of-reads.Asked,
@@ -295,14 +249,12 @@ pub +find-entry-spec : {M : Type 1} → statement M
     find-entry.Post
     (find-entry-nowhere-requires t)
     (find-entry-returns t)
-    (find-entry-count-at-requires t)
-    (find-entry-sub-i t)
     (find-entry-entry-at-requires t)
     (find-entry-record-of-requires t)
     (find-entry-same-pair-requires t)
     (find-entry-nowhere-requires-2 t)
     (find-entry-placed-requires t)
     (find-entry-returns-2 t)
-    (find-entry-sub-find-entry t)
+    (find-entry-add-find-entry t)
     (find-entry-find-entry-requires t)
     (find-entry-returns-3 t)

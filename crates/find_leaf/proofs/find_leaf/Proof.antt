@@ -1,3 +1,4 @@
+-- From the root on, which has the level of the height.
 use native.Mathlib.Omega.{arith}
 use Rattle.rules.specs.Layout.{read}
 use Rattle.find_leaf.proofs.Turns.{from-root}
@@ -9,21 +10,21 @@ use Rattle.find_leaf.proofs.find_in.Reads as find-in-reads
 use Rattle.pool.proofs.height_of.Reads as height-of-reads
 use Rattle.pool.proofs.root_of.Reads as root-of-reads
 
--- src/lib.rt:228:9
 height-of-requires : tie.Need-height-of-requires
 height-of-requires c κs = c .pre .0
 
--- src/lib.rt:229:25
 root-of-requires : tie.Need-root-of-requires
 root-of-requires c κs = c .before .pre .0
 
--- src/lib.rt:229:5
 find-in-requires : tie.Need-find-in-requires
 find-in-requires c κs = (c .before .before .pre .0, omega (arith, c .before .height-of .ensures, c .before .before .pre .1))
 
--- src/lib.rt:223:1
 returns : tie.Need-returns
-returns c = let s = c .before .before .before in let w = s .args .pool .now in from-root (read w) (s .args .r) (c .before .before .height-of .result) (c .before .root-of .result) (c .find-in .result) (c .before .before .height-of .ensures) (c .before .root-of .ensures) (c .find-in .ensures)
+returns c =
+    let s = c .before .before .before in
+    let h = c .before .before .height-of in
+    let root = c .before .root-of in
+    from-root (read (s .args .pool .now)) (s .args .r) (h .result) (root .result) (c .find-in .result) (h .ensures) (root .ensures) (c .find-in .ensures)
 
 pub find-leaf-spec : {M : Type 1} → statement M
 find-leaf-spec = tie.close (tie.spec height-of-requires root-of-requires find-in-requires returns)

@@ -1,3 +1,4 @@
+-- What FindLeaf shows as found is what the pool holds.
 use Rattle.rules.specs.Layout.{read}
 use Rattle.find_leaf.proofs.Held.{shows-held, low-enough}
 use Rattle.find_leaf.proofs.holds.Statement.{statement}
@@ -6,13 +7,13 @@ use Rattle.find_leaf.proofs.holds.Reads as reads
 use Rattle.find_leaf.proofs.holds.Lts as lts
 use Rattle.find_leaf.proofs.find_leaf.Reads as find-leaf-reads
 
--- src/lib.rt:238:9
 find-leaf-requires : tie.Need-find-leaf-requires
 find-leaf-requires c κs = (c .pre .0, low-enough (c .args .pool .now) (c .pre .0) (c .pre .1))
 
--- src/lib.rt:233:1
 returns : tie.Need-returns
-returns c = let s = c .before in let w = s .args .pool .now in shows-held (read w) (s .args .r) (c .find-leaf .result) (s .pre .1) (c .find-leaf .ensures)
+returns c =
+    let s = c .before in
+    shows-held (read (s .args .pool .now)) (s .args .r) (c .find-leaf .result) (s .pre .1) (c .find-leaf .ensures)
 
 pub holds-spec : {M : Type 1} → statement M
 holds-spec = tie.close (tie.spec find-leaf-requires returns)

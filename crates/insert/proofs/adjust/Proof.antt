@@ -13,7 +13,7 @@ use Rattle.insert.proofs.adjust.Tie as tie
 use Rattle.insert.proofs.adjust.Reads as reads
 use Rattle.insert.proofs.adjust.Lts as lts
 use Rattle.insert.proofs.install.Reads as install-reads
-use Rattle.insert.proofs.tighten.Reads as tighten-reads
+use Rattle.nodes.proofs.tighten.Reads as tighten-reads
 
 -- src/lib.rt:173:21
 enum-known-grown : tie.Need-enum-known-grown

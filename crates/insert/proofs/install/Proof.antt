@@ -5,7 +5,8 @@ use native.Mathlib.Omega.{arith}
 use Rattle.rules.specs.Layout.{read}
 use Rattle.free_slots.proofs.LowestSlot.{at-some}
 use Rattle.insert_laws.proofs.Free.{lowest-slot}
-use Rattle.insert.proofs.Fitted.{slot-in, most-slots}
+use Rattle.nodes.proofs.Slots.{most-slots}
+use Rattle.insert.proofs.Fitted.{slot-in}
 use Rattle.insert.proofs.Divided.{here-node, here-stored, room-grows, split-grows, none-grows}
 use Rattle.insert.proofs.install.Statement.{statement}
 use Rattle.insert.proofs.install.Tie as tie

@@ -6,8 +6,9 @@ use native.Mathlib.Omega.{arith}
 use Rattle.rules.specs.Layout.{read}
 use Rattle.free_slots.proofs.LowestSlot.{at-some}
 use Rattle.insert_laws.proofs.Free.{lowest-slot}
-use Rattle.insert.proofs.Fitted.{slot-in, most-slots}
-use Rattle.insert.proofs.Roots.{two-small, two-kind, beside-slot, beside-some, old-stored, partner-stored, new-stuck, new-made}
+use Rattle.nodes.proofs.Slots.{most-slots}
+use Rattle.insert.proofs.Fitted.{slot-in}
+use Rattle.insert.proofs.Roots.{two-small, two-kind, beside-slot, old-stored, partner-stored, new-stuck, new-made}
 use Rattle.insert.proofs.new_root.Statement.{statement}
 use Rattle.insert.proofs.new_root.Tie as tie
 use Rattle.insert.proofs.new_root.Reads as reads
@@ -16,7 +17,7 @@ use Rattle.pool.proofs.height_of.Reads as height-of-reads
 use Rattle.pool.proofs.put_node.Reads as put-node-reads
 use Rattle.pool.proofs.put_root.Reads as put-root-reads
 use Rattle.pool.proofs.root_of.Reads as root-of-reads
-use Rattle.free_slots.proofs.cover_of.Reads as cover-of-reads
+use Rattle.nodes.proofs.cover_of.Reads as cover-of-reads
 use Rattle.free_slots.proofs.less_slot.Reads as less-slot-reads
 use Rattle.free_slots.proofs.lowest.Reads as lowest-reads
 
@@ -38,7 +39,9 @@ height-of-requires c κs = search needs
 
 -- src/lib.rt:211:17
 cover-of-requires : tie.Need-cover-of-requires
-cover-of-requires c κs = let s = c .before .before .before .before .before .before .before .before .before .before in let w = s .args .pool .now in let r = s .pre .0 in let h = s .pre .1 in let few = most-slots w (r .fit .right) in (slot-in w (c .before .before .before .root-of .result) (r .fit .right) (beside-slot h few (c .before .before .before .root-of .result) (c .before .before .before .root-of .ensures) (c .before .height-of .result) (c .before .height-of .ensures)), beside-some h few (c .before .before .before .root-of .result) (c .before .before .before .root-of .ensures) (c .before .height-of .result) (c .before .height-of .ensures))
+cover-of-requires c κs = let s = c .before .before .before .before .before .before .before .before .before .before in let w = s .args .pool .now in let r = s .pre .0 in let h = s .pre .1 in let few = most-slots w (r .fit .right) in
+    slot-in w (c .before .before .before .root-of .result) (r .fit .right)
+    (beside-slot h few (c .before .before .before .root-of .result) (c .before .before .before .root-of .ensures) (c .before .height-of .result) (c .before .height-of .ensures))
 
 -- src/lib.rt:214:13
 array-set-from-two : tie.Need-array-set-from-two

@@ -4,8 +4,9 @@ use borrow.Author.Needs.{needs}
 use native.Mathlib.Omega.{arith}
 use Rattle.rules.specs.Layout.{read}
 use Rattle.insert_laws.proofs.Free.{lowest-slot}
-use Rattle.insert.proofs.Fitted.{slot-in, most-slots}
-use Rattle.insert.proofs.Divided.{here-node, here-level, nine-length, nine-small, nine-kind, nine-valid, slot-kept, Parts, second-some, split-made}
+use Rattle.nodes.proofs.Slots.{most-slots}
+use Rattle.insert.proofs.Fitted.{slot-in}
+use Rattle.insert.proofs.Divided.{here-node, here-level, nine-length, nine-small, nine-kind, nine-valid, slot-kept, Parts, split-made}
 use Rattle.insert.proofs.split_node.Statement.{statement}
 use Rattle.insert.proofs.split_node.Tie as tie
 use Rattle.insert.proofs.split_node.Reads as reads
@@ -14,7 +15,7 @@ use Rattle.insert.proofs.nine_entries.Reads as nine-entries-reads
 use Rattle.insert.proofs.put_group.Reads as put-group-reads
 use Rattle.insert.proofs.rects_of.Reads as rects-of-reads
 use Rattle.pool.proofs.level_of.Reads as level-of-reads
-use Rattle.free_slots.proofs.cover_of.Reads as cover-of-reads
+use Rattle.nodes.proofs.cover_of.Reads as cover-of-reads
 use Rattle.split.proofs.split_nine.Reads as split-nine-reads
 
 -- src/lib.rt:118:9
@@ -43,7 +44,13 @@ put-group-requires-2 c κs = let s = c .before .before .before .before .before .
 
 -- src/lib.rt:127:9
 cover-of-requires : tie.Need-cover-of-requires
-cover-of-requires c κs = let s = c .before .before .before .before .before .before .before .before .before .before .before .before .before .before .before in let w = s .args .pool .now in let h = s .pre .1 .0 in let full = s .pre .1 .1 .0 in let low = s .pre .1 .1 .1 in let a : Parts h full low (c .before .before .before .before .before .before .before .before .before .before .before .nine-entries .result) (c .before .before .before .before .before .before .before .before .before .before .rects-of .result) (c .before .before .before .before .before .before .before .before .before .split-nine .result) = record { entries = c .before .before .before .before .before .before .before .before .before .before .before .nine-entries .ensures; rects-are = c .before .before .before .before .before .before .before .before .before .before .rects-of .ensures; one = c .before .before .before .before .before .before .before .before .before .split-nine .ensures .0; two = c .before .before .before .before .before .before .before .before .before .split-nine .ensures .1 .0; whole = c .before .before .before .before .before .before .before .before .before .split-nine .ensures .1 .1 } in (slot-in (c .before .before .put-group2 .last .0) (s .args .t) (c .before .before .put-group2 .ensures .1 .right) (slot-kept (s .args .t) (s .args .t) _ (slot-kept (s .args .s) (s .args .t) _ (lowest-slot (read w) (s .args .t) low) (c .before .before .before .before .before .put-group .ensures .0)) (c .before .before .put-group2 .ensures .0)), second-some h full low a (c .before .before .before .before .before .before .before .before .before .before .before .before .before .level-of .result) (c .before .before .before .before .before .before .before .before .before .before .before .before .before .level-of .ensures) (read (c .before .before .before .before .before .put-group .last .0)) (read (c .before .before .put-group2 .last .0)) (c .before .before .before .before .before .put-group .ensures .0) (c .before .before .put-group2 .ensures .0))
+cover-of-requires c κs =
+    let s = c .before .before .before .before .before .before .before .before .before .before .before .before .before .before .before in
+    let low = s .pre .1 .1 .1 in
+    let first = c .before .before .before .before .before .put-group in
+    let second = c .before .before .put-group2 in
+    let kept = slot-kept (s .args .s) (s .args .t) _ (lowest-slot (read (s .args .pool .now)) (s .args .t) low) (first .ensures .0) in
+    slot-in (second .last .0) (s .args .t) (second .ensures .1 .right) (slot-kept (s .args .t) (s .args .t) _ kept (second .ensures .0))
 
 -- src/lib.rt:110:1
 same-length : tie.Need-same-length

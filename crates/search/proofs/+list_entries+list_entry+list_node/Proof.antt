@@ -1,16 +1,13 @@
-use native.Mathlib.Omega.{arith}
+-- The walk: a node, its entries from a place on, one entry. 10 for each level, and between two levels the entries that are left.
 use borrow.Author.Needs.{needs}
-use mathlib.Core.Path.{sym, ap, _∙_}
-use Prim.Native.Nat.{_+_, _*_, _-_, _≤_}
+use Prim.Native.Nat.{_+_, _*_, _-_}
+use native.Mathlib.Omega.{arith}
 use lib.ListN.{length}
-use Rattle.rules.specs.Pool.{entriesAt, entryAt}
+use Rattle.rules.specs.Pool.{entriesAt}
 use Rattle.rules.specs.Layout.{read}
-use Rattle.rules.specs.Search.{foundIn, openedIn}
 use Rattle.rules_laws.proofs.Bools.{not-true, not-false}
-use Rattle.search.specs.State.{openedBelow, foundBelow, openedFrom, foundFrom}
-use Rattle.search.proofs.Nodes.{some-within, most-entries}
-use Rattle.search.proofs.Steps.{room-same, room-first, room-rest, room-opens, went-same, went-none, went-both, went-opens}
-use Rattle.search.proofs.Walks.{found-none, opened-none, node-found, node-opened, found-end, opened-end, found-next, opened-next, met-is, found-missed, opened-missed, leaf-found, leaf-opened, child-found, child-opened}
+use Rattle.nodes.proofs.Slots.{some-within, most-entries}
+use Rattle.search.proofs.Turns.{entry-missed, record-room, record-went, child-room, child-went, entries-end, first-room, later-room, all-went, none-went, node-room, node-few, node-went}
 use Prim.Native.Nat.{ℕ, _<_}
 use borrow.Fn.Kinds.{In}
 use borrow.Fn.PlainCycle.{Measures, is, falls, and}
@@ -23,23 +20,23 @@ use Rattle.search.proofs.+list_entries+list_entry+list_node.Lts-list_en
 use Rattle.search.proofs.list_node.Reads as list-node
 use Rattle.search.proofs.list_node.Kinds as list-node-kinds
 use Rattle.search.proofs.+list_entries+list_entry+list_node.Lts-list_node as list-node-lts
+use Rattle.nodes.proofs.child_at.Reads as child-at-reads
+use Rattle.nodes.proofs.count_at.Reads as count-at-reads
+use Rattle.nodes.proofs.slot_read.Reads as slot-read-reads
 use Rattle.pool.proofs.rect_of.Reads as rect-of-reads
-use Rattle.search.proofs.child_at.Reads as child-at-reads
-use Rattle.search.proofs.count_at.Reads as count-at-reads
 use Rattle.search.proofs.list_record.Reads as list-record-reads
 use Rattle.search.proofs.meets_window.Reads as meets-window-reads
-use Rattle.search.proofs.slot_read.Reads as slot-read-reads
 use Rattle.search.proofs.+list_entries+list_entry+list_node.{statement}
 use Rattle.search.proofs.+list_entries+list_entry+list_node.Tie.{close}
 
 abbrev μ-list-entries : Measures 2 list-entries-kinds.ps ℕ
-μ-list-entries κs a = 20 * (a .1 .1 .0) + 2 + (a .1 .1 .1 .1 .1 .0 - a .1 .1 .1 .1 .0)
+μ-list-entries κs a = 10 * (a .1 .1 .0) + 1 + (a .1 .1 .1 .1 .1 .0 - a .1 .1 .1 .1 .0)
 
 abbrev μ-list-entry : Measures 2 list-entry-kinds.ps ℕ
-μ-list-entry κs a = 20 * (a .1 .1 .0) + 1
+μ-list-entry κs a = 10 * (a .1 .1 .0) + 1
 
 abbrev μ-list-node : Measures 2 list-node-kinds.ps ℕ
-μ-list-node κs a = 20 * (a .1 .1 .0)
+μ-list-node κs a = 10 * (a .1 .1 .0)
 
 abbrev list-entries-at : ℕ → In 2 list-entries-kinds.ps
 list-entries-at t =
@@ -68,43 +65,58 @@ abbrev list-node-below : ℕ → In 2 list-node-kinds.ps
 list-node-below t =
     and 2 list-node-kinds.ps (falls 2 list-node-kinds.ps _<_ μ-list-node t) list-node.Pre
 
--- src/lib.rt:149:9
 list-entries-returns : (t : ℕ) → list-entries-lts.Need-returns (
   list-entry-below t,
   list-entry.Post,
   list-entries-below t,
   list-entries.Post,
 ) (list-entries-at t) list-entries.Post
-list-entries-returns t c = let s = c .before in let w = s .args .pool .now in let p = read w in let win = s .args .window in let l = s .args .below in let h : length (entriesAt p (s .args .s)) ≤ s .args .i = omega (arith, s .pre .1 .1 .1 .0, c .if1 .taken) in went-none w (s .args .items .now) (s .args .done) (foundFrom p win l (s .args .s) (s .args .i)) (openedFrom p win l (s .args .s) (s .args .i)) (found-end p win l (s .args .s) (s .args .i) h) (opened-end p win l (s .args .s) (s .args .i) h)
+list-entries-returns t c =
+    let s = c .before in
+    let w = s .args .pool .now in
+    entries-end w (s .args .window) (s .args .below) (s .args .s) (s .args .i) (omega (arith, s .pre .1 .1 .1 .0, c .if1 .taken)) (s .args .items .now) (s .args .done)
 
--- src/lib.rt:151:9
 list-entries-list-entry-requires : (t : ℕ) → list-entries-lts.Need-list-entry-requires (
   list-entry-below t,
   list-entry.Post,
   list-entries-below t,
   list-entries.Post,
 ) (list-entries-at t) list-entries.Post
-list-entries-list-entry-requires t c κs = let s = c .before .before in let w = s .args .pool .now in let p = read w in let win = s .args .window in let l = s .args .below in let h : s .args .i < length (entriesAt p (s .args .s)) = (omega (arith, s .pre .1 .1 .1 .0, c .before .if1 .left)) in let found = found-next p win l (s .args .s) (s .args .i) h in let opened = opened-next p win l (s .args .s) (s .args .i) h in (omega (arith, s .pre .0, c .before .if1 .left), (some-within w (s .args .s) (s .args .i) (s .pre .1 .0) (s .pre .1 .1 .0) h, (h, room-first (foundBelow p win l (entryAt p (s .args .s) (s .args .i))) (foundFrom p win l (s .args .s) (s .args .i + 1)) (openedBelow p win l (entryAt p (s .args .s) (s .args .i))) (openedFrom p win l (s .args .s) (s .args .i + 1)) found opened (s .pre .1 .1 .1 .1))))
+list-entries-list-entry-requires t c κs =
+    let s = c .before .before in
+    let w = s .args .pool .now in
+    let there : s .args .i < length (entriesAt (read w) (s .args .s)) = omega (arith, s .pre .1 .1 .1 .0, c .before .if1 .left) in (
+      omega (arith, s .pre .0, c .before .if1 .left),
+      (some-within w (s .args .s) (s .args .i) (s .pre .1 .0) (s .pre .1 .1 .0) there, (there, first-room w (s .args .window) (s .args .below) (s .args .s) (s .args .i) there (s .pre .1 .1 .1 .1))),
+    )
 
--- src/lib.rt:152:42
 list-entries-add-list-entries : (t : ℕ) → list-entries-lts.Need-add-list-entries (
   list-entry-below t,
   list-entry.Post,
   list-entries-below t,
   list-entries.Post,
 ) (list-entries-at t) list-entries.Post
-list-entries-add-list-entries t c = let s = c .before .before .before .before in omega (arith, c .before .before .before .if1 .left, s .pre .1 .1 .1 .0, most-entries (s .args .pool .now) (s .pre .1 .0) (s .args .s))
+list-entries-add-list-entries t c =
+    let s = c .before .before .before .before in
+    omega (arith, c .before .before .before .if1 .left, s .pre .1 .1 .1 .0, most-entries (s .args .pool .now) (s .pre .1 .0) (s .args .s))
 
--- src/lib.rt:152:5
 list-entries-list-entries-requires : (t : ℕ) → list-entries-lts.Need-list-entries-requires (
   list-entry-below t,
   list-entry.Post,
   list-entries-below t,
   list-entries.Post,
 ) (list-entries-at t) list-entries.Post
-list-entries-list-entries-requires t c κs = let s = c .before .before .before .before .before in let w = s .args .pool .now in let p = read w in let win = s .args .window in let l = s .args .below in let h : s .args .i < length (entriesAt p (s .args .s)) = (omega (arith, s .pre .1 .1 .1 .0, c .before .before .before .before .if1 .left)) in let found = found-next p win l (s .args .s) (s .args .i) h in let opened = opened-next p win l (s .args .s) (s .args .i) h in (omega (arith, s .pre .0, c .before .before .before .before .if1 .left), (s .pre .1 .0, (s .pre .1 .1 .0, (s .pre .1 .1 .1 .0, room-rest found opened (s .pre .1 .1 .1 .1) (c .before .before .list-entry .ensures)))))
+list-entries-list-entries-requires t c κs =
+    let s = c .before .before .before .before .before in
+    let w = s .args .pool .now in
+    let there : s .args .i < length (entriesAt (read w) (s .args .s)) = omega (arith, s .pre .1 .1 .1 .0, c .before .before .before .before .if1 .left) in (
+      omega (arith, s .pre .0, c .before .before .before .before .if1 .left),
+      (
+        s .pre .1 .0,
+        (s .pre .1 .1 .0, (s .pre .1 .1 .1 .0, later-room w (s .args .window) (s .args .below) (s .args .s) (s .args .i) there (s .pre .1 .1 .1 .1) (c .before .before .list-entry .ensures))),
+      ),
+    )
 
--- src/lib.rt:132:1
 list-entries-same-length : (t : ℕ) → list-entries-lts.Need-same-length (
   list-entry-below t,
   list-entry.Post,
@@ -113,16 +125,18 @@ list-entries-same-length : (t : ℕ) → list-entries-lts.Need-same-length (
 ) (list-entries-at t) list-entries.Post
 list-entries-same-length t c = search needs
 
--- src/lib.rt:132:1
 list-entries-returns-2 : (t : ℕ) → list-entries-lts.Need-returns-2 (
   list-entry-below t,
   list-entry.Post,
   list-entries-below t,
   list-entries.Post,
 ) (list-entries-at t) list-entries.Post
-list-entries-returns-2 t c = let s = c .before .before .before .before .before .before .before in let w = s .args .pool .now in let p = read w in let win = s .args .window in let l = s .args .below in let h : s .args .i < length (entriesAt p (s .args .s)) = (omega (arith, s .pre .1 .1 .1 .0, c .before .before .before .before .before .before .if1 .left)) in let found = found-next p win l (s .args .s) (s .args .i) h in let opened = opened-next p win l (s .args .s) (s .args .i) h in went-both found opened (c .before .before .before .before .list-entry .ensures) (c .before .list-entries .ensures)
+list-entries-returns-2 t c =
+    let s = c .before .before .before .before .before .before .before in
+    let w = s .args .pool .now in
+    let there : s .args .i < length (entriesAt (read w) (s .args .s)) = omega (arith, s .pre .1 .1 .1 .0, c .before .before .before .before .before .before .if1 .left) in
+    all-went w (s .args .window) (s .args .below) (s .args .s) (s .args .i) there (c .before .before .before .before .list-entry .ensures) (c .before .list-entries .ensures)
 
--- src/lib.rt:171:9
 list-entry-rect-of-requires : (t : ℕ) → list-entry-lts.Need-rect-of-requires (
   rect-of-reads.Asked,
   rect-of-reads.Learnt,
@@ -137,7 +151,6 @@ list-entry-rect-of-requires : (t : ℕ) → list-entry-lts.Need-rect-of-requires
 ) (list-entry-at t) list-entry.Post
 list-entry-rect-of-requires t c κs = (c .pre .1 .0, c .pre .1 .1 .0)
 
--- src/lib.rt:172:9
 list-entry-meets-window-requires : (t : ℕ) → list-entry-lts.Need-meets-window-requires (
   rect-of-reads.Asked,
   rect-of-reads.Learnt,
@@ -152,7 +165,6 @@ list-entry-meets-window-requires : (t : ℕ) → list-entry-lts.Need-meets-windo
 ) (list-entry-at t) list-entry.Post
 list-entry-meets-window-requires t c κs = search needs
 
--- src/lib.rt:173:9
 list-entry-returns : (t : ℕ) → list-entry-lts.Need-returns (
   rect-of-reads.Asked,
   rect-of-reads.Learnt,
@@ -165,9 +177,14 @@ list-entry-returns : (t : ℕ) → list-entry-lts.Need-returns (
   list-node-below t,
   list-node.Post,
 ) (list-entry-at t) list-entry.Post
-list-entry-returns t c = let s = c .before .before .before in let w = s .args .pool .now in let p = read w in let win = s .args .window in let l = s .args .below in let e = entryAt p (s .args .s) (s .args .i) in let met = met-is p win (s .args .s) (s .args .i) (c .before .before .rect-of .result) (c .before .meets-window .result) (c .before .before .rect-of .ensures) (c .before .meets-window .ensures) ∙ not-true (c .before .meets-window .result) (c .if1 .taken) in went-none w (s .args .items .now) (s .args .done) (foundBelow p win l e) (openedBelow p win l e) (found-missed p win l e met) (opened-missed p win l e met)
+list-entry-returns t c =
+    let s = c .before .before .before in
+    let w = s .args .pool .now in
+    let r = c .before .before .rect-of in
+    let m = c .before .meets-window in
+    let met = not-true (m .result) (c .if1 .taken) in
+    entry-missed w (s .args .window) (s .args .below) (s .args .s) (s .args .i) (r .result) (m .result) (r .ensures) (m .ensures) met (s .args .items .now) (s .args .done)
 
--- src/lib.rt:176:9
 list-entry-list-record-requires : (t : ℕ) → list-entry-lts.Need-list-record-requires (
   rect-of-reads.Asked,
   rect-of-reads.Learnt,
@@ -180,9 +197,14 @@ list-entry-list-record-requires : (t : ℕ) → list-entry-lts.Need-list-record-
   list-node-below t,
   list-node.Post,
 ) (list-entry-at t) list-entry.Post
-list-entry-list-record-requires t c κs = let s = c .before .before .before .before .before in let w = s .args .pool .now in let p = read w in let win = s .args .window in let l = s .args .below in let e = entryAt p (s .args .s) (s .args .i) in let met = met-is p win (s .args .s) (s .args .i) (c .before .before .before .before .rect-of .result) (c .before .before .before .meets-window .result) (c .before .before .before .before .rect-of .ensures) (c .before .before .before .meets-window .ensures) ∙ not-false (c .before .before .before .meets-window .result) (c .before .before .if1 .left) in (s .pre .1 .0, (s .pre .1 .1 .0, room-same (leaf-found p win l e (c .before .if2 .taken) met) (leaf-opened p win l e (c .before .if2 .taken)) (s .pre .1 .1 .1)))
+list-entry-list-record-requires t c κs =
+    let s = c .before .before .before .before .before in
+    let w = s .args .pool .now in
+    let r = c .before .before .before .before .rect-of in
+    let m = c .before .before .before .meets-window in
+    let met = not-false (m .result) (c .before .before .if1 .left) in
+    (s .pre .1 .0, (s .pre .1 .1 .0, record-room w (s .args .window) (s .args .below) (s .args .s) (s .args .i) (r .result) (m .result) (r .ensures) (m .ensures) met (c .before .if2 .taken) (s .pre .1 .1 .1)))
 
--- src/lib.rt:176:9
 list-entry-same-length : (t : ℕ) → list-entry-lts.Need-same-length (
   rect-of-reads.Asked,
   rect-of-reads.Learnt,
@@ -197,7 +219,6 @@ list-entry-same-length : (t : ℕ) → list-entry-lts.Need-same-length (
 ) (list-entry-at t) list-entry.Post
 list-entry-same-length t c = search needs
 
--- src/lib.rt:176:9
 list-entry-returns-2 : (t : ℕ) → list-entry-lts.Need-returns-2 (
   rect-of-reads.Asked,
   rect-of-reads.Learnt,
@@ -210,9 +231,14 @@ list-entry-returns-2 : (t : ℕ) → list-entry-lts.Need-returns-2 (
   list-node-below t,
   list-node.Post,
 ) (list-entry-at t) list-entry.Post
-list-entry-returns-2 t c = let s = c .before .before .before .before .before .before .before in let w = s .args .pool .now in let p = read w in let win = s .args .window in let l = s .args .below in let e = entryAt p (s .args .s) (s .args .i) in let met = met-is p win (s .args .s) (s .args .i) (c .before .before .before .before .before .before .rect-of .result) (c .before .before .before .before .before .meets-window .result) (c .before .before .before .before .before .before .rect-of .ensures) (c .before .before .before .before .before .meets-window .ensures) ∙ not-false (c .before .before .before .before .before .meets-window .result) (c .before .before .before .before .if1 .left) in went-same (sym (leaf-found p win l e (c .before .before .before .if2 .taken) met)) (sym (leaf-opened p win l e (c .before .before .before .if2 .taken))) (c .before .list-record .ensures)
+list-entry-returns-2 t c =
+    let s = c .before .before .before .before .before .before .before in
+    let w = s .args .pool .now in
+    let r = c .before .before .before .before .before .before .rect-of in
+    let m = c .before .before .before .before .before .meets-window in
+    let met = not-false (m .result) (c .before .before .before .before .if1 .left) in
+    record-went w (s .args .window) (s .args .below) (s .args .s) (s .args .i) (r .result) (m .result) (r .ensures) (m .ensures) met (c .before .before .before .if2 .taken) (c .before .list-record .ensures)
 
--- src/lib.rt:178:9
 list-entry-child-at-requires : (t : ℕ) → list-entry-lts.Need-child-at-requires (
   rect-of-reads.Asked,
   rect-of-reads.Learnt,
@@ -225,9 +251,8 @@ list-entry-child-at-requires : (t : ℕ) → list-entry-lts.Need-child-at-requir
   list-node-below t,
   list-node.Post,
 ) (list-entry-at t) list-entry.Post
-list-entry-child-at-requires t c κs = (c .before .before .before .before .pre .1 .0, c .before .before .before .before .pre .1 .1 .0)
+list-entry-child-at-requires t c κs = let s = c .before .before .before .before in (s .pre .1 .0 .right, s .pre .1 .1 .0)
 
--- src/lib.rt:179:5
 list-entry-list-node-requires : (t : ℕ) → list-entry-lts.Need-list-node-requires (
   rect-of-reads.Asked,
   rect-of-reads.Learnt,
@@ -240,9 +265,17 @@ list-entry-list-node-requires : (t : ℕ) → list-entry-lts.Need-list-node-requ
   list-node-below t,
   list-node.Post,
 ) (list-entry-at t) list-entry.Post
-list-entry-list-node-requires t c κs = let s = c .before .before .before .before .before .before in let w = s .args .pool .now in let p = read w in let win = s .args .window in let l = s .args .below in let e = entryAt p (s .args .s) (s .args .i) in let met = met-is p win (s .args .s) (s .args .i) (c .before .before .before .before .before .rect-of .result) (c .before .before .before .before .meets-window .result) (c .before .before .before .before .before .rect-of .ensures) (c .before .before .before .before .meets-window .ensures) ∙ not-false (c .before .before .before .before .meets-window .result) (c .before .before .before .if1 .left) in (omega (arith, s .pre .0), (s .pre .1 .0 .right, room-same (child-found p win l e (c .before .child-at .result) (c .before .before .if2 .left) met (c .before .child-at .ensures)) (child-opened p win l e (c .before .child-at .result) met (c .before .child-at .ensures)) (s .pre .1 .1 .1)))
+list-entry-list-node-requires t c κs =
+    let s = c .before .before .before .before .before .before in
+    let w = s .args .pool .now in
+    let r = c .before .before .before .before .before .rect-of in
+    let m = c .before .before .before .before .meets-window in
+    let met = not-false (m .result) (c .before .before .before .if1 .left) in
+    let child = c .before .child-at in (
+      omega (arith, s .pre .0),
+      (s .pre .1 .0 .right, child-room w (s .args .window) (s .args .below) (s .args .s) (s .args .i) (r .result) (m .result) (r .ensures) (m .ensures) met (c .before .before .if2 .left) (child .result) (child .ensures) (s .pre .1 .1 .1)),
+    )
 
--- src/lib.rt:157:1
 list-entry-same-length-2 : (t : ℕ) → list-entry-lts.Need-same-length-2 (
   rect-of-reads.Asked,
   rect-of-reads.Learnt,
@@ -257,7 +290,6 @@ list-entry-same-length-2 : (t : ℕ) → list-entry-lts.Need-same-length-2 (
 ) (list-entry-at t) list-entry.Post
 list-entry-same-length-2 t c = search needs
 
--- src/lib.rt:157:1
 list-entry-returns-3 : (t : ℕ) → list-entry-lts.Need-returns-3 (
   rect-of-reads.Asked,
   rect-of-reads.Learnt,
@@ -270,9 +302,15 @@ list-entry-returns-3 : (t : ℕ) → list-entry-lts.Need-returns-3 (
   list-node-below t,
   list-node.Post,
 ) (list-entry-at t) list-entry.Post
-list-entry-returns-3 t c = let s = c .before .before .before .before .before .before .before .before in let w = s .args .pool .now in let p = read w in let win = s .args .window in let l = s .args .below in let e = entryAt p (s .args .s) (s .args .i) in let met = met-is p win (s .args .s) (s .args .i) (c .before .before .before .before .before .before .before .rect-of .result) (c .before .before .before .before .before .before .meets-window .result) (c .before .before .before .before .before .before .before .rect-of .ensures) (c .before .before .before .before .before .before .meets-window .ensures) ∙ not-false (c .before .before .before .before .before .before .meets-window .result) (c .before .before .before .before .before .if1 .left) in went-same (sym (child-found p win l e (c .before .before .before .child-at .result) (c .before .before .before .before .if2 .left) met (c .before .before .before .child-at .ensures))) (sym (child-opened p win l e (c .before .before .before .child-at .result) met (c .before .before .before .child-at .ensures))) (c .before .list-node .ensures)
+list-entry-returns-3 t c =
+    let s = c .before .before .before .before .before .before .before .before in
+    let w = s .args .pool .now in
+    let r = c .before .before .before .before .before .before .before .rect-of in
+    let m = c .before .before .before .before .before .before .meets-window in
+    let met = not-false (m .result) (c .before .before .before .before .before .if1 .left) in
+    let child = c .before .before .before .child-at in
+    child-went w (s .args .window) (s .args .below) (s .args .s) (s .args .i) (r .result) (m .result) (r .ensures) (m .ensures) met (c .before .before .before .before .if2 .left) (child .result) (child .ensures) (c .before .list-node .ensures)
 
--- src/lib.rt:120:9
 list-node-returns : (t : ℕ) → list-node-lts.Need-returns (
   slot-read-reads.Asked,
   slot-read-reads.Learnt,
@@ -281,9 +319,10 @@ list-node-returns : (t : ℕ) → list-node-lts.Need-returns (
   list-entries-below t,
   list-entries.Post,
 ) (list-node-at t) list-node.Post
-list-node-returns t c = let s = c .before in let w = s .args .pool .now in let p = read w in let win = s .args .window in went-none w (s .args .items .now) (s .args .done) (foundIn p win (s .args .level) (s .args .s)) (openedIn p win (s .args .level) (s .args .s)) (ap (λ k. foundIn p win k (s .args .s)) (c .if1 .taken) ∙ found-none p win (s .args .s)) (ap (λ k. openedIn p win k (s .args .s)) (c .if1 .taken) ∙ opened-none p win (s .args .s))
+list-node-returns t c =
+    let s = c .before in
+    none-went (s .args .pool .now) (s .args .window) (s .args .level) (s .args .s) (c .if1 .taken) (s .args .items .now) (s .args .done)
 
--- src/lib.rt:122:9
 list-node-slot-read-requires : (t : ℕ) → list-node-lts.Need-slot-read-requires (
   slot-read-reads.Asked,
   slot-read-reads.Learnt,
@@ -294,7 +333,6 @@ list-node-slot-read-requires : (t : ℕ) → list-node-lts.Need-slot-read-requir
 ) (list-node-at t) list-node.Post
 list-node-slot-read-requires t c κs = search needs
 
--- src/lib.rt:123:9
 list-node-count-at-requires : (t : ℕ) → list-node-lts.Need-count-at-requires (
   slot-read-reads.Asked,
   slot-read-reads.Learnt,
@@ -303,9 +341,8 @@ list-node-count-at-requires : (t : ℕ) → list-node-lts.Need-count-at-requires
   list-entries-below t,
   list-entries.Post,
 ) (list-node-at t) list-node.Post
-list-node-count-at-requires t c κs = (c .before .before .pre .1 .0, c .slot-read .ensures .0)
+list-node-count-at-requires t c κs = c .before .before .pre .1 .0
 
--- src/lib.rt:124:40
 list-node-sub-list-entries : (t : ℕ) → list-node-lts.Need-sub-list-entries (
   slot-read-reads.Asked,
   slot-read-reads.Learnt,
@@ -316,7 +353,6 @@ list-node-sub-list-entries : (t : ℕ) → list-node-lts.Need-sub-list-entries (
 ) (list-node-at t) list-node.Post
 list-node-sub-list-entries t c = omega (arith, c .before .before .if1 .left)
 
--- src/lib.rt:124:9
 list-node-list-entries-requires : (t : ℕ) → list-node-lts.Need-list-entries-requires (
   slot-read-reads.Asked,
   slot-read-reads.Learnt,
@@ -325,9 +361,15 @@ list-node-list-entries-requires : (t : ℕ) → list-node-lts.Need-list-entries-
   list-entries-below t,
   list-entries.Post,
 ) (list-node-at t) list-node.Post
-list-node-list-entries-requires t c κs = let s = c .before .before .before .before in let w = s .args .pool .now in let p = read w in let win = s .args .window in let ne = c .before .before .before .if1 .left in let found = node-found p win (s .args .level) (s .args .s) (c .before .before .slot-read .result) ne (c .before .before .slot-read .ensures .1) in let opened = node-opened p win (s .args .level) (s .args .s) (c .before .before .slot-read .result) ne (c .before .before .slot-read .ensures .1) in (omega (arith, s .pre .0, c .before .count-at .ensures .1), (s .pre .1 .0, (c .before .before .slot-read .ensures .0, (c .before .count-at .ensures .0, room-opens (room-same found opened (s .pre .1 .1))))))
+list-node-list-entries-requires t c κs =
+    let s = c .before .before .before .before in
+    let t = c .before .before .slot-read in
+    let some = c .before .before .before .if1 .left in
+    let n = c .before .count-at in (
+      omega (arith, s .pre .0, n .ensures .1, some),
+      (s .pre .1 .0, (t .ensures .0, (n .ensures .0, node-room (s .args .pool .now) (s .args .window) (s .args .level) (s .args .s) (t .result) some (t .ensures .1) (s .pre .1 .1)))),
+    )
 
--- src/lib.rt:127:18
 list-node-add-opened : (t : ℕ) → list-node-lts.Need-add-opened (
   slot-read-reads.Asked,
   slot-read-reads.Learnt,
@@ -336,9 +378,12 @@ list-node-add-opened : (t : ℕ) → list-node-lts.Need-add-opened (
   list-entries-below t,
   list-entries.Post,
 ) (list-node-at t) list-node.Post
-list-node-add-opened t c = let s = c .before .before .before .before .before .before in let w = s .args .pool .now in let p = read w in let win = s .args .window in let ne = c .before .before .before .before .before .if1 .left in let found = node-found p win (s .args .level) (s .args .s) (c .before .before .before .before .slot-read .result) ne (c .before .before .before .before .slot-read .ensures .1) in let opened = node-opened p win (s .args .level) (s .args .s) (c .before .before .before .before .slot-read .result) ne (c .before .before .before .before .slot-read .ensures .1) in omega (arith, opened, s .pre .1 .1 .opened, c .before .list-entries .ensures .opened, c .before .before .before .count-at .ensures .1)
+list-node-add-opened t c =
+    let s = c .before .before .before .before .before .before in
+    let t = c .before .before .before .before .slot-read in
+    let some = c .before .before .before .before .before .if1 .left in
+    omega (arith, node-few (s .args .pool .now) (s .args .window) (s .args .level) (s .args .s) (t .result) some (t .ensures .1) (s .pre .1 .1) (c .before .list-entries .ensures))
 
--- src/lib.rt:107:1
 list-node-same-length : (t : ℕ) → list-node-lts.Need-same-length (
   slot-read-reads.Asked,
   slot-read-reads.Learnt,
@@ -349,7 +394,6 @@ list-node-same-length : (t : ℕ) → list-node-lts.Need-same-length (
 ) (list-node-at t) list-node.Post
 list-node-same-length t c = search needs
 
--- src/lib.rt:107:1
 list-node-returns-2 : (t : ℕ) → list-node-lts.Need-returns-2 (
   slot-read-reads.Asked,
   slot-read-reads.Learnt,
@@ -358,7 +402,11 @@ list-node-returns-2 : (t : ℕ) → list-node-lts.Need-returns-2 (
   list-entries-below t,
   list-entries.Post,
 ) (list-node-at t) list-node.Post
-list-node-returns-2 t c = let s = c .before .before .before .before .before .before in let w = s .args .pool .now in let p = read w in let win = s .args .window in let ne = c .before .before .before .before .before .if1 .left in let found = node-found p win (s .args .level) (s .args .s) (c .before .before .before .before .slot-read .result) ne (c .before .before .before .before .slot-read .ensures .1) in let opened = node-opened p win (s .args .level) (s .args .s) (c .before .before .before .before .slot-read .result) ne (c .before .before .before .before .slot-read .ensures .1) in went-same (sym found) (sym opened) (went-opens (c .before .list-entries .ensures))
+list-node-returns-2 t c =
+    let s = c .before .before .before .before .before .before in
+    let t = c .before .before .before .before .slot-read in
+    let some = c .before .before .before .before .before .if1 .left in
+    node-went (s .args .pool .now) (s .args .window) (s .args .level) (s .args .s) (t .result) some (t .ensures .1) (c .before .list-entries .ensures)
 
 pub +list-entries+list-entry+list-node-spec : {M : Type 1} → statement M
 +list-entries+list-entry+list-node-spec =

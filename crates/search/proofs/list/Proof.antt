@@ -1,3 +1,4 @@
+-- From the root on, with nothing found or opened before.
 use Rattle.search.proofs.Steps.{top-room, top-went}
 use borrow.Author.Needs.{needs}
 use Rattle.search.proofs.list.Statement.{statement}
@@ -8,25 +9,32 @@ use Rattle.pool.proofs.height_of.Reads as height-of-reads
 use Rattle.pool.proofs.root_of.Reads as root-of-reads
 use Rattle.search.proofs.list_node.Reads as list-node-reads
 
--- src/lib.rt:191:9
 height-of-requires : tie.Need-height-of-requires
 height-of-requires c κs = search needs
 
--- src/lib.rt:192:9
 root-of-requires : tie.Need-root-of-requires
 root-of-requires c κs = search needs
 
--- src/lib.rt:193:5
 list-node-requires : tie.Need-list-node-requires
-list-node-requires c κs = let s = c .before .before .before in let w = s .args .pool .now in let h = c .before .before .height-of .result in let r = c .before .root-of .result in (s .pre .0, top-room w (s .args .window) (s .pre .0) h r (s .pre .1 .0) (c .before .before .height-of .ensures) (c .before .root-of .ensures) (s .args .items .now) (s .pre .1 .1))
+list-node-requires c κs =
+    let s = c .before .before .before in
+    let h = c .before .before .height-of in
+    let r = c .before .root-of in (
+      s .pre .0,
+      top-room (s .args .pool .now) (s .args .window) (s .pre .0) (h .result) (r .result) (s .pre .1 .0) (h .ensures) (r .ensures)
+          (s .args .items .now) (s .pre .1 .1),
+    )
 
--- src/lib.rt:180:1
 same-length : tie.Need-same-length
 same-length c = search needs
 
--- src/lib.rt:180:1
 returns : tie.Need-returns
-returns c = let s = c .before .before .before .before .before in let w = s .args .pool .now in let h = c .before .before .before .before .height-of .result in let r = c .before .before .before .root-of .result in top-went w (s .args .window) (s .pre .0) h r (s .pre .1 .0) (c .before .before .before .before .height-of .ensures) (c .before .before .before .root-of .ensures) (c .before .list-node .ensures)
+returns c =
+    let s = c .before .before .before .before .before in
+    let h = c .before .before .before .before .height-of in
+    let r = c .before .before .before .root-of in
+    top-went (s .args .pool .now) (s .args .window) (s .pre .0) (h .result) (r .result) (s .pre .1 .0) (h .ensures) (r .ensures)
+    (c .before .list-node .ensures)
 
 pub list-spec : {M : Type 1} → statement M
 list-spec =

@@ -1,7 +1,8 @@
+-- Each turn asks the next slot: one that fails answers for all, and one that holds leaves the rest to answer.
 use borrow.Author.Needs.{needs}
 use mathlib.Core.Path.{_≡_, refl, sym, ap, _∙_}
 use mathlib.Core.List.{List}
-use Prim.Native.Nat.{ℕ, _-_, _≤_}
+use Prim.Native.Nat.{ℕ, _-_, _≤_, _<_}
 use native.Mathlib.Omega.{arith}
 use lib.ListN.{length, drop}
 use lib.IntN.{ℤ}
@@ -32,41 +33,53 @@ Inv-loop pool n i₀ i = Turn pool n i
 abbrev μ-loop : tie.MeasureT-loop
 μ-loop pool n i₀ i = n - i
 
--- src/lib.rt:159:9
 slot-count-requires : tie.Need-slot-count-requires Inv-loop μ-loop
 slot-count-requires c κs = search needs
 
--- src/lib.rt:161:5
 loop-holds : tie.Need-loop-holds Inv-loop μ-loop
 loop-holds c = record { size = c .slot-count .ensures ∙ sym (read-slots (c .before .args .pool .now)); most = omega arith; rest = refl }
 
--- src/lib.rt:162:41
 add-t5 : tie.Need-add-t5 Inv-loop μ-loop
 add-t5 c = search needs
 
--- src/lib.rt:162:13
 used-sound-requires : tie.Need-used-sound-requires Inv-loop μ-loop
 used-sound-requires c κs = let w = c .before .before .before .args .pool .now in record { right = c .before .before .before .pre; low = omega arith; high = omega (arith, c .loop-test .taken, c .before .loop .inv .size, read-slots w) }
 
--- src/lib.rt:163:13
 returns : tie.Need-returns Inv-loop μ-loop
-returns c = let w = c .before .before .before .before .before .args .pool .now in let p = read w in let ss = slotNumbers p in let t = c .before .before .before .loop .inv in let i = c .before .before .before .loop .i in sym (every-fails (usedSound p) ss i (slot 0) (omega (arith, c .before .before .loop-test .taken, t .size, slots-size p)) (ap (usedSound p) (slots-at p i (omega (arith, c .before .before .loop-test .taken, t .size))) ∙ sym (c .before .used-sound .ensures) ∙ not-true (c .before .used-sound .result) (c .if1 .taken))) ∙ t .rest
+returns c =
+    let p = read (c .before .before .before .before .before .args .pool .now) in
+    let l = c .before .before .before .loop in
+    let there : l .i < length (p .slots) = omega (arith, c .before .before .loop-test .taken, l .inv .size) in
+    let asked = c .before .used-sound in
+    let is = ap (usedSound p) (slots-at p (l .i) there) ∙ sym (asked .ensures) ∙ not-true (asked .result) (c .if1 .taken) in
+    let in-list : l .i < length (slotNumbers p) = omega (arith, there, slots-size p) in
+    sym (every-fails (usedSound p) (slotNumbers p) (l .i) (slot 0) in-list is) ∙ l .inv .rest
 
--- src/lib.rt:165:9
 add-i : tie.Need-add-i Inv-loop μ-loop
 add-i c = search needs
 
--- src/lib.rt:161:5
 loop-less : tie.Need-loop-less Inv-loop μ-loop
 loop-less c = search needs
 
--- src/lib.rt:161:5
 loop-again : tie.Need-loop-again Inv-loop μ-loop
-loop-again c = let w = c .before .before .before .before .before .args .pool .now in let p = read w in let ss = slotNumbers p in let t = c .before .before .before .loop .inv in let i = c .before .before .before .loop .i in record { size = t .size; most = omega arith; rest = sym (every-goes (usedSound p) ss i (slot 0) (omega (arith, c .before .before .loop-test .taken, t .size, slots-size p)) (ap (usedSound p) (slots-at p i (omega (arith, c .before .before .loop-test .taken, t .size))) ∙ sym (c .before .used-sound .ensures) ∙ not-false (c .before .used-sound .result) (c .if1 .left))) ∙ t .rest }
+loop-again c =
+    let p = read (c .before .before .before .before .before .args .pool .now) in
+    let l = c .before .before .before .loop in
+    let there : l .i < length (p .slots) = omega (arith, c .before .before .loop-test .taken, l .inv .size) in
+    let asked = c .before .used-sound in
+    let is = ap (usedSound p) (slots-at p (l .i) there) ∙ sym (asked .ensures) ∙ not-false (asked .result) (c .if1 .left) in
+    let in-list : l .i < length (slotNumbers p) = omega (arith, there, slots-size p) in
+    record {
+      size = l .inv .size;
+      most = omega arith;
+      rest = sym (every-goes (usedSound p) (slotNumbers p) (l .i) (slot 0) in-list is) ∙ l .inv .rest;
+    }
 
--- src/lib.rt:155:1
 returns-2 : tie.Need-returns-2 Inv-loop μ-loop
-returns-2 c = let w = c .before .before .before .args .pool .now in let p = read w in let ss = slotNumbers p in let t = c .before .loop .inv in let i = c .before .loop .i in sym (every-none (usedSound p) ss i (omega (arith, c .loop-test .left, t .size, slots-size p))) ∙ t .rest
+returns-2 c =
+    let p = read (c .before .before .before .args .pool .now) in
+    let l = c .before .loop in
+    sym (every-none (usedSound p) (slotNumbers p) (l .i) (omega (arith, c .loop-test .left, l .inv .size, slots-size p))) ∙ l .inv .rest
 
 pub all-sound-spec : {M : Type 1} → statement M
 all-sound-spec =

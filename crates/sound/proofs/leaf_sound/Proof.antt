@@ -1,3 +1,5 @@
+-- Each turn asks the next entry: one that fails answers for all, and one that holds leaves the rest to answer.
+use Prim.Native.Nat.{_<_}
 use borrow.Author.Needs.{needs}
 use mathlib.Core.Path.{_≡_, refl, sym, ap, _∙_}
 use mathlib.Core.List.{List}
@@ -31,43 +33,52 @@ Inv-loop pool s n i₀ i = Turn (entriesAt (read pool) s) n i
 abbrev μ-loop : tie.MeasureT-loop
 μ-loop pool s n i₀ i = n - i
 
--- src/lib.rt:38:9
 count-of-requires : tie.Need-count-of-requires Inv-loop μ-loop
 count-of-requires c κs = c .pre
 
--- src/lib.rt:40:5
 loop-holds : tie.Need-loop-holds Inv-loop μ-loop
 loop-holds c = record { size = c .count-of .ensures .0; most = omega arith; rest = refl }
 
--- src/lib.rt:41:13
 entry-of-requires : tie.Need-entry-of-requires Inv-loop μ-loop
 entry-of-requires c κs = (c .before .before .before .pre, omega (arith, c .loop-test .taken, c .before .loop .inv .size))
 
--- src/lib.rt:42:13
 leaf-entry-sound-requires : tie.Need-leaf-entry-sound-requires Inv-loop μ-loop
 leaf-entry-sound-requires c κs = search needs
 
--- src/lib.rt:43:13
 returns : tie.Need-returns Inv-loop μ-loop
 unfolding entryAt entryFrom
-returns c = let es = entriesAt (read (c .before .before .before .before .before .before .args .pool .now)) (c .before .before .before .before .before .before .args .s) in let t = c .before .before .before .before .loop .inv in let i = c .before .before .before .before .loop .i in sym (every-fails leafEntrySound es i noEntry (omega (arith, c .before .before .before .loop-test .taken, t .size)) (sym (ap leafEntrySound (c .before .before .entry-of .ensures)) ∙ sym (c .before .leaf-entry-sound .ensures) ∙ not-true (c .before .leaf-entry-sound .result) (c .if1 .taken))) ∙ t .rest
+returns c =
+    let s = c .before .before .before .before .before .before in
+    let es = entriesAt (read (s .args .pool .now)) (s .args .s) in
+    let l = c .before .before .before .before .loop in
+    let there : l .i < length es = omega (arith, c .before .before .before .loop-test .taken, l .inv .size) in
+    let asked = c .before .leaf-entry-sound in
+    let is = sym (ap leafEntrySound (c .before .before .entry-of .ensures)) ∙ sym (asked .ensures) ∙ not-true (asked .result) (c .if1 .taken) in
+    sym (every-fails leafEntrySound es (l .i) noEntry there is) ∙ l .inv .rest
 
--- src/lib.rt:45:9
 add-i : tie.Need-add-i Inv-loop μ-loop
 add-i c = search needs
 
--- src/lib.rt:40:5
 loop-less : tie.Need-loop-less Inv-loop μ-loop
 loop-less c = search needs
 
--- src/lib.rt:40:5
 loop-again : tie.Need-loop-again Inv-loop μ-loop
 unfolding entryAt entryFrom
-loop-again c = let es = entriesAt (read (c .before .before .before .before .before .before .args .pool .now)) (c .before .before .before .before .before .before .args .s) in let t = c .before .before .before .before .loop .inv in let i = c .before .before .before .before .loop .i in record { size = t .size; most = omega arith; rest = sym (every-goes leafEntrySound es i noEntry (omega (arith, c .before .before .before .loop-test .taken, t .size)) (sym (ap leafEntrySound (c .before .before .entry-of .ensures)) ∙ sym (c .before .leaf-entry-sound .ensures) ∙ not-false (c .before .leaf-entry-sound .result) (c .if1 .left))) ∙ t .rest }
+loop-again c =
+    let s = c .before .before .before .before .before .before in
+    let es = entriesAt (read (s .args .pool .now)) (s .args .s) in
+    let l = c .before .before .before .before .loop in
+    let there : l .i < length es = omega (arith, c .before .before .before .loop-test .taken, l .inv .size) in
+    let asked = c .before .leaf-entry-sound in
+    let is = sym (ap leafEntrySound (c .before .before .entry-of .ensures)) ∙ sym (asked .ensures) ∙ not-false (asked .result) (c .if1 .left) in
+    record { size = l .inv .size; most = omega arith; rest = sym (every-goes leafEntrySound es (l .i) noEntry there is) ∙ l .inv .rest }
 
--- src/lib.rt:34:1
 returns-2 : tie.Need-returns-2 Inv-loop μ-loop
-returns-2 c = let es = entriesAt (read (c .before .before .before .args .pool .now)) (c .before .before .before .args .s) in let t = c .before .loop .inv in let i = c .before .loop .i in sym (every-none leafEntrySound es i (omega (arith, c .loop-test .left, t .size))) ∙ t .rest
+returns-2 c =
+    let s = c .before .before .before in
+    let l = c .before .loop in
+    sym (every-none leafEntrySound (entriesAt (read (s .args .pool .now)) (s .args .s)) (l .i) (omega (arith, c .loop-test .left, l .inv .size)))
+    ∙ l .inv .rest
 
 pub leaf-sound-spec : {M : Type 1} → statement M
 leaf-sound-spec =

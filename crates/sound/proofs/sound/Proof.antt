@@ -1,3 +1,4 @@
+-- The parts of the sentence in turn: the first that fails answers, and a height above 8 fails since no sound tree is higher.
 use mathlib.Core.Path.{sym, _∙_}
 use Rattle.rules_laws.proofs.Bools.{not-true, not-false}
 use Rattle.pool.proofs.Parts.{few-slots}
@@ -13,37 +14,37 @@ use Rattle.sound_shape.proofs.shaped.Reads as shaped-reads
 use Rattle.tidy.proofs.tidy.Reads as tidy-reads
 use Rattle.sound.proofs.all_sound.Reads as all-sound-reads
 
--- src/lib.rt:176:9
 tidy-requires : tie.Need-tidy-requires
 tidy-requires c κs = search needs
 
--- src/lib.rt:177:9
 returns : tie.Need-returns
 returns c = sym (not-tidy _ (sym (c .before .tidy .ensures) ∙ not-true _ (c .if1 .taken)))
 
--- src/lib.rt:179:9
 shaped-requires : tie.Need-shaped-requires
 shaped-requires c κs = search needs
 
--- src/lib.rt:180:9
 returns-2 : tie.Need-returns-2
 returns-2 c = sym (not-shaped _ (sym (c .before .shaped .ensures) ∙ not-true _ (c .if2 .taken)))
 
--- src/lib.rt:182:12
 height-of-requires : tie.Need-height-of-requires
 height-of-requires c κs = search needs
 
--- src/lib.rt:183:9
 returns-3 : tie.Need-returns-3
-returns-3 c = let s = c .before .before .before .before .before .before in let w = s .args .pool .now in sym (too-high w (rw (read-slots w) (few-slots w (s .pre))) (rw (c .before .height-of .ensures) at (c .if3 .taken)))
+returns-3 c =
+    let s = c .before .before .before .before .before .before in
+    let w = s .args .pool .now in
+    sym (too-high w (rw (read-slots w) (few-slots w (s .pre))) (rw (c .before .height-of .ensures) at (c .if3 .taken)))
 
--- src/lib.rt:185:5
 all-sound-requires : tie.Need-all-sound-requires
 all-sound-requires c κs = search needs
 
--- src/lib.rt:172:1
 returns-4 : tie.Need-returns-4
-returns-4 c = c .all-sound .ensures ∙ sym (tidy-shaped _ (sym (c .before .before .before .before .before .before .tidy .ensures) ∙ not-false _ (c .before .before .before .before .before .if1 .left)) (sym (c .before .before .before .before .shaped .ensures) ∙ not-false _ (c .before .before .before .if2 .left)))
+returns-4 c =
+    let tidied = c .before .before .before .before .before .before .tidy in
+    let formed = c .before .before .before .before .shaped in
+    c .all-sound .ensures
+    ∙ sym (tidy-shaped _ (sym (tidied .ensures) ∙ not-false _ (c .before .before .before .before .before .if1 .left))
+    (sym (formed .ensures) ∙ not-false _ (c .before .before .before .if2 .left)))
 
 pub sound-spec : {M : Type 1} → statement M
 sound-spec =

@@ -1,3 +1,4 @@
+-- A free slot is not asked; a node in use is asked at its level.
 use mathlib.Core.Path.{sym, ap, _∙_}
 use Prim.Native.Nat.{ℕ}
 use Rattle.rules.specs.Layout.{read}
@@ -11,21 +12,25 @@ use Rattle.sound.proofs.used_sound.Lts as lts
 use Rattle.pool.proofs.level_of.Reads as level-of-reads
 use Rattle.sound.proofs.node_sound.Reads as node-sound-reads
 
--- src/lib.rt:146:9
 level-of-requires : tie.Need-level-of-requires
 level-of-requires c κs = search needs
 
--- src/lib.rt:148:9
 returns : tie.Need-returns
-returns c = let s = c .before .before in used-free (read (s .args .pool .now)) (s .args .s) (sym (c .before .level-of .ensures) ∙ c .if1 .taken)
+returns c =
+    let s = c .before .before in
+    used-free (read (s .args .pool .now)) (s .args .s) (sym (c .before .level-of .ensures) ∙ c .if1 .taken)
 
--- src/lib.rt:150:5
 node-sound-requires : tie.Need-node-sound-requires
 node-sound-requires c κs = search needs
 
--- src/lib.rt:142:1
 returns-2 : tie.Need-returns-2
-returns-2 c = let s = c .before .before .before in c .node-sound .ensures ∙ ap (λ (l : ℕ). nodeSound (read (s .args .pool .now)) l (s .args .s)) (c .before .before .level-of .ensures) ∙ used-node (read (s .args .pool .now)) (s .args .s) (λ q. c .before .if1 .left (c .before .before .level-of .ensures ∙ q))
+returns-2 c =
+    let s = c .before .before .before in
+    let p = read (s .args .pool .now) in
+    let level = c .before .before .level-of .ensures in
+    c .node-sound .ensures
+    ∙ ap (λ (l : ℕ). nodeSound p l (s .args .s)) level
+    ∙ used-node p (s .args .s) (λ q. c .before .if1 .left (level ∙ q))
 
 pub used-sound-spec : {M : Type 1} → statement M
 used-sound-spec = tie.close (tie.spec level-of-requires returns node-sound-requires returns-2)

@@ -5,7 +5,7 @@ use Rattle.sound_shape.proofs.is_root.Tie as tie
 use Rattle.sound_shape.proofs.is_root.Reads as reads
 use Rattle.sound_shape.proofs.is_root.Lts as lts
 use Rattle.pool.proofs.root_of.Reads as root-of-reads
-use Rattle.sound_shape.proofs.same_slot.Reads as same-slot-reads
+use Rattle.nodes.proofs.same_slot.Reads as same-slot-reads
 
 -- src/lib.rt:270:18
 root-of-requires : tie.Need-root-of-requires

@@ -1,11 +1,13 @@
-use mathlib.Core.Path.{ap, ap₂, _∙_}
-use native.Mathlib.Omega.{arith}
+-- The root is a slot, or the question is answered; then its level is compared with the height.
+use mathlib.Core.Path.{sym, ap, ap₂, _∙_}
 use lib.Dec.{eqb}
 use Rattle.rules.specs.declared.SlotNumber.{SlotNumber}
 use Rattle.rules.specs.Pool.{nodeAt}
-use Rattle.pool.proofs.Written.{read-slots}
 use Rattle.rules.specs.Layout.{read}
-use Rattle.sound_shape.proofs.Asked.{root-low, root-high, root-level}
+use Rattle.rules.specs.Sound.{isSlot}
+use Rattle.rules_laws.proofs.Bools.{not-true, not-false}
+use Rattle.nodes.proofs.Slots.{asked-within}
+use Rattle.sound_shape.proofs.Asked.{root-none, root-level}
 use borrow.Author.Needs.{needs}
 use Rattle.sound_shape.proofs.root_sound.Statement.{statement}
 use Rattle.sound_shape.proofs.root_sound.Tie as tie
@@ -14,44 +16,40 @@ use Rattle.sound_shape.proofs.root_sound.Lts as lts
 use Rattle.pool.proofs.height_of.Reads as height-of-reads
 use Rattle.pool.proofs.level_of.Reads as level-of-reads
 use Rattle.pool.proofs.root_of.Reads as root-of-reads
-use Rattle.pool.proofs.slot_count.Reads as slot-count-reads
+use Rattle.nodes.proofs.is_slot.Reads as is-slot-reads
 
--- src/lib.rt:381:9
 root-of-requires : tie.Need-root-of-requires
 root-of-requires c κs = search needs
 
--- src/lib.rt:384:9
+is-slot-requires : tie.Need-is-slot-requires
+is-slot-requires c κs = search needs
+
 returns : tie.Need-returns
-returns c = root-low (read (c .before .before .args .pool .now)) (omega (arith, ap (λ (t : SlotNumber). t .0) (c .before .root-of .ensures), c .if1 .taken))
+returns c =
+    let p = read (c .before .before .before .args .pool .now) in
+    let root = c .before .before .root-of in
+    let asked = c .before .is-slot in
+    root-none p (ap (isSlot p) (sym (root .ensures)) ∙ sym (asked .ensures) ∙ not-true (asked .result) (c .if1 .taken))
 
--- src/lib.rt:386:8
-slot-count-requires : tie.Need-slot-count-requires
-slot-count-requires c κs = search needs
-
--- src/lib.rt:387:9
-returns-2 : tie.Need-returns-2
-returns-2 c = root-high (read (c .before .before .before .before .args .pool .now)) (omega (arith, ap (λ (t : SlotNumber). t .0) (c .before .before .before .root-of .ensures), c .if2 .taken, c .before .slot-count .ensures, read-slots (c .before .before .before .before .args .pool .now))) (omega (arith, ap (λ (t : SlotNumber). t .0) (c .before .before .before .root-of .ensures), c .before .before .if1 .left))
-
--- src/lib.rt:389:5
 level-of-requires : tie.Need-level-of-requires
-level-of-requires c κs = record { right = c .before .before .before .before .pre; low = omega (arith, c .before .before .if1 .left); high = omega (arith, c .if2 .left, c .before .slot-count .ensures) }
+level-of-requires c κs =
+    let s = c .before .before .before in
+    let asked = c .before .is-slot in
+    asked-within (s .args .pool .now) (c .before .before .root-of .result) (s .pre) (sym (asked .ensures) ∙ not-false (asked .result) (c .if1 .left))
 
--- src/lib.rt:389:35
 height-of-requires : tie.Need-height-of-requires
 height-of-requires c κs = search needs
 
--- src/lib.rt:377:1
-returns-3 : tie.Need-returns-3
-returns-3 c = ap₂ eqb (c .before .level-of .ensures ∙ ap (λ (t : SlotNumber). nodeAt (read (c .before .before .before .before .before .before .args .pool .now)) t .level) (c .before .before .before .before .before .root-of .ensures)) (c .height-of .ensures) ∙ root-level (read (c .before .before .before .before .before .before .args .pool .now)) (omega (arith, ap (λ (t : SlotNumber). t .0) (c .before .before .before .before .before .root-of .ensures), c .before .before .before .before .if1 .left, c .before .before .if2 .left, c .before .before .before .slot-count .ensures, read-slots (c .before .before .before .before .before .before .args .pool .now))) (omega (arith, ap (λ (t : SlotNumber). t .0) (c .before .before .before .before .before .root-of .ensures), c .before .before .before .before .if1 .left, c .before .before .if2 .left, c .before .before .before .slot-count .ensures, read-slots (c .before .before .before .before .before .before .args .pool .now)))
+returns-2 : tie.Need-returns-2
+returns-2 c =
+    let p = read (c .before .before .before .before .before .args .pool .now) in
+    let root = c .before .before .before .before .root-of in
+    let asked = c .before .before .before .is-slot in
+    let level = c .before .level-of .ensures ∙ ap (λ (t : SlotNumber). nodeAt p t .level) (root .ensures) in
+    ap₂ eqb level (c .height-of .ensures)
+    ∙ root-level p (ap (isSlot p) (sym (root .ensures)) ∙ sym (asked .ensures) ∙ not-false (asked .result) (c .before .before .if1 .left))
 
 pub root-sound-spec : {M : Type 1} → statement M
 root-sound-spec =
     tie.close
-    (tie.spec
-    root-of-requires
-    returns
-    slot-count-requires
-    returns-2
-    level-of-requires
-    height-of-requires
-    returns-3)
+    (tie.spec root-of-requires is-slot-requires returns level-of-requires height-of-requires returns-2)

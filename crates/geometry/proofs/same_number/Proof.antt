@@ -1,0 +1,24 @@
+-- Two record numbers are the same where their words are; a struct's word comes back from its bits as it went in.
+use mir.Syntax.{w32}
+use mir.Facts.{toZ-ofZ}
+use borrow.Author.Needs.{needs, sfits-of}
+use Rattle.geometry.proofs.same_number.Statement.{statement}
+use Rattle.geometry.proofs.same_number.Tie as tie
+use Rattle.geometry.proofs.same_number.Reads as reads
+use Rattle.geometry.proofs.same_number.Lts as lts
+use Rattle.geometry.proofs.same.Reads as same-reads
+
+same-requires : tie.Need-same-requires
+same-requires c κs = search needs
+
+returns : tie.Need-returns
+returns c =
+    let s = c .before .before .before in
+    rw (
+      c .same .ensures,
+      toZ-ofZ {w = w32} {z = s .args .a .0} (sfits-of (c .before .before .struct-told .given .0 .1)),
+      toZ-ofZ {w = w32} {z = s .args .b .0} (sfits-of (c .before .struct-told2 .given .0 .1)),
+    )
+
+pub same-number-spec : {M : Type 1} → statement M
+same-number-spec = tie.close (tie.spec same-requires returns)

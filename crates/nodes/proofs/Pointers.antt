@@ -1,0 +1,13 @@
+-- An entry's child and its record number are those of its pointer, since the definitions look at nothing else of it.
+use mathlib.Core.Path.{_≡_, refl}
+use Rattle.rules.specs.declared.Entry.{Entry}
+use Rattle.rules.specs.Pool.{childOf, numberOf}
+use Rattle.nodes.specs.Reading.{pointedChild, pointedNumber}
+
+pub child-is : (e : Entry) → pointedChild (e .pointer) ≡ childOf e
+unfolding childOf
+child-is e = refl
+
+pub number-is : (e : Entry) → pointedNumber (e .pointer) ≡ numberOf e
+unfolding numberOf
+number-is e = refl

@@ -1,0 +1,28 @@
+-- What a pointer stands for, and what a node must be that a cover is made tight in.
+use Prim.Native.Nat.{ℕ, _≤_, _<_}
+use lib.ListN.{length}
+use lib.IntN.{pos}
+use Rattle.rules.specs.declared.SlotNumber.{SlotNumber}
+use Rattle.rules.specs.declared.RecordNumber.{RecordNumber}
+use Rattle.rules.specs.declared.Pointer.{Pointer}
+use Rattle.rules.specs.declared.Pointer.the-variants.{Number, Child}
+use Rattle.rules.specs.Pool.{Pool, slot, number, nodeAt, entriesAt, entryAt, childOf}
+
+-- the child that a pointer leads to: `childOf` of an entry is this of its pointer
+abbrev pub pointedChild : Pointer → SlotNumber
+pointedChild (Number n) = slot 0
+pointedChild (Child s) = s
+
+-- the record number that it is: `numberOf` of an entry is this of its pointer
+abbrev pub pointedNumber : Pointer → RecordNumber
+pointedNumber (Number n) = n
+pointedNumber (Child s) = number (pos 0)
+
+-- entry i of the inner node at s leads to a slot
+pub record LeadsOn (p : Pool) (s : SlotNumber) (i : ℕ) : Type 0 where
+  pub low : 1 ≤ s .0
+  pub high : s .0 ≤ length (p .slots)
+  pub inner : 2 ≤ nodeAt p s .level
+  pub there : i < length (entriesAt p s)
+  pub childLow : 1 ≤ childOf (entryAt p s i) .0
+  pub childHigh : childOf (entryAt p s i) .0 ≤ length (p .slots)

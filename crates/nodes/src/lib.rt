@@ -1,0 +1,192 @@
+// The node reader: a node by any slot number, the entry at a place of it, what an entry stands for, a node's cover. The walks of soundness,
+// search and FindLeaf read nodes by it and by `pool` alone.
+ghost use mathlib.Core.Path.{_≡_};
+ghost use mathlib.Core.Bool.{true};
+ghost use Prim.Native.Nat.{_-_, _<_, _≤_};
+ghost use lib.ListN.{length};
+ghost use Rattle.rules.specs.Layout as L;
+ghost use Rattle.rules.specs.Pool as P;
+ghost use Rattle.rules.specs.Sound as S;
+ghost use Rattle.pool.specs.Slots.{Fit, InPool};
+ghost use Rattle.nodes.specs.Reading.{pointedChild, pointedNumber, LeadsOn};
+use rules::Entry;
+use rules::Pointer;
+use rules::Record;
+use rules::RecordNumber;
+use rules::Rect;
+use rules::SlotNumber;
+
+// ---- slot numbers
+
+pub fn same_slot(a: SlotNumber, b: SlotNumber) -> bool
+    ensures { λ r. ⌜ r ≡ P.sameSlot a b ⌝ }
+{
+    let m = a.0;
+    let n = b.0;
+    m == n
+}
+
+// "a slot from 1 to N"
+pub fn is_slot(pool: &[i32], s: SlotNumber) -> bool
+    ensures { λ r. ⌜ r ≡ S.isSlot (L.read (now (pool .entry))) s ⌝ }
+{
+    let n = s.0;
+    if n < 1 {
+        return false;
+    }
+    n <= pool::slot_count(pool)
+}
+
+// The slot that is read for a number: slots are counted from 1, and the definitions read 0 as 1. No sound pool names slot 0.
+pub fn slot_read(s: SlotNumber) -> SlotNumber
+    ensures low { λ r. ⌜ 1 ≤ r .0 ⌝ }
+    ensures same { λ r. ⌜ r .0 - 1 ≡ s .0 - 1 ⌝ }
+{
+    let n = s.0;
+    if n == 0 {
+        return SlotNumber(1);
+    }
+    s
+}
+
+// ---- what an entry stands for
+
+// The child that a pointer leads to; a record number leads to none.
+fn pointed_child(p: Pointer) -> SlotNumber
+    ensures { λ r. ⌜ r ≡ pointedChild p ⌝ }
+{
+    match p {
+        Pointer::Number(_) => SlotNumber(0),
+        Pointer::Child(s) => s,
+    }
+}
+
+// The record number that a pointer is; a child slot is none.
+fn pointed_number(p: Pointer) -> RecordNumber
+    ensures { λ r. ⌜ r ≡ pointedNumber p ⌝ }
+{
+    match p {
+        Pointer::Number(n) => n,
+        Pointer::Child(_) => RecordNumber(0),
+    }
+}
+
+// The child that an inner entry leads to.
+pub fn child(e: Entry) -> SlotNumber
+    ensures { λ r. ⌜ r ≡ P.childOf e ⌝ }
+{
+    let p = e.pointer;
+    pointed_child(p)
+}
+
+// A leaf entry's record number.
+pub fn number_of(e: Entry) -> RecordNumber
+    ensures { λ r. ⌜ r ≡ P.numberOf e ⌝ }
+{
+    let p = e.pointer;
+    pointed_number(p)
+}
+
+// A leaf entry as the record that it holds.
+pub fn record_of(e: Entry) -> Record
+    ensures { λ r. ⌜ r ≡ P.recordOf e ⌝ }
+{
+    let number = number_of(e);
+    let rect = e.rect;
+    Record { number, rect }
+}
+
+// ---- nodes read, whatever the slot number
+
+// How many entries are in use; beyond the last slot there are none.
+pub fn count_at(pool: &[i32], s: SlotNumber) -> usize
+    requires { ⌜ L.validLength (now pool) ≡ true ⌝ }
+    ensures is { λ r. ⌜ r ≡ length (P.entriesAt (L.read (now (pool .entry))) s) ⌝ }
+    ensures most { λ r. ⌜ r ≤ 8 ⌝ }
+{
+    let t = slot_read(s);
+    let n = t.0;
+    if pool::slot_count(pool) < n {
+        return 0;
+    }
+    pool::count_of(pool, t)
+}
+
+// The rectangle of the entry at place i.
+pub fn rect_at(pool: &[i32], s: SlotNumber, i: usize) -> Rect
+    requires { ⌜ L.validLength (now pool) ≡ true ⌝ }
+    requires { ⌜ i < length (P.entriesAt (L.read (now pool)) s) ⌝ }
+    ensures { λ r. ⌜ r ≡ P.entryAt (L.read (now (pool .entry))) s i .rect ⌝ }
+{
+    pool::rect_of(pool, slot_read(s), i)
+}
+
+// The entry at place i.
+pub fn entry_at(pool: &[i32], s: SlotNumber, i: usize) -> Entry
+    requires { ⌜ L.validLength (now pool) ≡ true ⌝ }
+    requires { ⌜ i < length (P.entriesAt (L.read (now pool)) s) ⌝ }
+    ensures { λ r. ⌜ r ≡ P.entryAt (L.read (now (pool .entry))) s i ⌝ }
+{
+    pool::entry_of(pool, slot_read(s), i)
+}
+
+// The child that the entry at place i leads to. Its rectangle is not read.
+pub fn child_at(pool: &[i32], s: SlotNumber, i: usize) -> SlotNumber
+    requires { ⌜ L.validLength (now pool) ≡ true ⌝ }
+    requires { ⌜ i < length (P.entriesAt (L.read (now pool)) s) ⌝ }
+    ensures { λ r. ⌜ r ≡ P.childOf (P.entryAt (L.read (now (pool .entry))) s i) ⌝ }
+{
+    let p = pool::entry_pointer(pool, slot_read(s), i);
+    pointed_child(p)
+}
+
+// The record number of the entry at place i. Its rectangle is not read.
+pub fn number_at(pool: &[i32], s: SlotNumber, i: usize) -> RecordNumber
+    requires { ⌜ L.validLength (now pool) ≡ true ⌝ }
+    requires { ⌜ i < length (P.entriesAt (L.read (now pool)) s) ⌝ }
+    ensures { λ r. ⌜ r ≡ P.numberOf (P.entryAt (L.read (now (pool .entry))) s i) ⌝ }
+{
+    let p = pool::entry_pointer(pool, slot_read(s), i);
+    pointed_number(p)
+}
+
+// ---- covers
+
+// A cover: "its rectangle is the smallest holding that node's entries"; of none, the point (0, 0).
+pub fn cover_of(pool: &[i32], s: SlotNumber) -> Rect
+    requires { ⌜ InPool (now pool) s ⌝ }
+    ensures { λ r. ⌜ r ≡ P.coverOf (P.entriesAt (L.read (now (pool .entry))) s) ⌝ }
+{
+    let n = pool::count_of(pool, s);
+    if n == 0 {
+        return Rect {
+            lowX: 0,
+            lowY: 0,
+            highX: 0,
+            highY: 0,
+        };
+    }
+    let mut all = pool::rect_of(pool, s, 0);
+    let mut i: usize = 1;
+    while i < n {
+        all = geometry::cover(all, pool::rect_of(pool, s, i));
+        i += 1;
+    }
+    all
+}
+
+// AT3 and CT4: entry i of the node at s gets the smallest rectangle that holds its child's entries.
+pub fn tighten(pool: &mut [i32], s: SlotNumber, i: usize)
+    requires { ⌜ Fit (now pool) ⌝ }
+    requires { ⌜ LeadsOn (L.read (now pool)) s i ⌝ }
+    ensures is { λ _. ⌜ L.read (now (pool .exit)) ≡ P.tighten (L.read (now (pool .entry))) s i ⌝ }
+    ensures fit { λ _. ⌜ Fit (now (pool .exit)) ⌝ }
+{
+    let c = pool::child_of(pool, s, i);
+    let rect = cover_of(pool, c);
+    let tight = Entry {
+        rect,
+        pointer: Pointer::Child(c),
+    };
+    pool::put_entry_of(pool, s, i, tight);
+}
