@@ -15,14 +15,12 @@ use Rattle.rules.specs.Pool.{Node, Pool, slot, node, noEntry, nodeAt, entriesAt
 use Rattle.rules.specs.Layout.{read}
 use Rattle.rules.specs.Delete.{place, takeOut}
 use Rattle.rules_laws.proofs.Places.{at-place, each-at}
-use Rattle.rules_laws.proofs.Parts.{length-without}
+use Rattle.rules_laws.proofs.Parts.{length-without, those-fewer, among-without}
 use Rattle.pool.specs.Slots.{InPool, Fit, Small, SmallAll, KindAll}
 use Rattle.pool.proofs.Parts.{slotWords, slot-node}
 use Rattle.pool.proofs.Written.{Kind, Fine, node-fine}
 use Rattle.sound_laws.specs.Tree.{Slot, Tree}
-use Rattle.sound_laws.proofs.Joins.{those-fewer}
 use Rattle.sound_laws.proofs.Walk.{tree-node}
-use Rattle.insert_laws.proofs.Sums.{among-without}
 use Rattle.insert_laws.proofs.Under.{tree-fits}
 use Rattle.free_slots.specs.declared.FreeSlots.{FreeSlots}
 use Rattle.free_slots.specs.Known.{Known}

@@ -18,10 +18,10 @@ use Rattle.rules.specs.Delete.{Path, findLeaf}
 use Rattle.rules_laws.proofs.Bools.{and-both}
 use Rattle.rules_laws.proofs.Orders.{never-both}
 use Rattle.rules_laws.proofs.Places.{Among}
+use Rattle.rules_laws.proofs.Joins.{among-joined}
 use Rattle.sound_laws.specs.Tree.{recordsIn, treeRecords, Tree, Whole}
 use Rattle.sound_laws.proofs.Same.{same-pair}
 use Rattle.sound_laws.proofs.Tests.{or-is}
-use Rattle.sound_laws.proofs.Joins.{among-joined}
 use Rattle.sound_laws.proofs.Walk.{no-tree, leaf-of, inner-of, records-leaf, records-inner}
 use Rattle.sound_laws.proofs.Whole.{stored-in}
 use Rattle.search_laws.specs.Order.{Alike}

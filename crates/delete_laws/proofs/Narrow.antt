@@ -17,15 +17,14 @@ use Rattle.rules.specs.Numbers.{least}
 use Rattle.rules.specs.Pool.{Node, Pool, node, freeNode, noEntry, nodeAt, entriesAt, entryFrom, entryAt, childOf, entryFor, freeCount, putNode, zeroSlot, tighten}
 use Rattle.rules.specs.Delete.{place, Aside, Condensed, takeOut, asides, relieve}
 use Rattle.rules_laws.proofs.Places.{Among}
-use Rattle.rules_laws.proofs.Parts.{length-without}
+use Rattle.rules_laws.proofs.Parts.{length-without, among-set, among-without}
+use Rattle.rules_laws.proofs.Sums.{total-more, total-without, total-alike, total-set}
 use Rattle.sound_laws.specs.Tree.{slotsIn, Once, Slot, NodeIn, Tree}
-use Rattle.sound_laws.proofs.Joins.{total-more, total-without}
 use Rattle.sound_laws.proofs.Times.{slot-discrete}
 use Rattle.sound_laws.proofs.Walk.{tree-node, within, within-used, top-among, below-among}
 use Rattle.sound_laws.proofs.Frame.{entries-same, put-length, put-same, put-other, put-slot}
 use Rattle.sound_laws.proofs.Apart.{children-apart}
 use Rattle.insert_laws.specs.Grown.{Fits, Weights, weightUnder, spot, weightAt}
-use Rattle.insert_laws.proofs.Sums.{total-alike, among-set, among-without, total-set}
 use Rattle.insert_laws.proofs.Under.{under-inner, under-lower, under-used, entries-are, tree-fits, tree-made, fits-inner, weight-inner, weight-parts, weight-made, SameUnder, weight-frame, fits-frame, SameBelow, fits-below, total-below}
 use Rattle.insert_laws.proofs.FreeCount.{put-used}
 use Rattle.insert_laws.proofs.Install.{other-level, put-head, head-twice, put-entries}

@@ -11,13 +11,12 @@ use Rattle.rules.specs.Lists.{total, without}
 use Rattle.rules.specs.Pool.{Pool, node, noEntry, nodeAt, entriesAt, entryFrom, entryAt, recordOf, putNode}
 use Rattle.rules.specs.Delete.{place, takeOut}
 use Rattle.rules_laws.proofs.Places.{Among, at-place}
-use Rattle.rules_laws.proofs.Parts.{length-without}
+use Rattle.rules_laws.proofs.Parts.{length-without, among-without}
+use Rattle.rules_laws.proofs.Sums.{total-none, total-more, total-without, total-alike}
 use Rattle.sound_laws.specs.Tree.{Tree, NodeIn}
-use Rattle.sound_laws.proofs.Joins.{total-none, total-more, total-without}
 use Rattle.sound_laws.proofs.Walk.{tree-node, top-among}
 use Rattle.sound_laws.proofs.Frame.{put-length, put-same, put-other, put-slot}
 use Rattle.insert_laws.specs.Grown.{slotsUnder, recordsUnder, Weights, weightUnder}
-use Rattle.insert_laws.proofs.Sums.{total-alike, among-without}
 use Rattle.insert_laws.proofs.FreeCount.{put-used}
 use Rattle.insert_laws.proofs.Under.{entries-are, tree-fits, leaf-fits, fits-leaf, tree-made, weight-parts, weight-made}
 use Rattle.insert_laws.proofs.Install.{put-head, put-entries}

@@ -17,8 +17,8 @@ use Rattle.rules.specs.Delete.{shorten}
 use Rattle.rules_laws.proofs.Orders.{never-both}
 use Rattle.rules_laws.proofs.Places.{Among, nothing}
 use Rattle.rules_laws.proofs.Parts.{length-without}
+use Rattle.rules_laws.proofs.Sums.{total-none, total-more}
 use Rattle.sound_laws.specs.Tree.{slotsIn, recordsIn, treeSlots, treeRecords, times, Slot, Used, NodeIn, InnerEntry, Tree}
-use Rattle.sound_laws.proofs.Joins.{total-none, total-more}
 use Rattle.sound_laws.proofs.Tests.{leaf-is}
 use Rattle.sound_laws.proofs.Times.{slot-discrete, times-none, times-other}
 use Rattle.sound_laws.proofs.Walk.{tree-node, tree-positive, within, within-used}

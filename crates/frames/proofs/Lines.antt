@@ -15,7 +15,7 @@ use Rattle.rules.specs.declared.Record.{Record}
 use Rattle.rules.specs.declared.Answer.{Answer}
 use Rattle.rules.specs.Lists.{joined}
 use Rattle.rules.specs.Frames.{natShown, intShown, line, answerLine, recordLine, listedOf, replyLines, badLine}
-use Rattle.sound_laws.proofs.Joins.{joined-none, joined-more, joined-append}
+use Rattle.rules_laws.proofs.Joins.{joined-none, joined-more, joined-append}
 use Rattle.frames.specs.Places.{lift}
 use Rattle.frames.specs.Writing.{Wrote}
 use Rattle.frames.proofs.Texts.{nothing-wrote, wrote-then, wrote-as}

@@ -20,9 +20,9 @@ use Rattle.rules.specs.Search.{ordered, found, opened}
 use Rattle.rules.specs.Answers.{firstRow}
 use Rattle.rules.specs.Insert.{Choice}
 use Rattle.rules.specs.Request.{turn, searchFault, request}
+use Rattle.rules_laws.proofs.Parts.{those-and}
 use Rattle.search_laws.specs.Window.{recordMeets}
 use Rattle.search_laws.specs.Order.{Alike}
-use Rattle.search_laws.proofs.Lists.{those-and}
 use Rattle.search_laws.proofs.Order.{alike-length, ordered-alike, ordered-same}
 use Rattle.search_laws.proofs.Exact.{search-exact, opened-exact, found-once}
 use Rattle.sound_laws.proofs.Heights.{height-records}

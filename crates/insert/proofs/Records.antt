@@ -19,13 +19,13 @@ use Rattle.rules.specs.Insert.{Change, Done, NoneFree, ours, insertAt, insertRe
 use Rattle.rules.specs.Layout.{validLength, words, read}
 use Rattle.rules_laws.proofs.Places.{Each}
 use Rattle.rules_laws.proofs.Parts.{those-yes, those-no, those-none}
+use Rattle.rules_laws.proofs.Joins.{joined-none, joined-more}
 use Rattle.pool.specs.Slots.{Fit}
 use Rattle.pool.proofs.Written.{Fine, read-fine}
 use Rattle.free_slots.specs.declared.FreeSlots.{FreeSlots}
 use Rattle.free_slots.specs.Known.{Known}
 use Rattle.free_slots.proofs.Known.{known-records}
 use Rattle.sound_laws.specs.Tree.{Whole}
-use Rattle.sound_laws.proofs.Joins.{joined-none, joined-more}
 use Rattle.sound_laws.proofs.Heights.{height-eight}
 use Rattle.sound_laws.proofs.Walk.{tree-positive}
 use Rattle.insert_laws.specs.Grown.{Fits}

@@ -2,27 +2,18 @@
 use mathlib.Core.Path.{_≡_, refl, sym, _∙_}
 use mathlib.Core.Bool.{Bool, true, false}
 use mathlib.Core.List.{List, [], _∷_}
-use Prim.Native.Nat.{ℕ, suc, _+_, _-_, _≤_, _<_}
+use Prim.Native.Nat.{ℕ, suc, _+_, _-_, _≤_}
 use native.Mathlib.Omega.{arith}
 use lib.Dec.{eqb}
-use lib.ListN.{length, getD, set, length-set}
-use lib.Seq.{getD-set-same}
+use lib.ListN.{length}
 use borrow.Author.Tests.{eq-eqb, ne-eqb}
 use Rattle.rules.specs.declared.SlotNumber.{SlotNumber}
 use Rattle.rules.specs.declared.FreeSlot.the-variants.{Nowhere}
 use Rattle.rules.specs.Lists.{those}
 use Rattle.rules.specs.Pool.{Node, Pool, freeNode, nodeAt, freeFrom, lowestFree, freeCount, putNode}
-use Rattle.rules_laws.proofs.Parts.{those-yes, those-no, those-none, without-parted}
+use Rattle.rules_laws.proofs.Parts.{those-yes, those-no, those-none, count-set}
 use Rattle.sound_laws.specs.Tree.{Slot}
-use Rattle.sound_laws.proofs.Joins.{without-set}
 use Rattle.insert_laws.proofs.Free.{free-here, free-later}
-
--- a member put in another's place
-pub count-set : {A : Type 0} (q : A → Bool) (xs : List A) (i : ℕ) (y d : A) → i < length xs
-    → length (those q (set xs i y)) + length (those q (getD xs i d ∷ [])) ≡ length (those q xs) + length (those q (y ∷ []))
-count-set q xs i y d h =
-    let new = rw (getD-set-same xs i y d, without-set xs i y) at (without-parted (set xs i y) i d (rw length-set h)) in
-    omega (arith, new .each q, without-parted xs i d h .each q)
 
 abbrev pub isFree : Node → Bool
 isFree n = eqb (n .level) 0

@@ -1,5 +1,4 @@
 -- Laws of inserting.
-pub mod Sums
 pub mod Members
 pub mod Free
 pub mod Under

@@ -15,8 +15,8 @@ use Rattle.rules.specs.Pool.{Pool, node, freeNode, nodeAt, entriesAt, childOf, 
 use Rattle.rules.specs.Insert.{Choice, Grown, Kept, Split, Full, Done, NoneFree, newRoot, growTree, insertBelow, insertAt}
 use Rattle.rules.specs.Lawful.{Lawful}
 use Rattle.rules_laws.proofs.Places.{Among}
+use Rattle.rules_laws.proofs.Sums.{total-none, total-more}
 use Rattle.sound_laws.specs.Tree.{treeSlots, Once, Slot, Tree}
-use Rattle.sound_laws.proofs.Joins.{total-none, total-more}
 use Rattle.sound_laws.proofs.Times.{times-one}
 use Rattle.sound_laws.proofs.Walk.{no-tree}
 use Rattle.sound_laws.proofs.Frame.{put-length, put-same, put-other}

@@ -12,13 +12,13 @@ use Rattle.rules.specs.Lists.{total, without}
 use Rattle.rules.specs.Numbers.{least}
 use Rattle.rules.specs.Pool.{Node, Pool, node, noEntry, nodeAt, entriesAt, entryFrom, entryAt, childOf, entryFor, freeCount, putNode, tighten}
 use Rattle.rules_laws.proofs.Places.{Among, at-place}
+use Rattle.rules_laws.proofs.Sums.{total-without, total-alike, total-set}
+use Rattle.rules_laws.proofs.Parts.{among-set, among-without}
 use Rattle.sound_laws.specs.Tree.{slotsIn, Once, Slot, NodeIn, InnerEntry, Tree}
-use Rattle.sound_laws.proofs.Joins.{total-without}
 use Rattle.sound_laws.proofs.Walk.{inner-of, tree-node, within, within-used, top-among, below-among}
 use Rattle.sound_laws.proofs.Frame.{entries-same, put-length, put-same, put-other, put-slot}
 use Rattle.sound_laws.proofs.Apart.{children-apart}
 use Rattle.insert_laws.specs.Grown.{Fits, Weights, weightUnder, spot, weightAt, Grew, SameHead}
-use Rattle.insert_laws.proofs.Sums.{total-alike, among-set, among-without, total-set}
 use Rattle.insert_laws.proofs.FreeCount.{put-used}
 use Rattle.insert_laws.proofs.Under.{under-inner, entries-are, tree-fits, tree-made, fits-inner, weight-inner, weight-parts, weight-made, SameUnder, weight-frame, fits-frame, SameBelow, fits-below, total-below, weight-of-below}
 use Rattle.insert_laws.proofs.Install.{other-level, put-head, put-entries}

@@ -28,7 +28,7 @@ use Rattle.rules.specs.Call.{Lent, Batch, afterTurn, doRequest, doRequests, isR
 use Rattle.rules_laws.proofs.Bools.{not-false}
 use Rattle.rules_laws.proofs.Orders.{never-both}
 use Rattle.rules_laws.proofs.Places.{at-place}
-use Rattle.sound_laws.proofs.Tests.{every-is}
+use Rattle.rules_laws.proofs.Everies.{every-is}
 use Rattle.in_force_laws.proofs.Faults.{no-row}
 use Rattle.found_items.specs.Items.{itemsFrom, Pointing}
 use Rattle.request.specs.declared.Served.{Served}

@@ -1,14 +1,14 @@
 -- Sound words: they are those of a whole pool, which is low and holds no more records than there are places for.
 use mathlib.Core.Path.{_≡_, refl, ap, ap₂, subst, _∙_}
 use mathlib.Core.Bool.{Bool, true, false, cond}
-use mathlib.Core.List.{List, [], _∷_, map, List·Memᴰ·head, List·Memᴰ·tail}
-use Prim.Native.Nat.{ℕ, _*_, _≤_}
+use mathlib.Core.List.{List, [], _∷_, map}
+use Prim.Native.Nat.{_*_, _≤_}
 use native.Mathlib.Omega.{arith}
 use lib.ListN.{length, length-map}
 use lib.IntN.{ℤ}
 use Rattle.rules.specs.declared.Rect.{Rect}
 use Rattle.rules.specs.declared.SlotNumber.{SlotNumber}
-use Rattle.rules.specs.Lists.{same, those, total, upFrom}
+use Rattle.rules.specs.Lists.{same, upFrom}
 use Rattle.rules.specs.Numbers.{most}
 use Rattle.rules.specs.Pool.{Pool, nodeAt, entriesAt, slot, isLeaf, recordOf, stored, slotNumbers}
 use Rattle.rules.specs.Layout.{validLength, slotCount, words, read, sameWords}
@@ -16,16 +16,16 @@ use Rattle.rules.specs.Sound.{nothingElse, soundPool, sound}
 use Rattle.rules.specs.Search.{foundIn}
 use Rattle.rules_laws.proofs.Bools.{and-both, both-and}
 use Rattle.rules_laws.proofs.Orders.{never-both}
-use Rattle.rules_laws.proofs.Places.{Among, length-upFrom}
-use Rattle.rules_laws.proofs.Parts.{those-all}
+use Rattle.rules_laws.proofs.Places.{length-upFrom}
+use Rattle.rules_laws.proofs.Parts.{those-fewer}
+use Rattle.rules_laws.proofs.Sums.{total-most}
+use Rattle.rules_laws.proofs.Joins.{length-joined}
 use Rattle.sound_laws.specs.Tree.{recordsAt, Whole}
 use Rattle.sound_laws.proofs.Same.{same-is}
-use Rattle.sound_laws.proofs.Joins.{length-joined}
 use Rattle.sound_laws.proofs.Flat.{slots-are, stored-are}
 use Rattle.sound_laws.proofs.Sound.{sound-whole, whole-sound}
 use Rattle.sound_laws.proofs.Heights.{height-eight}
 use Rattle.search_laws.specs.Window.{recordMeets}
-use Rattle.search_laws.proofs.Lists.{count-fewer}
 use Rattle.search_laws.proofs.Order.{alike-length}
 use Rattle.search_laws.proofs.Found.{found-alike}
 use Rattle.pool.specs.Slots.{Fit}
@@ -72,11 +72,6 @@ module _ (w : List ℤ) where
 
 -- ---- how many records there are
 
-total-few : {A : Type 0} (f : A → ℕ) (n : ℕ) (xs : List A) → ((x : A) → Among x xs → f x ≤ n) → total (map f xs) ≤ n * length xs
-unfolding total
-total-few f n [] h = omega arith
-total-few f n (x ∷ xs) h = omega (arith, h x (List·Memᴰ·head refl), total-few f n xs (λ y m. h y (List·Memᴰ·tail m)))
-
 few-at : (p : Pool) (s : SlotNumber) → length (entriesAt p s) ≤ most → length (recordsAt p s) ≤ most
 unfolding recordsAt
 few-at p s h = go (isLeaf (nodeAt p s))
@@ -84,9 +79,6 @@ few-at p s h = go (isLeaf (nodeAt p s))
     go : (b : Bool) → length (cond b (map recordOf (entriesAt p s)) []) ≤ most
     go true = omega (arith, length-map (entriesAt p s) recordOf, h)
     go false = omega arith
-
-those-fewer : {A : Type 0} (t : A → Bool) (xs : List A) → length (those t xs) ≤ length xs
-those-fewer t xs = rw (those-all (those t xs), those-all xs) at (count-fewer (λ x. true) t xs)
 
 size-slots : (p : Pool) → length (slotNumbers p) ≡ length (p .slots)
 unfolding slotNumbers
@@ -96,7 +88,7 @@ module _ (w : List ℤ) (right : validLength w ≡ true) where
   -- 8 for each slot at most
   pub stored-few : length (stored (read w)) ≤ 8 * slotCount w
   stored-few =
-      let few = total-few (λ s. length (recordsAt (read w) s)) 8 (slotNumbers (read w))
+      let few = total-most (λ s. length (recordsAt (read w) s)) 8 (slotNumbers (read w))
       (λ s m. let i = slots-are (read w) s .0 m in few-at (read w) s (slot-few (record { right = right; low = i .low; high = omega (arith, i .high, read-slots w) }))) in
       omega (arith, few, ap length (stored-are (read w)), length-joined (recordsAt (read w)) (slotNumbers (read w)), size-slots (read w), read-slots w)
 

@@ -91,6 +91,9 @@ not-less (pos a) (negsuc b) p = sym p
 not-less (negsuc a) (pos b) p = refl
 not-less (negsuc a) (negsuc b) p = le-leb b a (ltb-false a b p)
 
+pub at-most-self : (a : ℤ) → leZ a a ≡ true
+at-most-self a = not-less a a (not-itself ltZ-strict a)
+
 pub both-at-most : (a b : ℤ) → leZ a b ≡ true → leZ b a ≡ true → a ≡ b
 both-at-most (pos a) (pos b) p q = ap pos (omega (arith, leb-true a b p, leb-true b a q))
 both-at-most (pos a) (negsuc b) p q = never-both p refl

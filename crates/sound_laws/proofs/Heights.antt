@@ -13,8 +13,9 @@ use Rattle.rules.specs.Lists.{joined}
 use Rattle.rules.specs.Numbers.{least, mostSlots}
 use Rattle.rules.specs.Pool.{Pool, entriesAt, childOf, recordOf}
 use Rattle.rules_laws.proofs.Places.{Among}
+use Rattle.rules_laws.proofs.Sums.{total-least}
+use Rattle.rules_laws.proofs.Joins.{length-joined}
 use Rattle.sound_laws.specs.Tree.{slotsIn, recordsIn, treeSlots, Tree, Whole}
-use Rattle.sound_laws.proofs.Joins.{total-least, length-joined}
 use Rattle.sound_laws.proofs.Walk.{slots-leaf, slots-inner, records-leaf, records-inner, no-tree, inner-of}
 use Rattle.sound_laws.proofs.Whole.{stored-length, few-slots}
 

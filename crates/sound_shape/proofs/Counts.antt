@@ -15,6 +15,7 @@ use Rattle.rules.specs.Lists.{those, joined}
 use Rattle.rules.specs.Pool.{Node, Pool, slot, freeNode, sameSlot, childOf}
 use Rattle.rules.specs.Sound.{innerEntries, parents}
 use Rattle.rules_laws.proofs.Parts.{those-none, those-append, count-append}
+use Rattle.rules_laws.proofs.Joins.{joined-both}
 use Rattle.sound_shape.specs.Shapes.{innerOf, parentsAmong, Counted, Counting, OneMore}
 
 -- ---- how many lead to a slot
@@ -78,11 +79,6 @@ at-slot s a v low high e = record { size = length-set a (s .0 - 1) v; is = λ t 
 
 -- ---- the inner nodes' entries
 
-joined-append : {A : Type 0} (xs ys : List (List A)) → joined (xs ++ ys) ≡ joined xs ++ joined ys
-unfolding joined
-joined-append [] ys = refl
-joined-append {A} (x ∷ xs) ys = ap (λ (l : List A). x ++ l) (joined-append xs ys) ∙ sym (append-assoc x (joined xs) (joined ys))
-
 abbrev inner : Node → Bool
 inner n = leb 2 (n .level)
 
@@ -93,7 +89,7 @@ inner-append : (xs ys : List Node) → innerOf (xs ++ ys) ≡ innerOf xs ++ inne
 unfolding innerOf
 inner-append xs ys =
     ap (λ (ns : List Node). joined (map entriesOf ns)) (those-append inner xs ys) ∙ ap joined (map-append entriesOf (those inner xs) (those inner ys))
-    ∙ joined-append (map entriesOf (those inner xs)) (map entriesOf (those inner ys))
+    ∙ joined-both (map entriesOf (those inner xs)) (map entriesOf (those inner ys))
 
 pub inner-none : innerOf [] ≡ []
 unfolding innerOf those joined
