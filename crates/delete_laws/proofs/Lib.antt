@@ -2,7 +2,6 @@
 pub mod Finds
 pub mod Held
 pub mod Asides
-pub mod Freed
 pub mod Out
 pub mod Narrow
 pub mod Condense

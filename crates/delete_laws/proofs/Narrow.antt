@@ -24,13 +24,12 @@ use Rattle.sound_laws.proofs.Times.{slot-discrete}
 use Rattle.sound_laws.proofs.Walk.{tree-node, within, within-used, top-among, below-among}
 use Rattle.sound_laws.proofs.Frame.{entries-same, put-length, put-same, put-other, put-slot}
 use Rattle.sound_laws.proofs.Apart.{children-apart}
+use Rattle.sound_laws.proofs.Free.{put-used, zero-freed}
 use Rattle.insert_laws.specs.Grown.{Fits, Weights, weightUnder, spot, weightAt}
 use Rattle.insert_laws.proofs.Under.{under-inner, under-lower, under-used, entries-are, tree-fits, tree-made, fits-inner, weight-inner, weight-parts, weight-made, SameUnder, weight-frame, fits-frame, SameBelow, fits-below, total-below}
-use Rattle.insert_laws.proofs.FreeCount.{put-used}
 use Rattle.insert_laws.proofs.Install.{other-level, put-head, head-twice, put-entries}
 use Rattle.insert_laws.proofs.Tighten.{among-here, child-entry}
 use Rattle.delete_laws.specs.Shrunk.{weightAside, Shrunk, condensed}
-use Rattle.delete_laws.proofs.Freed.{zero-freed}
 use Rattle.delete_laws.proofs.Asides.{weight-aside-append, weight-asides, asides-fit, weight-aside-below}
 
 module _ (p : Pool) (l : ℕ) (s : SlotNumber) (d : Tree p (suc (suc l)) s) (i : ℕ) (there : i < length (entriesAt p s)) where

@@ -16,8 +16,8 @@ use Rattle.rules_laws.proofs.Sums.{total-none, total-more, total-without, total
 use Rattle.sound_laws.specs.Tree.{Tree, NodeIn}
 use Rattle.sound_laws.proofs.Walk.{tree-node, top-among}
 use Rattle.sound_laws.proofs.Frame.{put-length, put-same, put-other, put-slot}
+use Rattle.sound_laws.proofs.Free.{put-used}
 use Rattle.insert_laws.specs.Grown.{slotsUnder, recordsUnder, Weights, weightUnder}
-use Rattle.insert_laws.proofs.FreeCount.{put-used}
 use Rattle.insert_laws.proofs.Under.{entries-are, tree-fits, leaf-fits, fits-leaf, tree-made, weight-parts, weight-made}
 use Rattle.insert_laws.proofs.Install.{put-head, put-entries}
 use Rattle.delete_laws.specs.Shrunk.{Shrunk, condensed}

@@ -23,13 +23,13 @@ use Rattle.sound_laws.proofs.Tests.{leaf-is}
 use Rattle.sound_laws.proofs.Times.{slot-discrete, times-none, times-other}
 use Rattle.sound_laws.proofs.Walk.{tree-node, tree-positive, within, within-used}
 use Rattle.sound_laws.proofs.Frame.{entries-same, slots-frame, records-frame, tree-frame, put-length, put-same, put-other}
+use Rattle.sound_laws.proofs.Free.{zero-freed}
 use Rattle.insert_laws.specs.Grown.{Weights, weightUnder, spot, weightAt}
 use Rattle.insert_laws.specs.Standing.{Standing}
 use Rattle.insert_laws.proofs.Counts.{timesOf, countOf, times-at, count-at, times-taken, count-taken}
 use Rattle.insert_laws.proofs.Root.{root-at}
 use Rattle.insert_laws.proofs.Tighten.{child-entry}
 use Rattle.delete_laws.specs.Shrunk.{Shortened}
-use Rattle.delete_laws.proofs.Freed.{zero-freed}
 use Rattle.delete_laws.proofs.Narrow.{weight-child}
 
 module _ (p : Pool) where

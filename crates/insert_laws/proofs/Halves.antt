@@ -16,7 +16,7 @@ use Rattle.rules.specs.Lawful.{LawfulSplit}
 use Rattle.rules_laws.proofs.Splits.{at-most-six}
 use Rattle.sound_laws.specs.Tree.{NodeIn}
 use Rattle.sound_laws.proofs.Frame.{put-same}
-use Rattle.insert_laws.proofs.Free.{lowest-slot, lowest-free}
+use Rattle.sound_laws.proofs.Free.{lowest-slot, lowest-free}
 use Rattle.insert_laws.proofs.Under.{entries-are}
 use Rattle.insert_laws.proofs.Install.{putTwo, two-first, two-second, other-level, put-entries, split-none, split-at, install-room, install-full}
 

@@ -1,6 +1,5 @@
 -- Laws of inserting.
 pub mod Members
-pub mod Free
 pub mod Under
 pub mod Install
 pub mod Counts
@@ -10,7 +9,6 @@ pub mod Below
 pub mod Root
 pub mod Standing
 pub mod Whole
-pub mod FreeCount
 pub mod Taken
 pub mod Slots
 pub mod Halves

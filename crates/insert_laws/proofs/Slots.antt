@@ -20,11 +20,10 @@ use Rattle.rules.specs.Pool.{Pool, node, nodeAt, entriesAt, entryAt, childOf, l
 use Rattle.rules.specs.Insert.{Choice, Grown, Kept, Split, Full, Change, Done, NoneFree, newRoot, growTree, insertBelow, insertAt, insertRecord}
 use Rattle.rules.specs.Lawful.{Lawful}
 use Rattle.sound_laws.specs.Tree.{treeSlots, Once, Tree, Whole}
+use Rattle.sound_laws.proofs.Free.{lowest-slot, lowest-free, put-free, nowhere-none}
 use Rattle.insert_laws.specs.Grown.{Fits}
 use Rattle.insert_laws.specs.Standing.{Standing}
 use Rattle.insert_laws.specs.Slots.{leading, isFull, wayUp, neededOn, slotsNeeded, recordNeeds}
-use Rattle.insert_laws.proofs.Free.{lowest-slot, lowest-free}
-use Rattle.insert_laws.proofs.FreeCount.{put-free, nowhere-none}
 use Rattle.insert_laws.proofs.Under.{fits-level}
 use Rattle.insert_laws.proofs.Taken.{leading-le, Takes, way-length, run, below-takes}
 use Rattle.insert_laws.proofs.Below.{way}

@@ -22,10 +22,9 @@ use Rattle.sound_laws.specs.Tree.{slotsIn, Once, Slot, Tree}
 use Rattle.sound_laws.proofs.Apart.{once-child}
 use Rattle.sound_laws.proofs.Walk.{no-tree, tree-node}
 use Rattle.sound_laws.proofs.Frame.{put-other, put-slot}
+use Rattle.sound_laws.proofs.Free.{lowest-slot, lowest-free, put-used, put-free, nowhere-none}
 use Rattle.insert_laws.specs.Grown.{Fits, Grows}
 use Rattle.insert_laws.specs.Slots.{leading, isFull, wayUp}
-use Rattle.insert_laws.proofs.Free.{lowest-slot, lowest-free}
-use Rattle.insert_laws.proofs.FreeCount.{put-used, put-free, nowhere-none}
 use Rattle.insert_laws.proofs.Under.{no-fit}
 use Rattle.insert_laws.proofs.Install.{other-level, put-entries, split-none, split-at, install-room, install-full}
 use Rattle.insert_laws.proofs.Tighten.{among-here, child-entry, tighten-grew, tighten-many, tighten-free}

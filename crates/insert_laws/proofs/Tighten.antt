@@ -18,8 +18,8 @@ use Rattle.sound_laws.specs.Tree.{slotsIn, Once, Slot, NodeIn, InnerEntry, Tree
 use Rattle.sound_laws.proofs.Walk.{inner-of, tree-node, within, within-used, top-among, below-among}
 use Rattle.sound_laws.proofs.Frame.{entries-same, put-length, put-same, put-other, put-slot}
 use Rattle.sound_laws.proofs.Apart.{children-apart}
+use Rattle.sound_laws.proofs.Free.{put-used}
 use Rattle.insert_laws.specs.Grown.{Fits, Weights, weightUnder, spot, weightAt, Grew, SameHead}
-use Rattle.insert_laws.proofs.FreeCount.{put-used}
 use Rattle.insert_laws.proofs.Under.{under-inner, entries-are, tree-fits, tree-made, fits-inner, weight-inner, weight-parts, weight-made, SameUnder, weight-frame, fits-frame, SameBelow, fits-below, total-below, weight-of-below}
 use Rattle.insert_laws.proofs.Install.{other-level, put-head, put-entries}
 

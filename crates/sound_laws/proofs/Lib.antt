@@ -12,3 +12,4 @@ pub mod Heights
 pub mod Questions
 pub mod Sound
 pub mod Blank
+pub mod Free
