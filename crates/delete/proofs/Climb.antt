@@ -21,7 +21,7 @@ use Rattle.sound_laws.proofs.Walk.{tree-node, tree-positive, within}
 use Rattle.sound_laws.proofs.Frame.{entries-same}
 use Rattle.sound_laws.proofs.Apart.{once-child}
 use Rattle.insert_laws.proofs.Install.{other-level}
-use Rattle.insert_laws.proofs.Tighten.{among-here, child-entry}
+use Rattle.insert_laws.proofs.Beside.{among-here, child-entry}
 use Rattle.delete_laws.specs.Way.{Leads}
 use Rattle.delete_laws.specs.Shrunk.{Shrunk, condensed}
 use Rattle.delete_laws.proofs.Condense.{leads-from, condense-shrunk}

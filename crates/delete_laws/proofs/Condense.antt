@@ -19,7 +19,7 @@ use Rattle.insert_laws.specs.Grown.{recordsUnder, spot}
 use Rattle.insert_laws.specs.Standing.{Standing}
 use Rattle.insert_laws.proofs.Under.{under-leaf}
 use Rattle.insert_laws.proofs.Counts.{timesOf, countOf, times-under, count-under, times-at, count-at, times-taken, count-taken, free-out}
-use Rattle.insert_laws.proofs.Tighten.{among-here, child-entry}
+use Rattle.insert_laws.proofs.Beside.{among-here, child-entry}
 use Rattle.delete_laws.specs.Way.{Leads}
 use Rattle.delete_laws.specs.Shrunk.{slotsAside, weightAside, Shrunk, Waiting, condensed}
 use Rattle.delete_laws.proofs.Asides.{aside-used, times-aside}

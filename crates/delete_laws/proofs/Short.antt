@@ -28,9 +28,8 @@ use Rattle.insert_laws.specs.Grown.{Weights, weightUnder, spot, weightAt}
 use Rattle.insert_laws.specs.Standing.{Standing}
 use Rattle.insert_laws.proofs.Counts.{timesOf, countOf, times-at, count-at, times-taken, count-taken}
 use Rattle.insert_laws.proofs.Root.{root-at}
-use Rattle.insert_laws.proofs.Tighten.{child-entry}
+use Rattle.insert_laws.proofs.Beside.{child-entry, weight-child}
 use Rattle.delete_laws.specs.Shrunk.{Shortened}
-use Rattle.delete_laws.proofs.Narrow.{weight-child}
 
 module _ (p : Pool) where
   pub shorten-leaf : isLeaf (nodeAt p (p .root)) ≡ true → shorten p ≡ p

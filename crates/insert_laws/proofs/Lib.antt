@@ -4,6 +4,7 @@ pub mod Under
 pub mod Install
 pub mod Counts
 pub mod Twice
+pub mod Beside
 pub mod Tighten
 pub mod Below
 pub mod Root
