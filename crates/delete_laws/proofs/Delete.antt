@@ -18,12 +18,12 @@ use Rattle.rules.specs.Delete.{Path, Condensed, findLeaf, condense, shorten, sh
 use Rattle.rules_laws.proofs.Orders.{never-both}
 use Rattle.rules_laws.proofs.Parts.{those-all}
 use Rattle.sound_laws.specs.Tree.{treeRecords, Whole}
-use Rattle.sound_laws.proofs.Frame.{records-frame}
 use Rattle.sound_laws.proofs.Whole.{stored-in}
 use Rattle.sound_laws.proofs.Sound.{whole-sound}
+use Rattle.sound_laws.proofs.Free.{head-free}
 use Rattle.insert_laws.specs.Standing.{Standing}
 use Rattle.insert_laws.proofs.Standing.{standing-once}
-use Rattle.insert_laws.proofs.Whole.{head-standing, whole-standing, standing-whole, standing-stored}
+use Rattle.insert_laws.proofs.Whole.{head-standing, whole-standing, standing-whole, standing-stored, head-records}
 use Rattle.delete_laws.specs.Way.{Leads, EachWay, Found}
 use Rattle.delete_laws.specs.Shrunk.{Shrunk, Waiting, PutBack, Shortened, Deleted, EachPool, Sure, roomFor, SlotRoom, deleteRoom}
 use Rattle.delete_laws.proofs.Finds.{find-leads}
@@ -42,21 +42,13 @@ leads-head p n r (suc zero) s way h = h
 leads-head p n r (suc (suc l)) s way h =
     (h .0, h .1, h .2, h .3, leads-head p n r (suc l) (childOf (entryAt p s (h .0))) (h .1) (h .4))
 
-head-at : (p : Pool) (n : ℕ) (t : SlotNumber) → nodeAt p t ≡ nodeAt (putRecords p n) t
-unfolding nodeAt putRecords
-head-at p n t = refl
-
 head-two : (p : Pool) (n : ℕ) → Whole p → 2 ≤ putRecords p n .height → 2 ≤ length (entriesAt (putRecords p n) (putRecords p n .root))
 unfolding putRecords entriesAt nodeAt
 head-two p n w h = w .two h
 
-head-free : (p : Pool) (n : ℕ) → freeCount (putRecords p n) ≡ freeCount p
-unfolding putRecords freeCount
-head-free p n = refl
-
 head-tree : (p : Pool) (n : ℕ) → treeRecords (putRecords p n) ≡ treeRecords p
 unfolding putRecords
-head-tree p n = records-frame p (putRecords p n) (p .height) (p .root) (λ t m. head-at p n t)
+head-tree p n = head-records p n (p .height) (p .root)
 
 -- ---- what was set aside is back, and the root is short
 

@@ -1,13 +1,12 @@
 -- CT3 and CT4: a child shrank. With fewer than 3 entries it leaves its parent, its entries are set aside and its slot is zeroed; else its
 -- entry is made tight. No node of the other children's trees has changed, since no slot stands in two of them (Beside).
-use mathlib.Core.Path.{_≡_, refl, sym, ap, _∙_}
+use mathlib.Core.Path.{_≡_, sym, ap, _∙_}
 use mathlib.Core.Logic.{_≢_, ⊎-elim}
-use mathlib.Core.Bool.{Bool, true, false}
 use mathlib.Core.List.{List, _∷_, _++_, map, Memᴰ·cast, List·Memᴰ·cases-cons, List·Memᴰ·append-cases}
 use Prim.Native.Nat.{ℕ, suc, _≤_, _<_}
+use native.Mathlib.Decide.{decLe}
 use native.Mathlib.Omega.{arith}
-use borrow.Author.Tests.{ltb-true, ltb-false}
-use lib.Dec.{ltb}
+use borrow.Author.Tests.{lt-ltb, le-ltb}
 use lib.ListN.{length, length-append, length-map}
 use Rattle.rules.specs.declared.SlotNumber.{SlotNumber}
 use Rattle.rules.specs.declared.Record.{Record}
@@ -15,7 +14,7 @@ use Rattle.rules.specs.declared.Entry.{Entry}
 use Rattle.rules.specs.Lists.{total, without}
 use Rattle.rules.specs.Numbers.{least}
 use Rattle.rules.specs.Pool.{Node, Pool, node, freeNode, nodeAt, entriesAt, childOf, freeCount, putNode, zeroSlot, tighten}
-use Rattle.rules.specs.Delete.{place, Aside, Condensed, takeOut, asides, relieve}
+use Rattle.rules.specs.Delete.{Place, place, Aside, Condensed, takeOut, asides, relieve}
 use Rattle.rules_laws.proofs.Places.{Among}
 use Rattle.rules_laws.proofs.Parts.{length-without}
 use Rattle.rules_laws.proofs.Sums.{total-more, total-alike}
@@ -30,6 +29,17 @@ use Rattle.insert_laws.proofs.Install.{other-level, put-head, head-twice, put-e
 use Rattle.insert_laws.proofs.Beside.{childAt, parent-node, child-entry, child-among, weight-child, beside-fits, beside-apart, Beside, top-same, top-level, now-slot, beside-same, tight-many, tight-long, tight-other, tight-below, tight-free, tight-head, tight-tree, tight-weighs}
 use Rattle.delete_laws.specs.Shrunk.{weightAside, Shrunk, condensed}
 use Rattle.delete_laws.proofs.Asides.{weight-aside-append, weight-asides, asides-fit, weight-aside-below}
+
+-- CT3: it has too few entries, or enough
+module _ (a : Place) (t : SlotNumber) (d : Condensed) where
+  pub relieve-few : length (entriesAt (d .pool) t) < least
+      → relieve a t d ≡ condensed (zeroSlot (takeOut (d .pool) a) t) (d .setAside ++ asides (d .pool) t)
+  unfolding relieve
+  relieve-few h = rw (lt-ltb (length (entriesAt (d .pool) t)) least h, relieve)
+
+  pub relieve-enough : least ≤ length (entriesAt (d .pool) t) → relieve a t d ≡ condensed (tighten (d .pool) (a .node) (a .at)) (d .setAside)
+  unfolding relieve
+  relieve-enough h = rw (le-ltb (length (entriesAt (d .pool) t)) least h, relieve)
 
 module _ (p : Pool) (l : ℕ) (s : SlotNumber) (d : Tree p (suc (suc l)) s) (i : ℕ) (there : i < length (entriesAt p s))
     (once : Once (slotsIn p (suc (suc l)) s)) (r : Record) (x : Condensed) (g : Shrunk p (suc l) (childAt p s i) r x) where
@@ -227,18 +237,9 @@ module _ (p : Pool) (l : ℕ) (s : SlotNumber) (d : Tree p (suc (suc l)) s) (i :
 
   -- ---- the one or the other
 
-  relieve-few : ltb (length (entriesAt q child)) least ≡ true
-      → relieve (place s i) child x ≡ condensed (zeroSlot (takeOut q (place s i)) child) all
-  unfolding relieve
-  relieve-few h = rw (h, relieve)
-
-  relieve-enough : ltb (length (entriesAt q child)) least ≡ false → relieve (place s i) child x ≡ condensed (tighten q s i) (x .setAside)
-  unfolding relieve
-  relieve-enough h = rw (h, relieve)
-
   pub relieve-shrunk : Shrunk p (suc (suc l)) s r (relieve (place s i) child x)
-  relieve-shrunk = go (ltb (length (entriesAt q child)) least) refl
+  relieve-shrunk = go (decLe least (length (entriesAt q child)))
     where
-      go : (b : Bool) → ltb (length (entriesAt q child)) least ≡ b → Shrunk p (suc (suc l)) s r (relieve (place s i) child x)
-      go true h = rw (relieve-few h) (gone-shrunk (ltb-true (length (entriesAt q child)) least h))
-      go false h = rw (relieve-enough h) (tighten-shrunk (ltb-false (length (entriesAt q child)) least h))
+      go : Dec (least ≤ length (entriesAt q child)) → Shrunk p (suc (suc l)) s r (relieve (place s i) child x)
+      go (yes h) = rw (relieve-enough (place s i) child x h) (tighten-shrunk h)
+      go (no h) = let few : length (entriesAt q child) < least = omega arith in rw (relieve-few (place s i) child x few) (gone-shrunk few)

@@ -20,7 +20,7 @@ use Rattle.rules.specs.Pool.{Pool, node, nodeAt, entriesAt, entryAt, childOf, l
 use Rattle.rules.specs.Insert.{Choice, Grown, Kept, Split, Full, Change, Done, NoneFree, newRoot, growTree, insertBelow, insertAt, insertRecord}
 use Rattle.rules.specs.Lawful.{Lawful}
 use Rattle.sound_laws.specs.Tree.{treeSlots, Once, Tree, Whole}
-use Rattle.sound_laws.proofs.Free.{lowest-slot, lowest-free, put-free, nowhere-none}
+use Rattle.sound_laws.proofs.Free.{lowest-slot, lowest-free, put-free, nowhere-none, head-free}
 use Rattle.insert_laws.specs.Grown.{Fits}
 use Rattle.insert_laws.specs.Standing.{Standing}
 use Rattle.insert_laws.specs.Slots.{leading, isFull, wayUp, neededOn, slotsNeeded, recordNeeds}
@@ -119,10 +119,6 @@ module _ (c : Choice) (p : Pool) (m : ℕ) where
   unfolding slotsNeeded neededOn isFull entriesAt nodeAt putRecords
   head-needs k e = ap (neededOn p) (head-way (p .height - k) (p .root) e)
 
-  head-free : freeCount (putRecords p m) ≡ freeCount p
-  unfolding freeCount putRecords
-  head-free = refl
-
 module _ (c : Choice) (lawful : Lawful c) (p : Pool) (w : Whole p) (r : Record) (v : valid (r .rect) ≡ true) (n : goodNumber (r .number) ≡ true) where
   stands : Standing (counted p) []
   stands = counted-stands p w
@@ -136,13 +132,13 @@ module _ (c : Choice) (lawful : Lawful c) (p : Pool) (w : Whole p) (r : Record) 
   pub insert-slots : (insertRecord c p r ≡ NoneFree) ↔ (freeCount p < recordNeeds c p r)
   unfolding insertRecord recordNeeds
   insert-slots =
-      rw (head-free c p (p .records + 1), head-needs c p (p .records + 1) 1 (leafEntry r))
+      rw (head-free p (p .records + 1), head-needs c p (p .records + 1) 1 (leafEntry r))
       at (level-slots c lawful (counted p) 1 (leafEntry r) (stands .tree) once (stands .some) fits (counted-high p w))
 
   pub insert-takes : (q : Pool) → insertRecord c p r ≡ Done q → freeCount q + recordNeeds c p r ≡ freeCount p
   unfolding insertRecord recordNeeds
   insert-takes q h =
-      rw (head-free c p (p .records + 1), head-needs c p (p .records + 1) 1 (leafEntry r))
+      rw (head-free p (p .records + 1), head-needs c p (p .records + 1) 1 (leafEntry r))
       at (level-takes c lawful (counted p) 1 (leafEntry r) (stands .tree) once (stands .some) fits (counted-high p w) q h)
 
   pub insert-needs-few : recordNeeds c p r ≤ suc (p .height)

@@ -94,7 +94,8 @@ module _ (p : Pool) where
 
 module _ (w : Weights) where
   module _ (p : Pool) where
-    weight-leaf : (e : Entry) → weightUnder w p 1 e ≡ w .ofRecord (recordOf e)
+    -- a leaf's entry weighs what its record does, in every pool
+    pub weight-leaf : (e : Entry) → weightUnder w p 1 e ≡ w .ofRecord (recordOf e)
     unfolding weightUnder slotsUnder recordsUnder
     weight-leaf e = omega (arith, total-none (w .ofSlot), total-none (w .ofRecord), total-more (w .ofRecord) (recordOf e) [])
 

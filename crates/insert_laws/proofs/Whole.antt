@@ -42,7 +42,7 @@ module _ (p : Pool) (n : ℕ) where
   head-slots : (l : ℕ) (s : SlotNumber) → slotsIn (putRecords p n) l s ≡ slotsIn p l s
   head-slots l s = slots-frame p (putRecords p n) l s (λ t m. head-at t)
 
-  head-records : (l : ℕ) (s : SlotNumber) → recordsIn (putRecords p n) l s ≡ recordsIn p l s
+  pub head-records : (l : ℕ) (s : SlotNumber) → recordsIn (putRecords p n) l s ≡ recordsIn p l s
   head-records l s = records-frame p (putRecords p n) l s (λ t m. head-at t)
 
   head-stored : stored (putRecords p n) ≡ stored p

@@ -1,5 +1,5 @@
 -- What stands at the places of a list, and what is so of each member. All is by induction on the list, a place at a time.
-use mathlib.Core.Path.{_≡_, refl, sym, ap, ap₂, _∙_}
+use mathlib.Core.Path.{_≡_, refl, sym, ap, ap₂, subst, _∙_}
 use mathlib.Core.List.{List, [], _∷_, _++_, map, List·Memᴰ, List·Memᴰ·head, List·Memᴰ·tail, Memᴰ·cast}
 use Prim.Native.Nat.{ℕ, zero, suc, _+_, _-_, _≤_, _<_}
 use native.Mathlib.Omega.{arith}
@@ -83,6 +83,10 @@ module _ {A : Type 0} (P : A → Type 0) where
 pub each-also : {A : Type 0} (P Q : A → Type 0) → ((x : A) → P x → Q x) → (xs : List A) → Each P xs → Each Q xs
 each-also P Q f [] a = tt
 each-also P Q f (x ∷ xs) a = (f x (a .0), each-also P Q f xs (a .1))
+
+pub each-of : {A : Type 0} (P : A → Type 0) {x : A} {xs : List A} → Each P xs → Among x xs → P x
+each-of P {xs = y ∷ ys} a (List·Memᴰ·head e) = subst P (sym e) (a .0)
+each-of P {xs = y ∷ ys} a (List·Memᴰ·tail m) = each-of P (a .1) m
 
 pub each-among : {A : Type 0} (P : A → Type 0) (xs : List A) → ((x : A) → Among x xs → P x) → Each P xs
 each-among P [] h = tt

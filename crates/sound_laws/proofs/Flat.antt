@@ -6,7 +6,7 @@ use mathlib.Core.List.{List, [], _∷_, _++_, map, map-map, map-append, Memᴰ·
 use Prim.Native.Nat.{ℕ, suc, _+_, _≤_, _<_}
 use native.Mathlib.Omega.{arith}
 use lib.Dec.{leb}
-use lib.ListN.{length, getD}
+use lib.ListN.{length, getD, length-map}
 use Rattle.rules.specs.declared.SlotNumber.{SlotNumber}
 use Rattle.rules.specs.declared.Entry.{Entry}
 use Rattle.rules.specs.Lists.{those, joined, total, upFrom}
@@ -36,6 +36,10 @@ among-slot p s m =
     let e : q .0 ≡ 1 + k .0 = sym (k .2 0) ∙ getD-upFrom 1 n (k .0) 0 l in
     let f : q .0 ≡ s .0 = ap (λ (t : SlotNumber). t .0) (q .2) in
     record { low = omega arith; high = omega arith }
+
+pub slots-size : (p : Pool) → length (slotNumbers p) ≡ length (p .slots)
+unfolding slotNumbers
+slots-size p = length-map (upFrom 1 (length (p .slots))) slot ∙ length-upFrom 1 (length (p .slots))
 
 pub slots-are : (p : Pool) (s : SlotNumber) → Among s (slotNumbers p) ↔ Slot p s
 slots-are p s = (among-slot p s, slot-among)

@@ -11,7 +11,7 @@ use borrow.Author.Tests.{eqb-true, eqb-false, eq-eqb, ne-eqb}
 use Rattle.rules.specs.declared.SlotNumber.{SlotNumber}
 use Rattle.rules.specs.declared.FreeSlot.the-variants.{At, Nowhere}
 use Rattle.rules.specs.Lists.{those}
-use Rattle.rules.specs.Pool.{Node, Pool, slot, freeNode, nodeAt, freeFrom, lowestFree, freeCount, putNode}
+use Rattle.rules.specs.Pool.{Node, Pool, slot, freeNode, nodeAt, freeFrom, lowestFree, freeCount, putNode, putRecords}
 use Rattle.rules_laws.proofs.Places.{at-place}
 use Rattle.rules_laws.proofs.Parts.{those-yes, those-no, those-none, counted, count-set}
 use Rattle.sound_laws.specs.Tree.{Slot}
@@ -140,3 +140,8 @@ unfolding freeCount nodeAt
 at-some p t h =
     let s = lowest-slot p t h in
     counted isFree (at-place (p .slots) (t .0 - 1) freeNode (omega (arith, s .low, s .high))) (eq-eqb _ 0 (lowest-free p t h))
+
+-- the number of records in the head says nothing of the slots
+pub head-free : (p : Pool) (n : ℕ) → freeCount (putRecords p n) ≡ freeCount p
+unfolding freeCount putRecords
+head-free p n = refl
