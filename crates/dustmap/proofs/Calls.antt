@@ -1,8 +1,8 @@
 -- A frame's call, done by one request: in a sound pool the call is served, and its answers, found list and pool are those of the request.
 use mathlib.Core.Path.{_≡_, refl, sym, ap, ap₂, _∙_}
-use mathlib.Core.Bool.{true, false}
+use mathlib.Core.Bool.{true}
 use mathlib.Core.List.{List, [], _∷_, _++_}
-use mathlib.Core.Option.{Option, none, some}
+use mathlib.Core.Option.{none, some}
 use Prim.Native.Nat.{ℕ, suc, min, _+_, _-_, _≤_}
 use native.Mathlib.Omega.{arith}
 use native.Mathlib.Decide.{decLe}
@@ -70,14 +70,6 @@ module _ (p w : List ℤ) where
           ∙ sets-beyond (itemsFrom p w 64 (n - 64)) (sets empties 0 (itemsFrom p w 0 64)) 64 (omega (arith, length-sets empties 0 (itemsFrom p w 0 64))))
 
 -- ---- the call
-
-pub asked-some : (q : Request) → isRequest q ≡ true → (a : Asked) × (asked q ≡ some a)
-unfolding isRequest
-asked-some q h = go (asked q) refl h
-  where
-    go : (o : Option Asked) → asked q ≡ o → elim o [ none ↦ false | some a ↦ true ] ≡ true → (a : Asked) × (asked q ≡ some a)
-    go none e k = let z : _≡_ {A = ℕ} 0 1 = cc in absurd (omega arith)
-    go (some a) e k = (a, e)
 
 lentBy : List ℤ → Request → Lent
 lentBy w q = record { pool = w; workspace = w; requests = q ∷ []; answers = answer 0 0 0 0 ∷ []; found = empties }

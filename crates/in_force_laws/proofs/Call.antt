@@ -1,6 +1,6 @@
 -- A call that returns 0, and the calls of a history.
 use mathlib.Core.Path.{_≡_, refl, sym, subst, ap, _∙_}
-use mathlib.Core.Bool.{Bool, true, false, not, _||_}
+use mathlib.Core.Bool.{true, not, _||_}
 use mathlib.Core.List.{List, [], _∷_, _++_}
 use mathlib.Core.Option.{Option, none, some}
 use Prim.Native.Nat.{ℕ, _+_, _-_, _≤_}
@@ -24,8 +24,7 @@ use Rattle.rules.specs.Insert.{Choice, ours}
 use Rattle.rules.specs.Lawful.{Lawful}
 use Rattle.rules.specs.Request.{asked}
 use Rattle.rules.specs.Call.{Lent, Left, Batch, doRequests, callFault, refused, served, starting, callBy, call}
-use Rattle.rules_laws.proofs.Bools.{not-false}
-use Rattle.rules_laws.proofs.Orders.{never-both}
+use Rattle.rules_laws.proofs.Bools.{not-false, or-neither}
 use Rattle.rules_laws.proofs.Places.{nothing}
 use Rattle.rules_laws.proofs.Parts.{those-none}
 use Rattle.rules_laws.proofs.Splits.{ours-lawful}
@@ -56,10 +55,6 @@ all-off l =
     (given-row Told-off _ NotSound _ (λ h. omega (arith, ap size h))
     (given-row Told-off _ NoRequest _ (λ h. omega (arith, ap size h)) (given-none Told-off))))
 
-or-later : (a b : Bool) → (a || b) ≡ false → b ≡ false
-or-later true b h = never-both refl h
-or-later false b h = h
-
 module _ (c : Choice) (l : Lent) where
   abbrev whole-batch : Batch
   whole-batch = doRequests c 0 (l .requests) (starting l)
@@ -87,7 +82,7 @@ module _ (c : Choice) (l : Lent) where
   unfolding callFault
   answers-long h =
       let a = no-row (ltb mostRequests (length (l .requests)) || not (eqb (length (l .answers)) (length (l .requests)))) BadLists _ h in
-      eqb-true _ _ (not-false _ (or-later (ltb mostRequests (length (l .requests))) _ (a .0)))
+      eqb-true _ _ (not-false _ (or-neither (ltb mostRequests (length (l .requests))) _ (a .0) .1))
 
   pub left-pool : callFault l ≡ none → callBy c l .pool ≡ words (whole-batch .pool)
   unfolding served

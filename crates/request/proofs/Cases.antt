@@ -87,3 +87,11 @@ asks-one P q b h x a e = subst P (ap pick (sym h ∙ e)) x
     pick : Option Asked → Asked
     pick none = b
     pick (some c) = c
+
+-- what is a request asks something
+pub asks-something : (q : Request) → isRequest q ≡ true → (a : Asked) × (asked q ≡ some a)
+asks-something q h = go (asked q) refl
+  where
+    go : (o : Option Asked) → asked q ≡ o → (a : Asked) × (asked q ≡ some a)
+    go none e = never-both h (no-request q e)
+    go (some a) e = (a, e)

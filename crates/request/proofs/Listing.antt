@@ -18,13 +18,14 @@ use Rattle.rules.specs.Search.{foundIn, ordered, found, opened}
 use Rattle.rules.specs.Insert.{ours}
 use Rattle.rules.specs.Answers.{answerOf}
 use Rattle.rules.specs.Request.{Turn, turn, request}
+use Rattle.find_leaf.proofs.Held.{low-enough}
 use Rattle.pool.proofs.Parts.{right-size, few-slots}
 use Rattle.search_laws.proofs.Order.{alike-length, ordered-alike}
 use Rattle.free_slots.specs.declared.FreeSlots.{FreeSlots}
 use Rattle.found_items.specs.Items.{itemsFrom, Pointing}
 use Rattle.request.specs.declared.Served.{Served}
 use Rattle.request.specs.Serving.{Ready, Serves, Changes, replied}
-use Rattle.request.proofs.Sounds.{found-few, low-tree}
+use Rattle.request.proofs.Sounds.{found-few}
 use Rattle.request.proofs.Rows.{search-3, search-8, search-0}
 use Rattle.request.proofs.Turns.{ready-whole, stays}
 
@@ -59,7 +60,7 @@ module _ (w : List ℤ) (f : FreeSlots) (r : Ready w f) (window : Rect) where
   walk-few = found-few w (r .right) (ready-whole w f r) window
 
   pub ready-low : read w .height ≤ 8
-  ready-low = low-tree w (r .right) (ready-whole w f r)
+  ready-low = low-enough w (r .right) (ready-whole w f r)
 
   -- there is room for them in a workspace as long as the pool, twice
   pub walk-room : 4 * length walk ≤ length w

@@ -2,9 +2,8 @@ use mathlib.Core.Path.{refl, sym, _∙_}
 use Rattle.rules_laws.proofs.Bools.{not-true, not-false}
 use Rattle.rules.specs.declared.Asked.the-variants.{Delete}
 use Rattle.rules.specs.declared.Reply.the-variants.{BadRectangle, BadNumber, NotHeld}
-use Rattle.find_leaf.proofs.Held.{shows-held}
+use Rattle.find_leaf.proofs.Held.{shows-held, low-enough}
 use Rattle.request.proofs.Turns.{ready-fit, ready-whole, off, delete-made}
-use Rattle.request.proofs.Sounds.{low-tree}
 use Rattle.request.proofs.Rows.{delete-3, delete-4, delete-5}
 use borrow.Author.Needs.{needs}
 use Rattle.request.proofs.delete.Statement.{statement}
@@ -47,7 +46,7 @@ returns-2 c = rw (c .told2 .ensures) (off (c .before .before .before .before .be
 
 -- src/lib.rt:200:9
 find-leaf-requires : tie.Need-find-leaf-requires
-find-leaf-requires c κs = ((c .before .before .before .before .before .before .before .pre .0) .right, (low-tree (c .before .before .before .before .before .before .before .args .pool .now) ((c .before .before .before .before .before .before .before .pre .0) .right) (ready-whole (c .before .before .before .before .before .before .before .args .pool .now) (c .before .before .before .before .before .before .before .args .free) (c .before .before .before .before .before .before .before .pre .0))))
+find-leaf-requires c κs = ((c .before .before .before .before .before .before .before .pre .0) .right, (low-enough (c .before .before .before .before .before .before .before .args .pool .now) ((c .before .before .before .before .before .before .before .pre .0) .right) (ready-whole (c .before .before .before .before .before .before .before .args .pool .now) (c .before .before .before .before .before .before .before .args .free) (c .before .before .before .before .before .before .before .pre .0))))
 
 -- src/lib.rt:202:9
 told-requires-3 : tie.Need-told-requires-3
@@ -63,7 +62,7 @@ returns-3 c = rw (c .told3 .ensures) (off (c .before .before .before .before .be
 
 -- src/lib.rt:204:22
 scarce-requires : tie.Need-scarce-requires
-scarce-requires c κs = ((c .before .before .before .before .before .before .before .before .before .before .before .before .pre .0) .right, (low-tree (c .before .before .before .before .before .before .before .before .before .before .before .before .args .pool .now) ((c .before .before .before .before .before .before .before .before .before .before .before .before .pre .0) .right) (ready-whole (c .before .before .before .before .before .before .before .before .before .before .before .before .args .pool .now) (c .before .before .before .before .before .before .before .before .before .before .before .before .args .free) (c .before .before .before .before .before .before .before .before .before .before .before .before .pre .0))))
+scarce-requires c κs = ((c .before .before .before .before .before .before .before .before .before .before .before .before .pre .0) .right, (low-enough (c .before .before .before .before .before .before .before .before .before .before .before .before .args .pool .now) ((c .before .before .before .before .before .before .before .before .before .before .before .before .pre .0) .right) (ready-whole (c .before .before .before .before .before .before .before .before .before .before .before .before .args .pool .now) (c .before .before .before .before .before .before .before .before .before .before .before .before .args .free) (c .before .before .before .before .before .before .before .before .before .before .before .before .pre .0))))
 
 -- src/lib.rt:204:5
 keep-requires : tie.Need-keep-requires

@@ -2,9 +2,8 @@ use mathlib.Core.Path.{refl, sym, _∙_}
 use Rattle.rules_laws.proofs.Bools.{not-true, not-false}
 use Rattle.rules.specs.declared.Asked.the-variants.{Update}
 use Rattle.rules.specs.declared.Reply.the-variants.{BadRectangle, BadNumber, NotHeld, Held}
-use Rattle.find_leaf.proofs.Held.{shows-held}
+use Rattle.find_leaf.proofs.Held.{shows-held, low-enough}
 use Rattle.request.proofs.Turns.{ready-fit, ready-whole, off, update-made}
-use Rattle.request.proofs.Sounds.{low-tree}
 use Rattle.request.proofs.Rows.{update-old, update-new, update-4, update-5, update-6}
 use borrow.Author.Needs.{needs}
 use Rattle.request.proofs.update.Statement.{statement}
@@ -60,7 +59,7 @@ returns-3 c = rw (c .told3 .ensures) (off (c .before .before .before .before .be
 
 -- src/lib.rt:259:9
 find-leaf-requires : tie.Need-find-leaf-requires
-find-leaf-requires c κs = ((c .before .before .before .before .before .before .before .before .before .pre .0) .right, (low-tree (c .before .before .before .before .before .before .before .before .before .args .pool .now) ((c .before .before .before .before .before .before .before .before .before .pre .0) .right) (ready-whole (c .before .before .before .before .before .before .before .before .before .args .pool .now) (c .before .before .before .before .before .before .before .before .before .args .free) (c .before .before .before .before .before .before .before .before .before .pre .0))))
+find-leaf-requires c κs = ((c .before .before .before .before .before .before .before .before .before .pre .0) .right, (low-enough (c .before .before .before .before .before .before .before .before .before .args .pool .now) ((c .before .before .before .before .before .before .before .before .before .pre .0) .right) (ready-whole (c .before .before .before .before .before .before .before .before .before .args .pool .now) (c .before .before .before .before .before .before .before .before .before .args .free) (c .before .before .before .before .before .before .before .before .before .pre .0))))
 
 -- src/lib.rt:261:9
 told-requires-4 : tie.Need-told-requires-4
@@ -92,7 +91,7 @@ returns-5 c = rw (c .told5 .ensures) (off (c .before .before .before .before .be
 
 -- src/lib.rt:266:22
 scarce-requires : tie.Need-scarce-requires
-scarce-requires c κs = ((c .before .before .before .before .before .before .before .before .before .before .before .before .before .before .before .before .before .pre .0) .right, (low-tree (c .before .before .before .before .before .before .before .before .before .before .before .before .before .before .before .before .before .args .pool .now) ((c .before .before .before .before .before .before .before .before .before .before .before .before .before .before .before .before .before .pre .0) .right) (ready-whole (c .before .before .before .before .before .before .before .before .before .before .before .before .before .before .before .before .before .args .pool .now) (c .before .before .before .before .before .before .before .before .before .before .before .before .before .before .before .before .before .args .free) (c .before .before .before .before .before .before .before .before .before .before .before .before .before .before .before .before .before .pre .0))))
+scarce-requires c κs = ((c .before .before .before .before .before .before .before .before .before .before .before .before .before .before .before .before .before .pre .0) .right, (low-enough (c .before .before .before .before .before .before .before .before .before .before .before .before .before .before .before .before .before .args .pool .now) ((c .before .before .before .before .before .before .before .before .before .before .before .before .before .before .before .before .before .pre .0) .right) (ready-whole (c .before .before .before .before .before .before .before .before .before .before .before .before .before .before .before .before .before .args .pool .now) (c .before .before .before .before .before .before .before .before .before .before .before .before .before .before .before .before .before .args .free) (c .before .before .before .before .before .before .before .before .before .before .before .before .before .before .before .before .before .pre .0))))
 
 -- src/lib.rt:266:5
 keep-requires : tie.Need-keep-requires
