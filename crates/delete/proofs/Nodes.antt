@@ -80,6 +80,6 @@ module _ {w : List ℤ} {s : SlotNumber} (f : Fit w) (g : A.Rewritable (read w) 
       kind = λ j h. let k = rest-at j h in rw e (subst (Kind (nodeAt (read w) s .level)) (k .2) (here-kind (k .0) (k .1)));
     }
 
-    pub out-is : (level : ℕ) → level ≡ nodeAt (read w) s .level → putNode (read w) s (node level (take (n - 1) rest)) ≡ takeOut (read w) (place s i)
+    pub taken-out : (level : ℕ) → level ≡ nodeAt (read w) s .level → putNode (read w) s (node level (take (n - 1) rest)) ≡ takeOut (read w) (place s i)
     unfolding takeOut putEntries
-    out-is level e = ap₂ (λ (l : ℕ) (xs : List Entry). putNode (read w) s (node l xs)) e rest-is
+    taken-out level e = ap₂ (λ (l : ℕ) (xs : List Entry). putNode (read w) s (node l xs)) e rest-is

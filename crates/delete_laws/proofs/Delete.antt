@@ -81,9 +81,9 @@ module _ (c : Choice) where
     pub stands : Standing less []
     stands = head-standing p (p .records - 1) [] (whole-standing p w)
 
-    pub way-there : Leads less r (less .height) (less .root) way
+    pub way-leads : Leads less r (less .height) (less .root) way
     unfolding putRecords
-    way-there = leads-head p (p .records - 1) r (p .height) (p .root) way h
+    way-leads = leads-head p (p .records - 1) r (p .height) (p .root) way h
 
     pub out : Condensed
     out = condense less way
@@ -94,7 +94,7 @@ module _ (c : Choice) where
 
     pub shrunk : Shrunk less (less .height) (less .root) r out
     unfolding out
-    shrunk = condense-shrunk less r (less .height) (less .root) way (stands .tree) (standing-once less [] stands) way-there
+    shrunk = condense-shrunk less r (less .height) (less .root) way (stands .tree) (standing-once less [] stands) way-leads
 
     pub waiting : Waiting (out .pool) (out .setAside)
     waiting = shrunk-waiting less stands (head-two p (p .records - 1) w) r out shrunk
@@ -176,14 +176,14 @@ module _ (c : Choice) where
   -- ---- D1 to D4
 
   module _ (p : Pool) (r : Record) where
-    delete-none : findLeaf p r (p .height) (p .root) ≡ none → deleteRecord c p r ≡ Done p
+    delete-missing : findLeaf p r (p .height) (p .root) ≡ none → deleteRecord c p r ≡ Done p
     unfolding deleteRecord
-    delete-none h = rw (h, deleteRecord)
+    delete-missing h = rw (h, deleteRecord)
 
-    pub delete-some : (way : Path) → findLeaf p r (p .height) (p .root) ≡ some way
+    pub delete-found : (way : Path) → findLeaf p r (p .height) (p .root) ≡ some way
         → deleteRecord c p r ≡ putBack c (condense (putRecords p (p .records - 1)) way)
     unfolding deleteRecord
-    delete-some way h = rw (h, deleteRecord)
+    delete-found way h = rw (h, deleteRecord)
 
     module _ (w : Whole p) where
       -- a pair that is not held changes nothing
@@ -191,7 +191,7 @@ module _ (c : Choice) where
       delete-other n = go (findLeaf p r (p .height) (p .root)) refl
         where
           go : (o : Option Path) → findLeaf p r (p .height) (p .root) ≡ o → deleteRecord c p r ≡ Done p
-          go none h = delete-none h
+          go none h = delete-missing h
           go (some way) h = never-both (find-held p w r .1 (subst Found (sym h) tt)) n
 
       pub delete-each : Lawful c → held p r ≡ true → EachPool (Deleted p r) (deleteRecord c p r)
@@ -200,7 +200,7 @@ module _ (c : Choice) where
           go : (o : Option Path) → findLeaf p r (p .height) (p .root) ≡ o → EachPool (Deleted p r) (deleteRecord c p r)
           go none h = absurd (subst Found h (find-held p w r .0 y))
           go (some way) h =
-              rw (delete-some way h)
+              rw (delete-found way h)
               (back-deleted lawful p w r way (subst (EachWay (Leads p r (p .height) (p .root))) h (find-leads p r (p .height) (p .root))))
 
       -- with slots enough a delete is done, and leaves as many
@@ -208,9 +208,9 @@ module _ (c : Choice) where
       delete-room lawful room = go (findLeaf p r (p .height) (p .root)) refl
         where
           go : (o : Option Path) → findLeaf p r (p .height) (p .root) ≡ o → Sure (SlotRoom p (2 * (p .height - 1))) (deleteRecord c p r)
-          go none h = rw (delete-none h) (record { high = omega arith; left = omega arith })
+          go none h = rw (delete-missing h) (record { high = omega arith; left = omega arith })
           go (some way) h =
-              rw (delete-some way h)
+              rw (delete-found way h)
               (back-room lawful p w r way (subst (EachWay (Leads p r (p .height) (p .root))) h (find-leads p r (p .height) (p .root))) room)
 
       pub delete-fits : Lawful c → deleteRoom (p .height) ≤ freeCount p → deleteRecord c p r ≢ NoneFree

@@ -26,7 +26,7 @@ use Rattle.sound_laws.proofs.Free.{put-used, zero-freed}
 use Rattle.insert_laws.specs.Grown.{Fits, Weights, weightUnder}
 use Rattle.insert_laws.proofs.Under.{under-inner, under-lower, under-used, entries-are, tree-made, weight-parts, weight-made, SameUnder, weight-frame, fits-frame, SameBelow, fits-below}
 use Rattle.insert_laws.proofs.Install.{other-level, put-head, head-twice, put-entries}
-use Rattle.insert_laws.proofs.Beside.{childAt, parent-node, child-entry, child-among, weight-child, beside-fits, beside-apart, Beside, top-same, top-level, now-slot, beside-same, tight-many, tight-long, tight-other, tight-below, tight-free, tight-head, tight-tree, tight-weighs}
+use Rattle.insert_laws.proofs.Beside.{childAt, parent-node, child-entry, child-inside, weight-child, beside-fits, beside-apart, Beside, top-same, top-level, now-slot, beside-same, tight-many, tight-long, tight-other, tight-below, tight-free, tight-head, tight-tree, tight-weighs}
 use Rattle.delete_laws.specs.Shrunk.{weightAside, Shrunk, condensed}
 use Rattle.delete_laws.proofs.Asides.{weight-aside-append, weight-asides, asides-fit, weight-aside-below}
 
@@ -62,7 +62,7 @@ module _ (p : Pool) (l : ℕ) (s : SlotNumber) (d : Tree p (suc (suc l)) s) (i :
   low-level = tree-node q (suc l) child (g .tree) .level
 
   inside-tree : (t : SlotNumber) → Among t (slotsIn p (suc l) child) → Among t (slotsIn p (suc (suc l)) s)
-  inside-tree = child-among p l s d i there
+  inside-tree = child-inside p l s d i there
 
   -- a slot that was freed is one of the tree, and not the parent's
   freed-low : (t : SlotNumber) → Among t (g .freed) → 1 ≤ t .0

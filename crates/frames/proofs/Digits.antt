@@ -22,9 +22,9 @@ unfolding digits
 no-digits n b = refl
 
 -- what stands behind the digits has no part in them
-behind : (k n : ℕ) (b : List ℕ) → digits k n b ≡ digits k n [] ++ b
-behind zero n b = no-digits n b ∙ ap (λ (l : List ℕ). l ++ b) (sym (no-digits n []))
-behind (suc k) n b = go (decLe 10 n) (behind k (n / 10))
+digits-append : (k n : ℕ) (b : List ℕ) → digits k n b ≡ digits k n [] ++ b
+digits-append zero n b = no-digits n b ∙ ap (λ (l : List ℕ). l ++ b) (sym (no-digits n []))
+digits-append (suc k) n b = go (decLe 10 n) (digits-append k (n / 10))
   where
     go : Dec (10 ≤ n) → ((b : List ℕ) → digits k (n / 10) b ≡ digits k (n / 10) [] ++ b) → digits (suc k) n b ≡ digits (suc k) n [] ++ b
     go (no h) r = rw (one-digit k n b (omega arith), one-digit k n [] (omega arith))
@@ -58,12 +58,12 @@ shown-one n h = one-digit 19 n [] h
 pub shown-more : (n : ℕ) → 10 ≤ n → n < 18446744073709551616 → natShown n ≡ natShown (n / 10) ++ (48 + n % 10) ∷ []
 unfolding natShown
 shown-more n l h =
-    more-digits 19 n [] l ∙ behind 19 (n / 10) ((48 + n % 10) ∷ [])
+    more-digits 19 n [] l ∙ digits-append 19 (n / 10) ((48 + n % 10) ∷ [])
     ∙ ap (λ (d : List ℕ). d ++ (48 + n % 10) ∷ []) (sym (spare 18 (n / 10) [] (tenth n (10 ^ 19) (omega arith))))
 
-at-most : (k n : ℕ) (b : List ℕ) → length (digits k n b) ≤ k + length b
-at-most zero n b = let e = ap length (no-digits n b) in omega arith
-at-most (suc k) n b = go (decLe 10 n) (at-most k (n / 10) ((48 + n % 10) ∷ b))
+digits-most : (k n : ℕ) (b : List ℕ) → length (digits k n b) ≤ k + length b
+digits-most zero n b = let e = ap length (no-digits n b) in omega arith
+digits-most (suc k) n b = go (decLe 10 n) (digits-most k (n / 10) ((48 + n % 10) ∷ b))
   where
     go : Dec (10 ≤ n) → length (digits k (n / 10) ((48 + n % 10) ∷ b)) ≤ k + suc (length b) → length (digits (suc k) n b) ≤ suc k + length b
     go (no h) r = let e = ap length (one-digit k n b (omega arith)) in omega arith
@@ -71,4 +71,4 @@ at-most (suc k) n b = go (decLe 10 n) (at-most k (n / 10) ((48 + n % 10) ∷ b))
 
 pub shown-length : (n : ℕ) → length (natShown n) ≤ 20
 unfolding natShown
-shown-length n = let h = at-most 20 n [] in omega arith
+shown-length n = let h = digits-most 20 n [] in omega arith

@@ -12,7 +12,7 @@ use Rattle.rules.specs.declared.FreeSlot.the-variants.{At, Nowhere}
 use Rattle.rules.specs.Lists.{those}
 use Rattle.rules.specs.Pool.{Node, Pool, slot, freeNode, nodeAt, freeFrom, lowestFree, freeCount}
 use Rattle.rules_laws.proofs.Parts.{those-yes, those-no, those-none}
-use Rattle.sound_laws.proofs.Free.{isFree, free-none, free-here, free-later}
+use Rattle.sound_laws.proofs.Free.{isFree, free-nowhere, free-here, free-later}
 
 -- the lowest free slot of those from s on, and how many of them are free
 abbrev pub lowestFrom : Pool → ℕ → FreeSlot
@@ -52,7 +52,7 @@ module _ (p : Pool) (s : ℕ) where
     count-next = ap (λ (ns : List Node). length (those isFree ns)) onward ∙ count-one (nodeAt p (slot s)) (drop (s + 1 - 1) (p .slots))
 
   pub lowest-end : length (p .slots) < s → lowestFrom p s ≡ Nowhere
-  lowest-end h = ap (freeFrom s) (drop-of-length-le (p .slots) {i = s - 1} (omega arith)) ∙ free-none s
+  lowest-end h = ap (freeFrom s) (drop-of-length-le (p .slots) {i = s - 1} (omega arith)) ∙ free-nowhere s
 
   pub count-end : length (p .slots) < s → countFrom p s ≡ 0
   count-end h = ap (λ (ns : List Node). length (those isFree ns)) (drop-of-length-le (p .slots) {i = s - 1} (omega arith)) ∙ ap length (those-none isFree)

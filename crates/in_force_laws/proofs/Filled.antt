@@ -22,7 +22,7 @@ use Rattle.rules.specs.Request.{Turn, turn, asked, afterChange, request}
 use Rattle.rules.specs.Call.{Batch, afterTurn, doRequest, doRequests}
 use Rattle.in_force_laws.specs.Force.{placesFilled, filledBy, filledAfter}
 use Rattle.in_force_laws.proofs.Change.{Refused, request-cases}
-use Rattle.in_force_laws.proofs.Batch.{noAnswer, kept, step-long, two-parts}
+use Rattle.in_force_laws.proofs.Batch.{noAnswer, answers-kept, step-long, two-parts}
 
 -- ---- one request
 
@@ -78,7 +78,7 @@ module _ (c : Choice) where
       let end = doRequests c (suc i) qs b1 in
       batch-filled (suc i) qs b1 (omega (arith, h, step-long c i b (asked q)))
       ∙ ap (λ (n : ℕ). filledAfter n (suc i) qs (end .answers)) (step-fills i b (asked q) (omega (arith, h))
-      ∙ ap (filledBy (b .filled) (asked q)) (sym (kept c (suc i) qs b1 i (omega arith))))
+      ∙ ap (filledBy (b .filled) (asked q)) (sym (answers-kept c (suc i) qs b1 i (omega arith))))
 
   -- .. by the answers that the whole batch leaves
   pub part-filled : (i : ℕ) (xs ys : List Request) (b : Batch) → i + length xs ≤ length (b .answers)
@@ -87,4 +87,4 @@ module _ (c : Choice) where
       batch-filled i xs b h
       ∙ filled-same (b .filled) i xs (doRequests c i xs b .answers) (doRequests c i (xs ++ ys) b .answers) (λ j l.
       sym (ap (λ (x : Batch). getD (x .answers) j noAnswer) (two-parts c i xs ys b)
-      ∙ kept c (i + length xs) ys (doRequests c i xs b) j l))
+      ∙ answers-kept c (i + length xs) ys (doRequests c i xs b) j l))

@@ -18,7 +18,7 @@ use Rattle.rules.specs.Insert.{Change, Done, NoneFree, ours, insertAt, insertRe
 use Rattle.rules.specs.Layout.{validLength, slotCount, words, read}
 use Rattle.rules_laws.proofs.Places.{each-of}
 use Rattle.rules_laws.proofs.Parts.{among-those, those-fewer}
-use Rattle.rules_laws.proofs.Joins.{length-joined}
+use Rattle.rules_laws.proofs.Joins.{joined-length}
 use Rattle.rules_laws.proofs.Sums.{total-most}
 use Rattle.pool.specs.Slots.{Fit}
 use Rattle.pool.proofs.Written.{Fine, read-fine, read-slots}
@@ -46,7 +46,7 @@ stored-few w =
     omega (
       arith,
       length-map (joined (map entries (those isLeaf (read w .slots)))) recordOf,
-      length-joined entries (those isLeaf (read w .slots)),
+      joined-length entries (those isLeaf (read w .slots)),
       total-most (λ n. length (entries n)) 8 (those isLeaf (read w .slots))
           (λ n m. each-of Fine (read-fine w) (among-those isLeaf n (read w .slots) .0 m .0) .few),
       those-fewer isLeaf (read w .slots),

@@ -38,8 +38,8 @@ module _ (p : Pool) (l : ℕ) (s : SlotNumber) (d : Tree p (suc (suc l)) s) (i :
   pub child-entry : InnerEntry p (Tree p (suc l)) (entryAt p s i)
   child-entry = inner-of p l s d .each (entryAt p s i) (among-here i there)
 
-  pub child-among : (t : SlotNumber) → Among t (slotsIn p (suc l) (childAt p s i)) → Among t (slotsIn p (suc (suc l)) s)
-  child-among t m = below-among p l s t (entryAt p s i) (among-here i there) m
+  pub child-inside : (t : SlotNumber) → Among t (slotsIn p (suc l) (childAt p s i)) → Among t (slotsIn p (suc (suc l)) s)
+  child-inside t m = below-among p l s t (entryAt p s i) (among-here i there) m
 
   -- the parent stands above
   pub child-above : Among s (slotsIn p (suc l) (childAt p s i)) → ⊥

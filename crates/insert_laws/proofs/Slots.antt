@@ -29,7 +29,7 @@ use Rattle.insert_laws.proofs.Taken.{leading-le, Takes, way-length, run
 use Rattle.insert_laws.proofs.Below.{way}
 use Rattle.insert_laws.proofs.Root.{grow-kept, grow-split, grow-full}
 use Rattle.insert_laws.proofs.Standing.{standing-once}
-use Rattle.insert_laws.proofs.Whole.{counted, counted-stands, counted-high, record-fits}
+use Rattle.insert_laws.proofs.Whole.{recordCounted, counted-stands, counted-high, record-fits}
 
 -- ---- the run and the root
 
@@ -120,26 +120,26 @@ module _ (c : Choice) (p : Pool) (m : ℕ) where
   head-needs k e = ap (neededOn p) (head-way (p .height - k) (p .root) e)
 
 module _ (c : Choice) (lawful : Lawful c) (p : Pool) (w : Whole p) (r : Record) (v : valid (r .rect) ≡ true) (n : goodNumber (r .number) ≡ true) where
-  stands : Standing (counted p) []
+  stands : Standing (recordCounted p) []
   stands = counted-stands p w
 
-  once : Once (treeSlots (counted p))
-  once = standing-once (counted p) [] stands
+  once : Once (treeSlots (recordCounted p))
+  once = standing-once (recordCounted p) [] stands
 
-  fits : Fits (counted p) 1 (leafEntry r)
-  fits = record-fits (counted p) r v n
+  fits : Fits (recordCounted p) 1 (leafEntry r)
+  fits = record-fits (recordCounted p) r v n
 
   pub insert-slots : (insertRecord c p r ≡ NoneFree) ↔ (freeCount p < recordNeeds c p r)
   unfolding insertRecord recordNeeds
   insert-slots =
       rw (head-free p (p .records + 1), head-needs c p (p .records + 1) 1 (leafEntry r))
-      at (level-slots c lawful (counted p) 1 (leafEntry r) (stands .tree) once (stands .some) fits (counted-high p w))
+      at (level-slots c lawful (recordCounted p) 1 (leafEntry r) (stands .tree) once (stands .some) fits (counted-high p w))
 
   pub insert-takes : (q : Pool) → insertRecord c p r ≡ Done q → freeCount q + recordNeeds c p r ≡ freeCount p
   unfolding insertRecord recordNeeds
   insert-takes q h =
       rw (head-free p (p .records + 1), head-needs c p (p .records + 1) 1 (leafEntry r))
-      at (level-takes c lawful (counted p) 1 (leafEntry r) (stands .tree) once (stands .some) fits (counted-high p w) q h)
+      at (level-takes c lawful (recordCounted p) 1 (leafEntry r) (stands .tree) once (stands .some) fits (counted-high p w) q h)
 
   pub insert-needs-few : recordNeeds c p r ≤ suc (p .height)
   unfolding recordNeeds putRecords
@@ -147,7 +147,7 @@ module _ (c : Choice) (lawful : Lawful c) (p : Pool) (w : Whole p) (r : Record) 
       omega (
         arith,
         head-needs c p (p .records + 1) 1 (leafEntry r),
-        level-needs-few c lawful (counted p) 1 (leafEntry r) (stands .tree) once (stands .some) fits (counted-high p w),
+        level-needs-few c lawful (recordCounted p) 1 (leafEntry r) (stands .tree) once (stands .some) fits (counted-high p w),
       )
 
   -- "with h + 1 slots free it is never refused 7"

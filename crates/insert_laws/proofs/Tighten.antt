@@ -12,7 +12,7 @@ use Rattle.sound_laws.specs.Tree.{slotsIn, Once, Tree}
 use Rattle.sound_laws.proofs.Walk.{top-among}
 use Rattle.insert_laws.specs.Grown.{spot, Grew}
 use Rattle.insert_laws.proofs.Under.{fits-below, weight-of-below}
-use Rattle.insert_laws.proofs.Beside.{childAt, child-among, Beside, tight-long, tight-other, tight-below, tight-tree, tight-weighs}
+use Rattle.insert_laws.proofs.Beside.{childAt, child-inside, Beside, tight-long, tight-other, tight-below, tight-tree, tight-weighs}
 
 module _ (p : Pool) (l : ℕ) (s : SlotNumber) (d : Tree p (suc (suc l)) s) (i : ℕ) (there : i < length (entriesAt p s))
     (once : Once (slotsIn p (suc (suc l)) s)) (q : Pool) {come left : Node} {taken : List SlotNumber}
@@ -43,6 +43,6 @@ module _ (p : Pool) (l : ℕ) (s : SlotNumber) (d : Tree p (suc (suc l)) s) (i :
       once = g .once;
       inside = λ t m. m;
       other = λ t k out new.
-          g .other t k (λ m. out (child-among p l s d i there t m)) new
+          g .other t k (λ m. out (child-inside p l s d i there t m)) new
           ∙ tight-other grew-beside t k (λ e. out (Memᴰ·cast e (top-among p (suc l) s)));
     }

@@ -73,16 +73,16 @@ module _ (w : List ℤ) (f : FreeSlots) (r : Ready w f) (window : Rect) where
     abbrev searches : Turn
     searches = request ours (read w) filled room (Search window)
 
-    off : (reply : Reply) → searches ≡ turn (read w) reply [] → Serves (length w) searches (replied reply f) w u
-    off reply h = quiet (length w) searches (replied reply f) w u long (stays w f r searches reply h)
+    search-row : (reply : Reply) → searches ≡ turn (read w) reply [] → Serves (length w) searches (replied reply f) w u
+    search-row reply h = quiet (length w) searches (replied reply f) w u long (stays w f r searches reply h)
 
     pub search-bad : valid window ≡ false → Serves (length w) searches (replied BadRectangle f) w u
-    search-bad v = off BadRectangle (search-3 (read w) filled room window v)
+    search-bad v = search-row BadRectangle (search-3 (read w) filled room window v)
 
     pub search-full : valid window ≡ true → (n o : ℕ) → n ≡ length walk → o ≡ opened (read w) window → room < n
         → Serves (length w) searches (replied (NoRoom n o) f) w u
     search-full v n o e d h =
-        off (NoRoom n o)
+        search-row (NoRoom n o)
         (search-8 (read w) filled room window v (omega (arith, found-size, e, h))
         ∙ ap (λ (k : ℕ). turn (read w) (NoRoom k (opened (read w) window)) []) (found-size ∙ sym e)
         ∙ ap (λ (k : ℕ). turn (read w) (NoRoom n k) []) (sym d))

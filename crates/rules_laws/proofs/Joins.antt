@@ -68,11 +68,11 @@ module _ {A B : Type 0} (f : A → List B) where
       rw (joined-more f x xs)
       (omega (arith, count-append q (f x) (joined (map f xs)), total-more (λ y. length (those q (f y))) x xs, count-joined q xs))
 
-  pub length-joined : (xs : List A) → length (joined (map f xs)) ≡ total (map (λ x. length (f x)) xs)
-  length-joined [] = rw (joined-none f) (sym (total-none (λ x. length (f x))))
-  length-joined (x ∷ xs) =
+  pub joined-length : (xs : List A) → length (joined (map f xs)) ≡ total (map (λ x. length (f x)) xs)
+  joined-length [] = rw (joined-none f) (sym (total-none (λ x. length (f x))))
+  joined-length (x ∷ xs) =
       rw (joined-more f x xs)
-      (omega (arith, length-append (f x) (joined (map f xs)), total-more (λ y. length (f y)) x xs, length-joined xs))
+      (omega (arith, length-append (f x) (joined (map f xs)), total-more (λ y. length (f y)) x xs, joined-length xs))
 
   -- the part of the member at a place, and the others' parts
   pub joined-parted : (xs : List A) (i : ℕ) (d : A) → i < length xs → Parted (joined (map f xs)) (f (getD xs i d)) (joined (map f (without i xs)))

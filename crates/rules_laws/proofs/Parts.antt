@@ -223,9 +223,9 @@ upFrom-most i (suc n) k = go (eqb i k) refl (upFrom-most (suc i) n k)
 -- ---- leaving
 
 -- the one place of i is left out: i parts from the others
-only : (i : ℕ) (l : List ℕ) → length (those (is i) l) ≡ 1 → those (is i) l ≡ i ∷ []
-only i [] h = absurd (omega (arith, ap length (those-none (is i))))
-only i (x ∷ l) h = go (eqb x i) refl (only i l)
+only-one : (i : ℕ) (l : List ℕ) → length (those (is i) l) ≡ 1 → those (is i) l ≡ i ∷ []
+only-one i [] h = absurd (omega (arith, ap length (those-none (is i))))
+only-one i (x ∷ l) h = go (eqb x i) refl (only-one i l)
   where
     go : (t : Bool) → eqb x i ≡ t → (length (those (is i) l) ≡ 1 → those (is i) l ≡ i ∷ []) → those (is i) (x ∷ l) ≡ i ∷ []
     go true e f =
@@ -236,7 +236,7 @@ only i (x ∷ l) h = go (eqb x i) refl (only i l)
 
 pub leaving-parted : (i : ℕ) (l : List ℕ) → length (those (is i) l) ≡ 1 → Parted l (i ∷ []) (leaving i l)
 unfolding leaving
-leaving-parted i l h = rw (only i l h) at (those-parted (is i) l)
+leaving-parted i l h = rw (only-one i l h) at (those-parted (is i) l)
 
 pub length-leaving : (i : ℕ) (l : List ℕ) → length (those (is i) l) ≡ 1 → suc (length (leaving i l)) ≡ length l
 length-leaving i l h = omega (arith, parted-length (leaving-parted i l h))

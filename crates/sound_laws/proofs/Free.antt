@@ -22,9 +22,9 @@ isFree n = eqb (n .level) 0
 
 -- ---- the lowest
 
-pub free-none : (i : ℕ) → freeFrom i [] ≡ Nowhere
+pub free-nowhere : (i : ℕ) → freeFrom i [] ≡ Nowhere
 unfolding freeFrom
-free-none i = refl
+free-nowhere i = refl
 
 -- the level of the node at a place
 abbrev levelAt : List Node → ℕ → ℕ
@@ -47,10 +47,10 @@ record First (i : ℕ) (ns : List Node) (t : SlotNumber) : Type 0 where
   free : levelAt ns place ≡ 0
   before : (j : ℕ) → j < place → 1 ≤ levelAt ns j
 
-first-free : (i : ℕ) (ns : List Node) (t : SlotNumber) → freeFrom i ns ≡ At t → First i ns t
+found-free : (i : ℕ) (ns : List Node) (t : SlotNumber) → freeFrom i ns ≡ At t → First i ns t
 unfolding freeFrom
-first-free i [] t h = let z : _≡_ {A = ℕ} 0 1 = cc in absurd (omega arith)
-first-free i (n ∷ ns) t h = go (eqb (n .level) 0) refl (first-free (suc i) ns t)
+found-free i [] t h = let z : _≡_ {A = ℕ} 0 1 = cc in absurd (omega arith)
+found-free i (n ∷ ns) t h = go (eqb (n .level) 0) refl (found-free (suc i) ns t)
   where
     go : (b : Bool) → eqb (n .level) 0 ≡ b → (freeFrom (suc i) ns ≡ At t → First (suc i) ns t) → First i (n ∷ ns) t
     go true e f =
@@ -80,15 +80,15 @@ module _ (p : Pool) where
   module _ (t : SlotNumber) (h : lowestFree p ≡ At t) where
     pub lowest-slot : Slot p t
     unfolding lowestFree
-    lowest-slot = let f = first-free 1 (p .slots) t h in record { low = omega (arith, f .slot); high = omega (arith, f .slot, f .there) }
+    lowest-slot = let f = found-free 1 (p .slots) t h in record { low = omega (arith, f .slot); high = omega (arith, f .slot, f .there) }
 
     pub lowest-free : nodeAt p t .level ≡ 0
     unfolding lowestFree nodeAt
-    lowest-free = let f = first-free 1 (p .slots) t h in let e : t .0 - 1 ≡ f .place = omega (arith, f .slot) in rw e (f .free)
+    lowest-free = let f = found-free 1 (p .slots) t h in let e : t .0 - 1 ≡ f .place = omega (arith, f .slot) in rw e (f .free)
 
     pub lower-used : (u : SlotNumber) → 1 ≤ u .0 → u .0 < t .0 → 1 ≤ nodeAt p u .level
     unfolding lowestFree nodeAt
-    lower-used u k l = let f = first-free 1 (p .slots) t h in f .before (u .0 - 1) (omega (arith, f .slot))
+    lower-used u k l = let f = found-free 1 (p .slots) t h in f .before (u .0 - 1) (omega (arith, f .slot))
 
   -- none is free
   pub all-used : lowestFree p ≡ Nowhere → (t : SlotNumber) → Slot p t → 1 ≤ nodeAt p t .level
@@ -105,21 +105,21 @@ used-none n h = rw (those-no isFree n [] (ne-eqb (n .level) 0 (λ e. omega arith
 
 module _ (p : Pool) (s : SlotNumber) (k : Slot p s) where
   -- what stood there counts off, and the node counts
-  put-count : (n : Node) → freeCount (putNode p s n) + length (those isFree (nodeAt p s ∷ [])) ≡ freeCount p + length (those isFree (n ∷ []))
+  count-put : (n : Node) → freeCount (putNode p s n) + length (those isFree (nodeAt p s ∷ [])) ≡ freeCount p + length (those isFree (n ∷ []))
   unfolding freeCount putNode nodeAt
-  put-count n = count-set isFree (p .slots) (s .0 - 1) n freeNode (omega (arith, k .low, k .high))
+  count-put n = count-set isFree (p .slots) (s .0 - 1) n freeNode (omega (arith, k .low, k .high))
 
   -- a slot in use is zeroed
   pub zero-freed : 1 ≤ nodeAt p s .level → freeCount (putNode p s freeNode) ≡ suc (freeCount p)
-  zero-freed h = omega (arith, put-count freeNode, used-none (nodeAt p s) h, free-one freeNode refl)
+  zero-freed h = omega (arith, count-put freeNode, used-none (nodeAt p s) h, free-one freeNode refl)
 
 -- a node in use comes into a slot in use, and into a free one
 module _ (p : Pool) (s : SlotNumber) (n : Node) (k : Slot p s) (new : 1 ≤ n .level) where
   pub put-used : 1 ≤ nodeAt p s .level → freeCount (putNode p s n) ≡ freeCount p
-  put-used h = omega (arith, put-count p s k n, used-none (nodeAt p s) h, used-none n new)
+  put-used h = omega (arith, count-put p s k n, used-none (nodeAt p s) h, used-none n new)
 
   pub put-free : nodeAt p s .level ≡ 0 → suc (freeCount (putNode p s n)) ≡ freeCount p
-  put-free h = omega (arith, put-count p s k n, free-one (nodeAt p s) h, used-none n new)
+  put-free h = omega (arith, count-put p s k n, free-one (nodeAt p s) h, used-none n new)
 
 -- where no slot is found none is free
 count-none : (i : ℕ) (ns : List Node) → freeFrom i ns ≡ Nowhere → length (those isFree ns) ≡ 0

@@ -113,8 +113,8 @@ module _ (p : Pool) (w : Whole p) where
       simp those-all at (used-in (λ s. true)) ∙ sym (count-map (nodeAt p) inUse (slotNumbers p))
       ∙ ap (λ (ns : List Node). length (those inUse ns)) (nodes-are p)
 
-  pub few-slots : length (treeSlots p) ≤ length (p .slots)
-  few-slots = omega (arith, used-length, those-fewer inUse (p .slots))
+  pub tree-in-slots : length (treeSlots p) ≤ length (p .slots)
+  tree-in-slots = omega (arith, used-length, those-fewer inUse (p .slots))
 
   -- ---- parents
 

@@ -155,9 +155,9 @@ pub records-stored : (p : Pool) → recordCounts (p .slots) ≡ length (stored p
 unfolding recordCounts stored
 records-stored p = sym (length-map (joined (map (λ (n : Node). n .entries) (those isLeaf (p .slots)))) recordOf)
 
-pub records-are : (p : Pool) → eqb (recordCounts (p .slots)) (p .records) ≡ recordsSound p
+pub record-counts-are : (p : Pool) → eqb (recordCounts (p .slots)) (p .records) ≡ recordsSound p
 unfolding recordsSound
-records-are p = ap (λ (n : ℕ). eqb n (p .records)) (records-stored p)
+record-counts-are p = ap (λ (n : ℕ). eqb n (p .records)) (records-stored p)
 
 -- ---- all
 

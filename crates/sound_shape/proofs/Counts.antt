@@ -91,17 +91,17 @@ inner-append xs ys =
     ap (λ (ns : List Node). joined (map entriesOf ns)) (those-append inner xs ys) ∙ ap joined (map-append entriesOf (those inner xs) (those inner ys))
     ∙ joined-both (map entriesOf (those inner xs)) (map entriesOf (those inner ys))
 
-pub inner-none : innerOf [] ≡ []
+pub innerOf-none : innerOf [] ≡ []
 unfolding innerOf those joined
-inner-none = refl
+innerOf-none = refl
 
-pub inner-yes : (n : Node) → leb 2 (n .level) ≡ true → innerOf (n ∷ []) ≡ n .entries
+pub innerOf-yes : (n : Node) → leb 2 (n .level) ≡ true → innerOf (n ∷ []) ≡ n .entries
 unfolding innerOf those joined
-inner-yes n h = rw h (append-nil (n .entries))
+innerOf-yes n h = rw h (append-nil (n .entries))
 
-pub inner-no : (n : Node) → leb 2 (n .level) ≡ false → innerOf (n ∷ []) ≡ []
+pub innerOf-no : (n : Node) → leb 2 (n .level) ≡ false → innerOf (n ∷ []) ≡ []
 unfolding innerOf those joined
-inner-no n h = rw h
+innerOf-no n h = rw h
 
 pub inner-more : (ns : List Node) (k : ℕ) → k < length ns → innerOf (take k ns) ++ innerOf (getD ns k freeNode ∷ []) ≡ innerOf (take (suc k) ns)
 inner-more ns k h = sym (ap innerOf (take-suc ns k freeNode h) ∙ inner-append (take k ns) (getD ns k freeNode ∷ []))

@@ -5,7 +5,7 @@ use mathlib.Core.List.{[], _∷_}
 use Prim.Native.Nat.{suc}
 use native.Mathlib.Numerals.{add-one}
 use Rattle.rules.specs.Frames.{natShown, line}
-use Rattle.frames.proofs.Lines.{four, answer-is}
+use Rattle.frames.proofs.Lines.{line-of-four, answer-is}
 use Rattle.frames.proofs.Texts.{wrote-then, wrote-as}
 use borrow.Author.Needs.{needs}
 use Rattle.frames.proofs.answer_line.Statement.{statement}
@@ -40,7 +40,7 @@ same-length c = search needs
 
 returns : tie.Need-returns
 returns c = let a = c .before .before .before .before .before .before .before .before .before .before .before .before .before .before .before .before .before .before .before .before .args .answer in (
-  wrote-as (four _ _ _ _ ∙ (λ i. line (natShown (add-one (c .before .before .before .before .before .before .before .before .before .before .before .before .before .before .before .before .before .before .before .before .args .before) i) ∷ natShown (c .before .before .before .before .before .before .before .before .before .before .before .before .before .long .ensures i) ∷ natShown (c .before .before .before .before .before .before .before .before .long2 .ensures i) ∷ natShown (c .before .before .before .long3 .ensures i) ∷ [])) ∙ answer-is (suc (c .before .before .before .before .before .before .before .before .before .before .before .before .before .before .before .before .before .before .before .before .args .before)) a)
+  wrote-as (line-of-four _ _ _ _ ∙ (λ i. line (natShown (add-one (c .before .before .before .before .before .before .before .before .before .before .before .before .before .before .before .before .before .before .before .before .args .before) i) ∷ natShown (c .before .before .before .before .before .before .before .before .before .before .before .before .before .long .ensures i) ∷ natShown (c .before .before .before .before .before .before .before .before .long2 .ensures i) ∷ natShown (c .before .before .before .long3 .ensures i) ∷ [])) ∙ answer-is (suc (c .before .before .before .before .before .before .before .before .before .before .before .before .before .before .before .before .before .before .before .before .args .before)) a)
       (wrote-then (wrote-then (wrote-then (c .before .before .before .before .before .before .before .before .before .before .before .before .before .before .before .before .before .put-field .ensures .0) (c .before .before .before .before .before .before .before .before .before .before .before .before .put-field2 .ensures .0)) (c .before .before .before .before .before .before .before .put-field3 .ensures .0)) (c .before .before .put-field4 .ensures .0)),
   omega (arith, c .before .before .before .before .before .before .before .before .before .before .before .before .before .before .before .before .before .put-field .ensures .1, c .before .before .before .before .before .before .before .before .before .before .before .before .put-field2 .ensures .1, c .before .before .before .before .before .before .before .put-field3 .ensures .1, c .before .before .put-field4 .ensures .1),
 )

@@ -7,7 +7,7 @@ use mir.Val.{toZ, ofZ}
 use Rattle.rules.specs.Frames.{intShown, line}
 use mathlib.Core.Path.{_≡_, _∙_}
 use native.Mathlib.Omega.{arith}
-use Rattle.frames.proofs.Lines.{five, record-is}
+use Rattle.frames.proofs.Lines.{line-of-five, record-line}
 use Rattle.frames.proofs.Texts.{wrote-then, wrote-as}
 use borrow.Author.Needs.{needs}
 use Rattle.frames.proofs.record_line.Statement.{statement}
@@ -39,7 +39,7 @@ returns c = let r = c .before .before .before .before .before .before .before .b
     let b : toZ w32 (ofZ w32 (r .rect .lowY)) ≡ r .rect .lowY = toZ-ofZ {w = w32} {z = r .rect .lowY} (sfits-of (g .1 .0 .1)) in
     let x : toZ w32 (ofZ w32 (r .rect .highX)) ≡ r .rect .highX = toZ-ofZ {w = w32} {z = r .rect .highX} (sfits-of (g .1 .1 .0 .1)) in
     let y : toZ w32 (ofZ w32 (r .rect .highY)) ≡ r .rect .highY = toZ-ofZ {w = w32} {z = r .rect .highY} (sfits-of (g .1 .1 .1 .0 .1)) in (
-      wrote-as (five _ _ _ _ _ ∙ (λ i. line (intShown (n i) ∷ intShown (a i) ∷ intShown (b i) ∷ intShown (x i) ∷ intShown (y i) ∷ [])) ∙ record-is r)
+      wrote-as (line-of-five _ _ _ _ _ ∙ (λ i. line (intShown (n i) ∷ intShown (a i) ∷ intShown (b i) ∷ intShown (x i) ∷ intShown (y i) ∷ [])) ∙ record-line r)
           (wrote-then (wrote-then (wrote-then (wrote-then (c .before .before .before .before .before .before .before .before .before .before .before .before .before .before .before .before .before .before .before .before .before .before .put-signed .ensures .0) (c .before .before .before .before .before .before .before .before .before .before .before .before .before .before .before .before .before .put-signed2 .ensures .0)) (c .before .before .before .before .before .before .before .before .before .before .before .before .put-signed3 .ensures .0)) (c .before .before .before .before .before .before .before .put-signed4 .ensures .0)) (c .before .before .put-signed5 .ensures .0)),
       omega (arith, c .before .before .before .before .before .before .before .before .before .before .before .before .before .before .before .before .before .before .before .before .before .before .put-signed .ensures .1, c .before .before .before .before .before .before .before .before .before .before .before .before .before .before .before .before .before .put-signed2 .ensures .1, c .before .before .before .before .before .before .before .before .before .before .before .before .put-signed3 .ensures .1, c .before .before .before .before .before .before .before .put-signed4 .ensures .1, c .before .before .put-signed5 .ensures .1),
     )
