@@ -1,4 +1,5 @@
--- What a node of the tree has can be written again, with an entry less.
+-- What a node of the tree has can be written again, with an entry less: its entries were read from words, and those that are left are some of
+-- them.
 use mathlib.Core.Path.{_≡_, sym, ap, ap₂, subst, _∙_}
 use mathlib.Core.List.{List}
 use Prim.Native.Nat.{ℕ, _-_, _≤_, _<_}

@@ -1,4 +1,5 @@
--- Laws on entries set aside: each stands for what is under it.
+-- Entries set aside: each stands for what is under it, so a list of them weighs what its parts weigh, and they fit the level that they come
+-- from.
 use mathlib.Core.Path.{_≡_, refl, sym, ap, subst, _∙_}
 use mathlib.Core.List.{List, [], _∷_, _++_, map, map-map, Memᴰ·of-map}
 use Prim.Native.Nat.{ℕ, zero, suc, _+_, _≤_}

@@ -1,4 +1,5 @@
--- CT1 to CT5: up the way that FindLeaf came down, and what stands then.
+-- CT1 to CT5: up the way that FindLeaf came down, and what stands then. By induction on the way: at its end the pair leaves its leaf (Out),
+-- and at each node above a child shrank (Narrow).
 use mathlib.Core.Path.{_≡_, refl, sym, ap, subst, subst₂, _∙_}
 use mathlib.Core.Bool.{Bool}
 use mathlib.Core.List.{List, [], _∷_}

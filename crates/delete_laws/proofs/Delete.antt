@@ -216,6 +216,11 @@ module _ (c : Choice) where
       pub delete-fits : Lawful c → deleteRoom (p .height) ≤ freeCount p → deleteRecord c p r ≢ NoneFree
       delete-fits lawful room e = subst (Sure (SlotRoom p (2 * (p .height - 1)))) e (delete-room lawful room)
 
+-- what is so of the pool that a change leaves, where it leaves one
+pub pool-left : (P : Pool → Type 0) (o : Change) → ((q : Pool) → o ≡ Done q → P q) → EachPool P o
+pool-left P (Done q) h = h q refl
+pool-left P NoneFree h = tt
+
 done-in : (P : Pool → Type 0) (p q : Pool) → Done p ≡ Done q → P p → P q
 done-in P p q h x = subst (EachPool P) h x
 

@@ -1,4 +1,4 @@
--- D2: the pair goes out of its leaf.
+-- D2: the pair goes out of its leaf. One slot is written, and its tree is that leaf alone: the other entries fit as before.
 use mathlib.Core.Path.{_≡_, sym, ap, _∙_}
 use mathlib.Core.List.{List, [], map, List·Memᴰ·not-nil, Memᴰ·cast}
 use Prim.Native.Nat.{ℕ, suc, _+_, _<_}

@@ -1,4 +1,5 @@
--- D4: "Last, an inner root with one child is freed and that child is root."
+-- D4: "Last, an inner root with one child is freed and that child is root." The child's tree is all that stood below the root, so the pool
+-- stands with it; and it has three entries at least, since it was no root before.
 use mathlib.Core.Path.{_≡_, refl, sym, ap, subst, _∙_}
 use mathlib.Core.Logic.{_≢_}
 use mathlib.Core.Bool.{Bool, true, false}

@@ -1,4 +1,5 @@
--- "Update deletes the old pair, then inserts the new rectangle under the same number; also where old equals new."
+-- "Update deletes the old pair, then inserts the new rectangle under the same number; also where old equals new." So its laws are those of
+-- delete and then of insert.
 use mathlib.Core.Path.{_≡_, refl, sym, subst, _∙_}
 use mathlib.Core.Logic.{_≢_}
 use mathlib.Core.Bool.{Bool, true}

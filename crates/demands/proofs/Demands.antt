@@ -1,4 +1,5 @@
--- The customer's three demands, proved of what `dustmap_call` promises.
+-- The customer's three demands, proved of what `dustmap_call` promises: that is what `call` defines, request by request, and the pool that a
+-- history leaves holds the records in force.
 use mathlib.Core.Path.{_≡_, refl, sym, ap, subst, _∙_}
 use mathlib.Core.Logic.{_≢_}
 use mathlib.Core.Bool.{not, _||_}

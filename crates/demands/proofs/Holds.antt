@@ -1,4 +1,5 @@
--- The pool that a history leaves holds the pairs in force.
+-- The pool that a history leaves holds the pairs in force. By induction on its steps: blanking leaves none, a refused call leaves what was
+-- there, and each request of a served call does to the pool what it does to the plain list.
 use mathlib.Core.Path.{_≡_, refl, sym, ap, subst, _∙_}
 use mathlib.Core.Logic.{_≢_}
 use mathlib.Core.Bool.{Bool, true, false}

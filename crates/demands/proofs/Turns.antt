@@ -1,4 +1,4 @@
--- One request: what is refused leaves the pool, and what is accepted is what document 01 defines.
+-- One request: what is refused leaves the pool, and what is accepted is what document 01 defines. By its table, for each kind alike.
 use mathlib.Core.Path.{_≡_, refl}
 use mathlib.Core.Bool.{true, false}
 use mathlib.Core.List.{[]}

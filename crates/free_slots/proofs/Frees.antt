@@ -1,4 +1,5 @@
--- The free slots, a slot at a time: the lowest of those from a slot on, and how many of them there are.
+-- The free slots, a slot at a time: the lowest of those from a slot on, and how many of them there are. Each slot is free, and then the lowest
+-- or one more, or it is not and the next ones decide.
 use mathlib.Core.Path.{_≡_, refl, sym, ap, _∙_}
 use mathlib.Core.Bool.{Bool, true, false, cond}
 use mathlib.Core.List.{List, _∷_}

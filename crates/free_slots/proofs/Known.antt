@@ -1,4 +1,5 @@
--- What is known of the free slots stays true: when the lowest free slot is taken, when a slot becomes free, and when a node is written anew.
+-- What is known of the free slots stays true: when the lowest free slot is taken, when a slot becomes free, and when a node is written again.
+-- One slot changes each time, so the count changes by that one, and a slot in use below another stays so.
 use mathlib.Core.Path.{_≡_, sym, ap, ap₂, subst, subst⁻¹, _∙_}
 use mathlib.Core.Logic.{_≢_}
 use Prim.Native.Nat.{ℕ, _+_, _-_, _≤_, _<_, min}

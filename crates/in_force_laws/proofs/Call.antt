@@ -1,4 +1,5 @@
--- A call that returns 0, and the calls of a history.
+-- A call that returns 0, and the calls of a history. No row refused such a call, so it did its batch; and what one call leaves is what the next
+-- begins with.
 use mathlib.Core.Path.{_≡_, refl, sym, subst, ap, _∙_}
 use mathlib.Core.Bool.{true, not, _||_}
 use mathlib.Core.List.{List, [], _∷_, _++_}

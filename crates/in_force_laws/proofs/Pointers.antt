@@ -1,4 +1,5 @@
--- What a slot of a whole pool holds can be written and read: 8 entries at most, each pointer of its level's kind.
+-- What a slot of a whole pool holds can be written and read: 8 entries at most, each pointer of its level's kind. A slot in use is one of the
+-- tree, where each node is so; the others are free, and have no entries.
 use mathlib.Core.Path.{_≡_, refl, sym, subst}
 use mathlib.Core.Logic.{⊎-elim}
 use mathlib.Core.Bool.{true}

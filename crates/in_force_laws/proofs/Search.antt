@@ -1,4 +1,5 @@
--- A search in a pool that holds the records in force shows those that meet its window.
+-- A search in a pool that holds the records in force shows those that meet its window: it is exact on the stored records, which are the
+-- records in force in another order, and found order does not depend on that.
 use mathlib.Core.Path.{_≡_, refl, sym, subst, ap, _∙_}
 use mathlib.Core.Logic.{_⊎_}
 use mathlib.Core.Bool.{Bool, true, false}

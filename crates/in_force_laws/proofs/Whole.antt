@@ -1,4 +1,5 @@
--- A request of any kind, accepted or refused, leaves a whole pool whole: for every lawful choice, and for document 01's.
+-- A request of any kind, accepted or refused, leaves a whole pool whole, for every lawful choice: what is refused changes nothing, and insert,
+-- delete and update keep a whole pool whole.
 use mathlib.Core.Path.{_≡_, refl}
 use Prim.Native.Nat.{ℕ}
 use Rattle.rules.specs.declared.Asked.{Asked}

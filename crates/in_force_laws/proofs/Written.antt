@@ -1,4 +1,4 @@
--- A whole pool written and read is itself.
+-- A whole pool written and read is itself, since each of its slots can be written and read.
 use mathlib.Core.Path.{_≡_}
 use Rattle.rules.specs.Pool.{Pool}
 use Rattle.rules.specs.Layout.{words, read}

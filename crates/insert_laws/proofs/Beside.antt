@@ -1,5 +1,5 @@
 -- One child of a node has changed, and its entry is made tight. No node of the other children's trees has changed, since no slot stands in
--- two of them; and the parent, which stands above all of them, is as it was. So the node is the one before with that one entry set anew.
+-- two of them; and the parent, which stands above all of them, is as it was. So the node is the one before, with that one entry replaced.
 use mathlib.Core.Path.{_≡_, refl, sym, ap, subst, _∙_}
 use mathlib.Core.Logic.{_≢_, ⊎-elim}
 use mathlib.Core.List.{List, map, Memᴰ·cast}
@@ -105,11 +105,11 @@ module _ {p : Pool} {l : ℕ} {s : SlotNumber} {i : ℕ} {q : Pool} (b : Beside 
 
   -- ---- the parent with the child's entry made tight
 
-  abbrev anew : Entry
-  anew = entryFor q (childAt p s i)
+  abbrev tightEntry : Entry
+  tightEntry = entryFor q (childAt p s i)
 
   abbrev entries : List Entry
-  entries = set (entriesAt p s) i anew
+  entries = set (entriesAt p s) i tightEntry
 
   abbrev made : Pool
   made = putNode q s (node (suc (suc l)) entries)
@@ -119,7 +119,7 @@ module _ {p : Pool} {l : ℕ} {s : SlotNumber} {i : ℕ} {q : Pool} (b : Beside 
   tighten-is = rw (← entries-same p q s top-same) (put-entries q (suc (suc l)) s entries top-level)
 
   as-many : length entries ≡ length (entriesAt p s)
-  as-many = length-set (entriesAt p s) i anew
+  as-many = length-set (entriesAt p s) i tightEntry
 
   made-at : nodeAt made s ≡ node (suc (suc l)) entries
   made-at = put-same q s (node (suc (suc l)) entries) now-slot
@@ -154,16 +154,16 @@ module _ {p : Pool} {l : ℕ} {s : SlotNumber} {i : ℕ} {q : Pool} (b : Beside 
   -- the child has a tree of its level in q, with entries enough
   module _ (tree : Tree q (suc l) (childAt p s i)) (enough : least ≤ length (entriesAt q (childAt p s i))) where
     -- the child's entry is the one that its parent is to have
-    anew-fits : Fits q (suc (suc l)) anew
+    tight-fits : Fits q (suc (suc l)) tightEntry
     unfolding entryFor childOf
-    anew-fits = fits-inner q anew l (record { child = tree; enough = enough; tight = refl })
+    tight-fits = fits-inner q tightEntry l (record { child = tree; enough = enough; tight = refl })
 
     beside-fits-now : (y : Entry) → Among y (without i (entriesAt p s)) → Fits q (suc (suc l)) y
     beside-fits-now y m = fits-frame p q (b .long) (suc (suc l)) y (beside-same y m) (beside-fits p l s (b .tree) i (b .there) y m)
 
     fit-now : (y : Entry) → Among y entries → Fits q (suc (suc l)) y
     fit-now y m =
-        ⊎-elim (λ e. subst (Fits q (suc (suc l))) (sym e) anew-fits) (beside-fits-now y) (among-set (entriesAt p s) i y anew m)
+        ⊎-elim (λ e. subst (Fits q (suc (suc l))) (sym e) tight-fits) (beside-fits-now y) (among-set (entriesAt p s) i y tightEntry m)
 
     made-tree : Tree made (suc (suc l)) s
     made-tree =
@@ -173,9 +173,9 @@ module _ {p : Pool} {l : ℕ} {s : SlotNumber} {i : ℕ} {q : Pool} (b : Beside 
     pub tight-tree : Tree (tighten q s i) (suc (suc l)) s
     tight-tree = rw tighten-is made-tree
 
-    anew-weighs : (w : Weights) → weightUnder w q (suc (suc l)) anew ≡ weightAt w (spot q (suc l) (childAt p s i))
+    tight-weight : (w : Weights) → weightUnder w q (suc (suc l)) tightEntry ≡ weightAt w (spot q (suc l) (childAt p s i))
     unfolding entryFor childOf
-    anew-weighs w = weight-inner w q l anew
+    tight-weight w = weight-inner w q l tightEntry
 
     made-weighs : (w : Weights) → weightAt w (spot made (suc (suc l)) s)
         ≡ w .ofSlot s + weightAt w (spot q (suc l) (childAt p s i)) + total (map (weightUnder w p (suc (suc l))) (without i (entriesAt p s)))
@@ -184,8 +184,8 @@ module _ {p : Pool} {l : ℕ} {s : SlotNumber} {i : ℕ} {q : Pool} (b : Beside 
           arith,
           weight-made w made (suc l) s entries made-at,
           total-below q made w (suc (suc l)) made-below (suc (suc l)) entries (omega arith) fit-now,
-          total-set (weightUnder w q (suc (suc l))) (entriesAt p s) i anew (b .there),
-          anew-weighs w,
+          total-set (weightUnder w q (suc (suc l))) (entriesAt p s) i tightEntry (b .there),
+          tight-weight w,
           total-alike (weightUnder w q (suc (suc l))) (weightUnder w p (suc (suc l))) (without i (entriesAt p s))
               (λ y m. weight-frame p q w (suc (suc l)) y (beside-same y m)),
         )

@@ -1,4 +1,5 @@
--- What a tree that grew holds: how often each slot stands in it, and how many of its records a test holds of. Both are weights.
+-- What a tree that grew holds: how often each slot stands in it, and how many of its records a test holds of. Both are weights, and a tree
+-- that grew weighs more by what came and what was taken.
 use mathlib.Core.Path.{_≡_, refl, sym, _∙_}
 use mathlib.Core.Bool.{Bool}
 use mathlib.Core.List.{List, [], _∷_, map}

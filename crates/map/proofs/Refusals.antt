@@ -18,7 +18,9 @@ use Rattle.rules.specs.Layout.{validLength}
 use Rattle.rules.specs.Sound.{sound}
 use Rattle.rules.specs.Answers.{row, firstRow, verdictNumber}
 use Rattle.rules.specs.Request.{asked}
-use Rattle.rules.specs.Call.{Lent, Left, call, callBy, callFault, refused, served, isRequest}
+use Rattle.rules.specs.Insert.{ours}
+use Rattle.rules.specs.Call.{Lent, Left, call, callFault, refused, served, isRequest}
+use Rattle.in_force_laws.proofs.Call.{callBy-refused, callBy-served}
 use Rattle.map.specs.Asking.{nothingAsked}
 use Rattle.map.specs.Batching.{faultNumber, refusalOf, batchOf}
 
@@ -60,12 +62,12 @@ refusal-is l = refl
 
 -- a call that a row refuses, and one that none does
 pub call-refused : (l : Lent) (v : Verdict) → callFault l ≡ some v → call l ≡ refused l v
-unfolding call callBy
-call-refused l v h = rw (call, callBy, h)
+unfolding call
+call-refused l v h = callBy-refused ours l v h
 
 pub call-served : (l : Lent) → callFault l ≡ none → call l ≡ served (batchOf l)
-unfolding call callBy batchOf
-call-served l h = rw (call, callBy, h)
+unfolding call batchOf
+call-served l h = callBy-served ours l h
 
 pub call-number : (l : Lent) → refusalOf (l .pool) (length (l .workspace)) (length (l .requests)) (length (l .answers)) (every isRequest (l .requests)) ≡ call l .number
 unfolding faultNumber refused served verdictNumber

@@ -1,4 +1,4 @@
--- What is asked of a request, and what is told of a reply, case by case.
+-- What is asked of a request, and what is told of a reply, case by case: each is the row of its table that applies.
 use mathlib.Core.Path.{_≡_, refl, sym, ap, subst, _∙_}
 use mathlib.Core.Bool.{Bool, true, false}
 use mathlib.Core.Option.{Option, none, some}

@@ -1,4 +1,5 @@
--- "Update deletes the old pair, then inserts the new rectangle under the same number": the two halves, in words.
+-- "Update deletes the old pair, then inserts the new rectangle under the same number": the two halves, in words. What the delete leaves is
+-- ready for the insert, since a delete leaves a whole pool.
 use mathlib.Core.Path.{_≡_, refl, sym, ap, subst, _∙_}
 use mathlib.Core.List.{List}
 use lib.ListN.{length}

@@ -1,4 +1,5 @@
--- The rows of the table that apply, request by request: what is refused, and that what passes every row is done.
+-- The rows of the table that apply, request by request: what is refused, and that what passes every row is done. The table is read from the
+-- top, so a row decides where those above it do not apply.
 use mathlib.Core.Path.{_≡_, refl}
 use mathlib.Core.Bool.{Bool, true, false, _&&_}
 use mathlib.Core.List.{[]}

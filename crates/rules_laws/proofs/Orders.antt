@@ -1,5 +1,5 @@
 -- Comparisons that know ties. Each choice of document 01 compares numbers, and a later rule decides only where the earlier ones
--- find no difference, so every comparison here is that of numbers, one behind the other.
+-- find no difference, so every comparison here is that of numbers, one after another.
 use mathlib.Core.Path.{_≡_, refl, sym, ap, _∙_}
 use mathlib.Core.Logic.{_↔_, Iff·rfl, _⊎_, inl, inr, ⊎-elim}
 use mathlib.Core.Bool.{Bool, true, false, true≢false}

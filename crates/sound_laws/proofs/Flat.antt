@@ -1,4 +1,4 @@
--- The pool slot by slot. What `rules` reads off the list of nodes, one node behind the other, is what each slot has, in slot order.
+-- The pool slot by slot. What `rules` reads off the list of nodes, one node after another, is what each slot has, in slot order.
 use mathlib.Core.Path.{_≡_, refl, sym, ap, subst, _∙_}
 use mathlib.Core.Logic.{_↔_}
 use mathlib.Core.Bool.{Bool, true, false, cond}
