@@ -21,7 +21,7 @@ use Rattle.sound_laws.proofs.Walk.{tree-node, tree-positive, within}
 use Rattle.sound_laws.proofs.Frame.{entries-same}
 use Rattle.sound_laws.proofs.Apart.{once-child}
 use Rattle.insert_laws.proofs.Install.{other-level}
-use Rattle.insert_laws.proofs.Tighten.{among-here, child-entry}
+use Rattle.insert_laws.proofs.Beside.{among-here, child-entry}
 use Rattle.delete_laws.specs.Way.{Leads}
 use Rattle.delete_laws.specs.Shrunk.{Shrunk, condensed}
 use Rattle.delete_laws.proofs.Condense.{leads-from, condense-shrunk}
@@ -52,17 +52,17 @@ climb-is p way zero = refl
 climb-is p way (suc m) =
     ap (relieve (place (nodeOn (way .nodes) (suc m)) (placeOn (way .places) (suc m))) (nodeOn (way .nodes) m)) (climb-is p way m)
 
-leaf-is : (p : Pool) (way : Way) → condense p (pathOf 1 way) ≡ condensed (takeOut p (place (nodeOn (way .nodes) 0) (placeOn (way .places) 0))) []
+condense-leaf : (p : Pool) (way : Way) → condense p (pathOf 1 way) ≡ condensed (takeOut p (place (nodeOn (way .nodes) 0) (placeOn (way .places) 0))) []
 unfolding condense pathOf
-leaf-is p way = refl
+condense-leaf p way = refl
 
 -- ---- the tree at each level of the way
 
 head-node : {a b : Place} {xs ys : Path} → a ∷ xs ≡ b ∷ ys → a .node ≡ b .node
 head-node e = cc
 
-head-at : {a b : Place} {xs ys : Path} → a ∷ xs ≡ b ∷ ys → a .at ≡ b .at
-head-at e = cc
+first-at : {a b : Place} {xs ys : Path} → a ∷ xs ≡ b ∷ ys → a .at ≡ b .at
+first-at e = cc
 
 tail-is : {a b : Place} {xs ys : Path} → a ∷ xs ≡ b ∷ ys → xs ≡ ys
 tail-is e = cc
@@ -88,11 +88,11 @@ module _ (p : Pool) (r : Record) (way : Way) where
   unfolding Leads
   on-there zero o =
       let e = sym (places-more 0) ∙ o .leads .1 in
-      let same = head-at e in
+      let same = first-at e in
       omega (arith, o .leads .2, same)
   on-there (suc l) o =
       let e = sym (places-more (suc l)) ∙ o .leads .2 in
-      let same = head-at e in
+      let same = first-at e in
       omega (arith, o .leads .3, same)
 
   on-child : (l : ℕ) → OnWay (suc l) → (childOf (entryAt p (top (suc l)) (at (suc l))) ≡ top l)
@@ -100,7 +100,7 @@ module _ (p : Pool) (r : Record) (way : Way) where
   unfolding Leads
   on-child l o =
       let e = sym (places-more (suc l)) ∙ o .leads .2 in
-      let same = head-at e in
+      let same = first-at e in
       let more : Leads p r (suc l) (childOf (entryAt p (top (suc l)) (at (suc l)))) (pathOf (suc l) way) =
       subst₂ (λ (i : ℕ) (z : Path). Leads p r (suc l) (childOf (entryAt p (top (suc l)) i)) z) (sym same) (sym (tail-is e)) (o .leads .4) in
       let n = leads-from p r (suc l) (childOf (entryAt p (top (suc l)) (at (suc l)))) (pathOf (suc l) way) more in
@@ -271,7 +271,7 @@ module _ {w₀ : List ℤ} {h : ℕ} {ns : List SlotNumber} {is : List ℕ} {w :
 module _ (p : Pool) (way : Way) (h : ℕ) (d : ComesDown p h way) (w : List ℤ)
     (out : read w ≡ takeOut p (place (nodeOn (way .nodes) 0) (placeOn (way .places) 0))) where
   first-is : condense p (pathOf 1 way) ≡ condensed (read w) []
-  first-is = leaf-is p way ∙ ap (λ (q : Pool). condensed q []) (sym out)
+  first-is = condense-leaf p way ∙ ap (λ (q : Pool). condensed q []) (sym out)
 
   climb-at : (l : ℕ) → 1 ≤ l → condense p (pathOf l way) ≡ climb (condensed (read w) []) (way .nodes) (way .places) (l - 1)
   climb-at zero k = absurd (omega arith)

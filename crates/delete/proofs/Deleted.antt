@@ -28,7 +28,7 @@ use Rattle.delete_laws.specs.Shrunk.{Shrunk, Waiting, PutBack, EachPool}
 use Rattle.delete_laws.proofs.Finds.{find-leads}
 use Rattle.delete_laws.proofs.Held.{held-is, find-held}
 use Rattle.delete_laws.proofs.Again.{reinsert-puts}
-use Rattle.delete_laws.proofs.Delete.{short-done, short-none, back-is, stands, way-there, out, out-is, shrunk, waiting, delete-some}
+use Rattle.delete_laws.proofs.Delete.{short-done, short-none, back-is, stands, way-leads, out, out-is, shrunk, waiting, delete-found}
 use Rattle.find_leaf.specs.declared.Way.{Way}
 use Rattle.find_leaf.specs.Ways.{pathOf, Long, Gives}
 use Rattle.insert.specs.declared.Outcome.{Outcome}
@@ -58,7 +58,7 @@ removes-none v w NoneFree h = refl
 -- ---- the steps
 
 -- what a delete is asked with
-pub record Asked (w₀ : List ℤ) (r : Record) (way : Way) : Type 0 where
+pub record ToDelete (w₀ : List ℤ) (r : Record) (way : Way) : Type 0 where
   pub fit : Fit w₀
   pub whole : Whole (read w₀)
   pub found : way .found ≡ true
@@ -73,7 +73,7 @@ pub counted-off : (w₀ : List ℤ) (n : ℕ) → n ≡ read w₀ .records → (
     → CountedOff w₀ h w₁
 counted-off w₀ n en h eh w₁ e = record { level = eh; less = e ∙ ap (λ (k : ℕ). putRecords (read w₀) (k - 1)) en }
 
-module _ {w₀ : List ℤ} {r : Record} {way : Way} (g : Asked w₀ r way) where
+module _ {w₀ : List ℤ} {r : Record} {way : Way} (g : ToDelete w₀ r way) where
   abbrev p : Pool
   p = read w₀
 
@@ -98,8 +98,8 @@ module _ {w₀ : List ℤ} {r : Record} {way : Way} (g : Asked w₀ r way) where
       let h = find-held p (g .whole) r .1 (subst Found (sym finds) tt) in
       omega (arith, g .whole .counted, counted (λ x. true) (held-is r p .0 h) refl, ap length (those-all (stored p)))
 
-  pub records-fit : p .records ≤ 2147483647
-  records-fit = omega (arith, records-few w₀ (g .fit .right) (g .whole))
+  pub records-small : p .records ≤ 2147483647
+  records-small = omega (arith, records-few w₀ (g .fit .right) (g .whole))
 
   -- the pair is counted off
   module _ {h : ℕ} {w₁ : List ℤ} (u : CountedOff w₀ h w₁) where
@@ -110,7 +110,7 @@ module _ {w₀ : List ℤ} {r : Record} {way : Way} (g : Asked w₀ r way) where
           pair = r;
           tree = stands ours ours-lawful p (g .whole) r path led .tree;
           once = standing-once less [] (stands ours ours-lawful p (g .whole) r path led);
-          leads = way-there ours ours-lawful p (g .whole) r path led;
+          leads = way-leads ours ours-lawful p (g .whole) r path led;
           long = shows-some (pathTo p r) (p .height) way (g .found) (g .shows) .1;
           high = high;
         })
@@ -136,9 +136,9 @@ module _ {w₀ : List ℤ} {r : Record} {way : Way} (g : Asked w₀ r way) where
       pub back-waits : Waiting (read w₂) (asidesOf a)
       back-waits = subst₂ Waiting (sym (has .pool .is)) (sym (has .list)) (waiting ours ours-lawful p (g .whole) r path led)
 
-      pub back-few : a .count ≤ 14
+      pub asides-few : a .count ≤ 14
       unfolding putRecords
-      back-few =
+      asides-few =
           omega (
             arith,
             listed-length (a .entries) (a .levels) 0 (a .count),
@@ -157,14 +157,14 @@ module _ {w₀ : List ℤ} {r : Record} {way : Way} (g : Asked w₀ r way) where
 
       delete-is : deleteRecord ours p r ≡ shortened (reinsert ours (read w₂) (asidesOf a))
       delete-is =
-          delete-some ours p r path finds ∙ back-is ours (condense less path)
+          delete-found ours p r path finds ∙ back-is ours (condense less path)
           ∙ ap (λ (x : Condensed). shortened (reinsert ours (x .pool) (x .setAside))) (sym done-is)
           ∙ sym (λ i. shortened (reinsert ours (has .pool .is i) (has .list i)))
 
       module _ (o : Outcome) (w₃ : List ℤ) (b : Removes w₂ (reinsert ours (read w₂) (asidesOf a)) o w₃) where
         -- an entry found no slot
-        pub delete-refused : o ≡ Refused → length w₃ ≡ length w₀ → Removes w₀ (deleteRecord ours p r) Refused w₃
-        delete-refused e long =
+        pub deleted-refused : o ≡ Refused → length w₃ ≡ length w₀ → Removes w₀ (deleteRecord ours p r) Refused w₃
+        deleted-refused e long =
             let k = subst (λ (x : Outcome). Removes w₂ (reinsert ours (read w₂) (asidesOf a)) x w₃) e b in
             let none = delete-is ∙ ap shortened (removes-none w₂ w₃ (reinsert ours (read w₂) (asidesOf a)) k) ∙ short-none ours in
             subst (λ (c : Change). Removes w₀ c Refused w₃) (sym none) long
@@ -186,7 +186,7 @@ module _ {w₀ : List ℤ} {r : Record} {way : Way} (g : Asked w₀ r way) where
           pub made-known : Known (read w₃) f
           made-known = subst (λ (q : Pool). Known q f) (sym (made .3 .is)) (made .3 .known)
 
-          pub delete-made : (v : FreeSlots) (w₄ : List ℤ) → HoldsPool (shorten (read w₃)) v w₄ → Removes w₀ (deleteRecord ours p r) (Made v) w₄
-          delete-made v w₄ k =
+          pub deleted-made : (v : FreeSlots) (w₄ : List ℤ) → HoldsPool (shorten (read w₃)) v w₄ → Removes w₀ (deleteRecord ours p r) (Made v) w₄
+          deleted-made v w₄ k =
               let is = delete-is ∙ ap shortened (made .1) ∙ short-done ours (made .0) ∙ ap (λ (q : Pool). Done (shorten q)) (sym (made .3 .is)) in
               subst (λ (c : Change). Removes w₀ c (Made v) w₄) (sym is) k

@@ -1,4 +1,4 @@
--- The entries set aside, one behind the other: one more, and those of a node.
+-- The entries set aside, one after another: one more, and those of a node. They stand in two arrays, so one more is one place of each.
 use mathlib.Core.Path.{_≡_, refl, sym, ap, ap₂, _∙_}
 use mathlib.Core.List.{List, [], _∷_, _++_, map, map-append, append-assoc, append-nil}
 use Prim.Native.Nat.{ℕ, zero, suc, _+_, _≤_, _<_}

@@ -1,4 +1,5 @@
--- What a node of the tree has can be written again, with an entry less.
+-- What a node of the tree has can be written again, with an entry less: its entries were read from words, and those that are left are some of
+-- them.
 use mathlib.Core.Path.{_≡_, sym, ap, ap₂, subst, _∙_}
 use mathlib.Core.List.{List}
 use Prim.Native.Nat.{ℕ, _-_, _≤_, _<_}
@@ -15,14 +16,12 @@ use Rattle.rules.specs.Pool.{Node, Pool, slot, node, noEntry, nodeAt, entriesAt
 use Rattle.rules.specs.Layout.{read}
 use Rattle.rules.specs.Delete.{place, takeOut}
 use Rattle.rules_laws.proofs.Places.{at-place, each-at}
-use Rattle.rules_laws.proofs.Parts.{length-without}
+use Rattle.rules_laws.proofs.Parts.{length-without, those-fewer, among-without}
 use Rattle.pool.specs.Slots.{InPool, Fit, Small, SmallAll, KindAll}
 use Rattle.pool.proofs.Parts.{slotWords, slot-node}
 use Rattle.pool.proofs.Written.{Kind, Fine, node-fine}
 use Rattle.sound_laws.specs.Tree.{Slot, Tree}
-use Rattle.sound_laws.proofs.Joins.{those-fewer}
 use Rattle.sound_laws.proofs.Walk.{tree-node}
-use Rattle.insert_laws.proofs.Sums.{among-without}
 use Rattle.insert_laws.proofs.Under.{tree-fits}
 use Rattle.free_slots.specs.declared.FreeSlots.{FreeSlots}
 use Rattle.free_slots.specs.Known.{Known}
@@ -83,6 +82,6 @@ module _ {w : List ℤ} {s : SlotNumber} (f : Fit w) (g : A.Rewritable (read w) 
       kind = λ j h. let k = rest-at j h in rw e (subst (Kind (nodeAt (read w) s .level)) (k .2) (here-kind (k .0) (k .1)));
     }
 
-    pub out-is : (level : ℕ) → level ≡ nodeAt (read w) s .level → putNode (read w) s (node level (take (n - 1) rest)) ≡ takeOut (read w) (place s i)
+    pub taken-out : (level : ℕ) → level ≡ nodeAt (read w) s .level → putNode (read w) s (node level (take (n - 1) rest)) ≡ takeOut (read w) (place s i)
     unfolding takeOut putEntries
-    out-is level e = ap₂ (λ (l : ℕ) (xs : List Entry). putNode (read w) s (node l xs)) e rest-is
+    taken-out level e = ap₂ (λ (l : ℕ) (xs : List Entry). putNode (read w) s (node l xs)) e rest-is

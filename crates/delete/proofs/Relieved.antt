@@ -6,14 +6,13 @@ use Prim.Native.Nat.{ℕ, _≤_, _<_}
 use native.Mathlib.Omega.{arith}
 use lib.ListN.{length, set}
 use lib.IntN.{ℤ}
-use borrow.Author.Tests.{lt-ltb, le-ltb}
 use Rattle.rules.specs.declared.SlotNumber.{SlotNumber}
 use Rattle.rules.specs.declared.Entry.{Entry}
 use Rattle.rules.specs.Lists.{without}
 use Rattle.rules.specs.Numbers.{least}
 use Rattle.rules.specs.Pool.{Node, Pool, node, nodeAt, entriesAt, entryAt, childOf, entryFor, putEntries, zeroSlot, tighten}
 use Rattle.rules.specs.Layout.{read}
-use Rattle.rules.specs.Delete.{Place, place, Condensed, takeOut, asides, relieve}
+use Rattle.rules.specs.Delete.{place, Condensed, takeOut, asides, relieve}
 use Rattle.pool.specs.Slots.{Fit}
 use Rattle.free_slots.specs.declared.FreeSlots.{FreeSlots}
 use Rattle.free_slots.specs.Known.{Known, moreSlot}
@@ -22,6 +21,7 @@ use Rattle.nodes.specs.Reading.{LeadsOn}
 use Rattle.sound_laws.specs.Tree.{Slot}
 use Rattle.sound_laws.proofs.Frame.{put-length, put-other}
 use Rattle.delete_laws.specs.Shrunk.{condensed}
+use Rattle.delete_laws.proofs.Narrow.{relieve-few, relieve-enough}
 use Rattle.delete.specs.declared.Asides.{Asides}
 use Rattle.delete.specs.Aside.{asidesOf, withFree, Roomy, Has, ChildAt}
 
@@ -79,16 +79,6 @@ module _ (p : Pool) (f : FreeSlots) (k : Known p f) where
         (subst (λ (n : Node). n .level ≢ 0) (sym out-child) (c .used))
 
 -- ---- the one or the other
-
-module _ (a : Place) (t : SlotNumber) (d : Condensed) where
-  relieve-few : length (entriesAt (d .pool) t) < least
-      → relieve a t d ≡ condensed (zeroSlot (takeOut (d .pool) a) t) (d .setAside ++ asides (d .pool) t)
-  unfolding relieve
-  relieve-few h = rw (lt-ltb (length (entriesAt (d .pool) t)) least h, relieve)
-
-  relieve-enough : least ≤ length (entriesAt (d .pool) t) → relieve a t d ≡ condensed (tighten (d .pool) (a .node) (a .at)) (d .setAside)
-  unfolding relieve
-  relieve-enough h = rw (le-ltb (length (entriesAt (d .pool) t)) least h, relieve)
 
 module _ (w : List ℤ) (s : SlotNumber) (i : ℕ) (t : SlotNumber) (a : Asides) (c : ChildAt (read w) s i t) (k : Known (read w) (a .free)) where
   abbrev before : Condensed

@@ -20,7 +20,7 @@ use Rattle.sound_laws.specs.Tree.{Slot, NodeIn, Tree}
 use Rattle.sound_laws.proofs.Tests.{leaf-is}
 use Rattle.sound_laws.proofs.Walk.{tree-node, tree-positive}
 use Rattle.insert_laws.specs.Standing.{Standing}
-use Rattle.insert_laws.proofs.Tighten.{child-entry}
+use Rattle.insert_laws.proofs.Beside.{child-entry}
 use Rattle.insert.specs.Left.{HoldsPool}
 use Rattle.delete_laws.proofs.Short.{shorten-leaf, shorten-one, shorten-more}
 

@@ -1,4 +1,5 @@
--- CT6: what was set aside is put back, each entry at its own level.
+-- CT6: what was set aside is put back, each entry at its own level. Each waits beside a tree that stands and is lower than it, so it can go
+-- in; the tree stands again, and the others still wait.
 use mathlib.Core.Path.{_≡_, refl, sym, subst, _∙_}
 use mathlib.Core.List.{List, [], _∷_, _++_, List·Memᴰ·head, List·Memᴰ·tail}
 use Prim.Native.Nat.{_≤_}

@@ -1,4 +1,5 @@
--- Laws on entries set aside: each stands for what is under it.
+-- Entries set aside: each stands for what is under it, so a list of them weighs what its parts weigh, and they fit the level that they come
+-- from.
 use mathlib.Core.Path.{_≡_, refl, sym, ap, subst, _∙_}
 use mathlib.Core.List.{List, [], _∷_, _++_, map, map-map, Memᴰ·of-map}
 use Prim.Native.Nat.{ℕ, zero, suc, _+_, _≤_}
@@ -7,13 +8,13 @@ use Rattle.rules.specs.declared.Entry.{Entry}
 use Rattle.rules.specs.Lists.{total, joined}
 use Rattle.rules.specs.Pool.{Pool, sameSlot, nodeAt, entriesAt}
 use Rattle.rules.specs.Delete.{Aside, asides}
-use Rattle.rules_laws.proofs.Places.{Among}
+use Rattle.rules_laws.proofs.Places.{Among, map-same}
+use Rattle.rules_laws.proofs.Joins.{joined-none, joined-more, among-joined, joined-among, count-joined}
+use Rattle.rules_laws.proofs.Sums.{total-none, total-more, total-append, total-alike}
 use Rattle.sound_laws.specs.Tree.{times, Used, Tree}
-use Rattle.sound_laws.proofs.Joins.{joined-none, joined-more, map-same, among-joined, joined-among, count-joined, total-none, total-more, total-append}
 use Rattle.sound_laws.proofs.Walk.{tree-node}
 use Rattle.sound_laws.proofs.Frame.{slots-frame}
 use Rattle.insert_laws.specs.Grown.{slotsUnder, Fits, Weights, weightUnder}
-use Rattle.insert_laws.proofs.Sums.{total-alike}
 use Rattle.insert_laws.proofs.Under.{tree-fits, SameUnder, weight-frame, SameBelow, weight-below, under-used}
 use Rattle.insert_laws.proofs.Counts.{timesOf, times-under}
 use Rattle.delete_laws.specs.Shrunk.{slotsAside, weightAside}

@@ -1,4 +1,5 @@
--- CT1 to CT5: up the way that FindLeaf came down, and what stands then.
+-- CT1 to CT5: up the way that FindLeaf came down, and what stands then. By induction on the way: at its end the pair leaves its leaf (Out),
+-- and at each node above a child shrank (Narrow).
 use mathlib.Core.Path.{_≡_, refl, sym, ap, subst, subst₂, _∙_}
 use mathlib.Core.Bool.{Bool}
 use mathlib.Core.List.{List, [], _∷_}
@@ -17,13 +18,13 @@ use Rattle.sound_laws.proofs.Walk.{within-used}
 use Rattle.sound_laws.proofs.Apart.{once-child}
 use Rattle.insert_laws.specs.Grown.{recordsUnder, spot}
 use Rattle.insert_laws.specs.Standing.{Standing}
-use Rattle.insert_laws.proofs.Under.{under-leaf}
+use Rattle.insert_laws.proofs.Under.{under-leaf, weight-leaf}
 use Rattle.insert_laws.proofs.Counts.{timesOf, countOf, times-under, count-under, times-at, count-at, times-taken, count-taken, free-out}
-use Rattle.insert_laws.proofs.Tighten.{among-here, child-entry}
+use Rattle.insert_laws.proofs.Beside.{among-here, child-entry}
 use Rattle.delete_laws.specs.Way.{Leads}
 use Rattle.delete_laws.specs.Shrunk.{slotsAside, weightAside, Shrunk, Waiting, condensed}
 use Rattle.delete_laws.proofs.Asides.{aside-used, times-aside}
-use Rattle.delete_laws.proofs.Out.{leaf-weighs, out-shrunk}
+use Rattle.delete_laws.proofs.Out.{out-shrunk}
 use Rattle.delete_laws.proofs.Narrow.{relieve-shrunk}
 
 -- ---- up the way
@@ -71,12 +72,12 @@ module _ (p : Pool) (r : Record) where
   count-record : (f : Record → Bool) → countOf f .ofRecord r ≡ length (those f (r ∷ []))
   unfolding recordsUnder
   count-record f =
-      ap (countOf f .ofRecord) (sym record-back) ∙ sym (leaf-weighs (countOf f) p (leafEntry r)) ∙ count-under p f 1 (leafEntry r)
+      ap (countOf f .ofRecord) (sym record-back) ∙ sym (weight-leaf (countOf f) p (leafEntry r)) ∙ count-under p f 1 (leafEntry r)
       ∙ ap (λ (x : Record). length (those f (x ∷ []))) record-back
 
   times-record : (t : SlotNumber) → timesOf t .ofRecord r ≡ 0
   times-record t =
-      ap (timesOf t .ofRecord) (sym record-back) ∙ sym (leaf-weighs (timesOf t) p (leafEntry r)) ∙ times-under p t 1 (leafEntry r)
+      ap (timesOf t .ofRecord) (sym record-back) ∙ sym (weight-leaf (timesOf t) p (leafEntry r)) ∙ times-under p t 1 (leafEntry r)
       ∙ ap (times t) (under-leaf p (leafEntry r)) ∙ times-none t
 
 -- ---- what stands

@@ -18,12 +18,12 @@ use Rattle.rules.specs.Delete.{Path, Condensed, pathTo, condense, shorten, shor
 use Rattle.rules_laws.proofs.Orders.{never-both}
 use Rattle.rules_laws.proofs.Parts.{those-all}
 use Rattle.sound_laws.specs.Tree.{treeRecords, Whole}
-use Rattle.sound_laws.proofs.Frame.{records-frame}
 use Rattle.sound_laws.proofs.Whole.{stored-in}
 use Rattle.sound_laws.proofs.Sound.{whole-sound}
+use Rattle.sound_laws.proofs.Free.{head-free}
 use Rattle.insert_laws.specs.Standing.{Standing}
 use Rattle.insert_laws.proofs.Standing.{standing-once}
-use Rattle.insert_laws.proofs.Whole.{head-standing, whole-standing, standing-whole, standing-stored}
+use Rattle.insert_laws.proofs.Whole.{head-standing, whole-standing, standing-whole, standing-stored, head-records}
 use Rattle.delete_laws.specs.Way.{Leads, EachWay, Found}
 use Rattle.delete_laws.specs.Shrunk.{Shrunk, Waiting, PutBack, Shortened, Deleted, EachPool, Sure, roomFor, SlotRoom, deleteRoom}
 use Rattle.delete_laws.proofs.Finds.{find-leads}
@@ -42,21 +42,13 @@ leads-head p n r (suc zero) s way h = h
 leads-head p n r (suc (suc l)) s way h =
     (h .0, h .1, h .2, h .3, leads-head p n r (suc l) (childOf (entryAt p s (h .0))) (h .1) (h .4))
 
-head-at : (p : Pool) (n : ℕ) (t : SlotNumber) → nodeAt p t ≡ nodeAt (putRecords p n) t
-unfolding nodeAt putRecords
-head-at p n t = refl
-
 head-two : (p : Pool) (n : ℕ) → Whole p → 2 ≤ putRecords p n .height → 2 ≤ length (entriesAt (putRecords p n) (putRecords p n .root))
 unfolding putRecords entriesAt nodeAt
 head-two p n w h = w .two h
 
-head-free : (p : Pool) (n : ℕ) → freeCount (putRecords p n) ≡ freeCount p
-unfolding putRecords freeCount
-head-free p n = refl
-
 head-tree : (p : Pool) (n : ℕ) → treeRecords (putRecords p n) ≡ treeRecords p
 unfolding putRecords
-head-tree p n = records-frame p (putRecords p n) (p .height) (p .root) (λ t m. head-at p n t)
+head-tree p n = head-records p n (p .height) (p .root)
 
 -- ---- what was set aside is back, and the root is short
 
@@ -89,9 +81,9 @@ module _ (c : Choice) where
     pub stands : Standing less []
     stands = head-standing p (p .records - 1) [] (whole-standing p w)
 
-    pub way-there : Leads less r (less .height) (less .root) way
+    pub way-leads : Leads less r (less .height) (less .root) way
     unfolding putRecords
-    way-there = leads-head p (p .records - 1) r (p .height) (p .root) way h
+    way-leads = leads-head p (p .records - 1) r (p .height) (p .root) way h
 
     pub out : Condensed
     out = condense less way
@@ -102,7 +94,7 @@ module _ (c : Choice) where
 
     pub shrunk : Shrunk less (less .height) (less .root) r out
     unfolding out
-    shrunk = condense-shrunk less r (less .height) (less .root) way (stands .tree) (standing-once less [] stands) way-there
+    shrunk = condense-shrunk less r (less .height) (less .root) way (stands .tree) (standing-once less [] stands) way-leads
 
     pub waiting : Waiting (out .pool) (out .setAside)
     waiting = shrunk-waiting less stands (head-two p (p .records - 1) w) r out shrunk
@@ -184,14 +176,14 @@ module _ (c : Choice) where
   -- ---- D1 to D4
 
   module _ (p : Pool) (r : Record) where
-    delete-none : pathTo p r ≡ none → deleteRecord c p r ≡ Done p
+    delete-missing : pathTo p r ≡ none → deleteRecord c p r ≡ Done p
     unfolding deleteRecord
-    delete-none h = rw (h, deleteRecord)
+    delete-missing h = rw (h, deleteRecord)
 
-    pub delete-some : (way : Path) → pathTo p r ≡ some way
+    pub delete-found : (way : Path) → pathTo p r ≡ some way
         → deleteRecord c p r ≡ putBack c (condense (putRecords p (p .records - 1)) way)
     unfolding deleteRecord
-    delete-some way h = rw (h, deleteRecord)
+    delete-found way h = rw (h, deleteRecord)
 
     module _ (w : Whole p) where
       -- a pair that is not held changes nothing
@@ -199,7 +191,7 @@ module _ (c : Choice) where
       delete-other n = go (pathTo p r) refl
         where
           go : (o : Option Path) → pathTo p r ≡ o → deleteRecord c p r ≡ Done p
-          go none h = delete-none h
+          go none h = delete-missing h
           go (some way) h = never-both (find-held p w r .1 (subst Found (sym h) tt)) n
 
       pub delete-each : Lawful c → held p r ≡ true → EachPool (Deleted p r) (deleteRecord c p r)
@@ -208,7 +200,7 @@ module _ (c : Choice) where
           go : (o : Option Path) → pathTo p r ≡ o → EachPool (Deleted p r) (deleteRecord c p r)
           go none h = absurd (subst Found h (find-held p w r .0 y))
           go (some way) h =
-              rw (delete-some way h)
+              rw (delete-found way h)
               (back-deleted lawful p w r way (subst (EachWay (Leads p r (p .height) (p .root))) h (find-leads p r (p .height) (p .root))))
 
       -- with slots enough a delete is done, and leaves as many
@@ -216,13 +208,18 @@ module _ (c : Choice) where
       delete-room lawful room = go (pathTo p r) refl
         where
           go : (o : Option Path) → pathTo p r ≡ o → Sure (SlotRoom p (2 * (p .height - 1))) (deleteRecord c p r)
-          go none h = rw (delete-none h) (record { high = omega arith; left = omega arith })
+          go none h = rw (delete-missing h) (record { high = omega arith; left = omega arith })
           go (some way) h =
-              rw (delete-some way h)
+              rw (delete-found way h)
               (back-room lawful p w r way (subst (EachWay (Leads p r (p .height) (p .root))) h (find-leads p r (p .height) (p .root))) room)
 
       pub delete-fits : Lawful c → deleteRoom (p .height) ≤ freeCount p → deleteRecord c p r ≢ NoneFree
       delete-fits lawful room e = subst (Sure (SlotRoom p (2 * (p .height - 1)))) e (delete-room lawful room)
+
+-- what is so of the pool that a change leaves, where it leaves one
+pub pool-left : (P : Pool → Type 0) (o : Change) → ((q : Pool) → o ≡ Done q → P q) → EachPool P o
+pool-left P (Done q) h = h q refl
+pool-left P NoneFree h = tt
 
 done-in : (P : Pool → Type 0) (p q : Pool) → Done p ≡ Done q → P p → P q
 done-in P p q h x = subst (EachPool P) h x

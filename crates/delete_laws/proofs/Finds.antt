@@ -17,9 +17,9 @@ use Rattle.rules.specs.Pool.{Pool, noEntry, entriesAt, entryFrom, entryAt, chil
 use Rattle.rules.specs.Delete.{Path, place, findEntry, orLater, findChild, findLeaf}
 use Rattle.rules_laws.proofs.Orders.{never-both}
 use Rattle.rules_laws.proofs.Places.{Among, at-place}
+use Rattle.rules_laws.proofs.Joins.{among-joined, joined-among}
 use Rattle.sound_laws.specs.Tree.{recordsIn, Tree}
 use Rattle.sound_laws.proofs.Same.{same-pair}
-use Rattle.sound_laws.proofs.Joins.{among-joined, joined-among}
 use Rattle.sound_laws.proofs.Walk.{no-tree, inner-of, records-leaf, records-inner}
 use Rattle.search_laws.proofs.Covers.{holds-meets}
 use Rattle.search_laws.proofs.Found.{record-held}

@@ -1,4 +1,5 @@
--- In a whole pool FindLeaf gives a way exactly if the pair is held, and the way leads to it.
+-- In a whole pool FindLeaf gives a way exactly if the pair is held, and the way leads to it: the records stored are those of the tree, and
+-- a valid rectangle meets itself, so the covers above it are not left out.
 use mathlib.Core.Path.{_≡_, refl, sym, subst}
 use mathlib.Core.Logic.{_↔_, ⊎-elim}
 use mathlib.Core.Bool.{Bool, true, false, _&&_}
@@ -18,10 +19,10 @@ use Rattle.rules.specs.Delete.{Path, pathTo}
 use Rattle.rules_laws.proofs.Bools.{and-both}
 use Rattle.rules_laws.proofs.Orders.{never-both}
 use Rattle.rules_laws.proofs.Places.{Among}
+use Rattle.rules_laws.proofs.Joins.{among-joined}
 use Rattle.sound_laws.specs.Tree.{recordsIn, treeRecords, Tree, Whole}
 use Rattle.sound_laws.proofs.Same.{same-pair}
 use Rattle.sound_laws.proofs.Tests.{or-is}
-use Rattle.sound_laws.proofs.Joins.{among-joined}
 use Rattle.sound_laws.proofs.Walk.{no-tree, leaf-of, inner-of, records-leaf, records-inner}
 use Rattle.sound_laws.proofs.Whole.{stored-in}
 use Rattle.search_laws.specs.Order.{Alike}
@@ -38,25 +39,18 @@ valid-meets r v =
     let x = and-both all (leZ (r .lowX) (r .highX)) (y .0) in
     rw (x .1, y .1)
 
-pub record-valid : (p : Pool) (l : ℕ) (s : SlotNumber) → Tree p l s → (r : Record) → Among r (recordsIn p l s) → valid (r .rect) ≡ true
+-- a record of a tree is as a leaf entry is to be
+pub record-good : (p : Pool) (l : ℕ) (s : SlotNumber) → Tree p l s → (r : Record) → Among r (recordsIn p l s)
+    → (valid (r .rect) ≡ true) × (goodNumber (r .number) ≡ true)
 unfolding recordOf
-record-valid p zero s d r m = absurd (no-tree p s d)
-record-valid p (suc zero) s d r m =
+record-good p zero s d r m = absurd (no-tree p s d)
+record-good p (suc zero) s d r m =
     let q = Memᴰ·of-map recordOf (entriesAt p s) (rw (records-leaf p s) at m) in
-    subst (λ (x : Record). valid (x .rect) ≡ true) (q .2) (leaf-of p s d .each (q .0) (q .1) .rect)
-record-valid p (suc (suc l)) s d r m =
+    let e = leaf-of p s d .each (q .0) (q .1) in
+    subst (λ (x : Record). (valid (x .rect) ≡ true) × (goodNumber (x .number) ≡ true)) (q .2) (e .rect, e .number)
+record-good p (suc (suc l)) s d r m =
     let q = among-joined (λ (e : Entry). recordsIn p (suc l) (childOf e)) r (entriesAt p s) (rw (records-inner p s l) at m) in
-    record-valid p (suc l) (childOf (q .0)) (inner-of p l s d .each (q .0) (q .1) .child) r (q .2)
-
-pub record-number : (p : Pool) (l : ℕ) (s : SlotNumber) → Tree p l s → (r : Record) → Among r (recordsIn p l s) → goodNumber (r .number) ≡ true
-unfolding recordOf
-record-number p zero s d r m = absurd (no-tree p s d)
-record-number p (suc zero) s d r m =
-    let q = Memᴰ·of-map recordOf (entriesAt p s) (rw (records-leaf p s) at m) in
-    subst (λ (x : Record). goodNumber (x .number) ≡ true) (q .2) (leaf-of p s d .each (q .0) (q .1) .number)
-record-number p (suc (suc l)) s d r m =
-    let q = among-joined (λ (e : Entry). recordsIn p (suc l) (childOf e)) r (entriesAt p s) (rw (records-inner p s l) at m) in
-    record-number p (suc l) (childOf (q .0)) (inner-of p l s d .each (q .0) (q .1) .child) r (q .2)
+    record-good p (suc l) (childOf (q .0)) (inner-of p l s d .each (q .0) (q .1) .child) r (q .2)
 
 module _ (r : Record) where
   one-among : (xs : List Record) → oneOf (samePair r) xs ≡ true → Among r xs
@@ -95,7 +89,7 @@ module _ (p : Pool) (w : Whole p) (r : Record) where
   find-held = (
     (λ h.
         let m = alike-among stored-alike r (held-is r p .0 h) in
-        record-found p r (p .height) (p .root) (w .tree) m (valid-meets (r .rect) (record-valid p (p .height) (p .root) (w .tree) r m))),
+        record-found p r (p .height) (p .root) (w .tree) m (valid-meets (r .rect) (record-good p (p .height) (p .root) (w .tree) r m .0))),
     (λ f.
         let way = found-way (Leads p r (p .height) (p .root)) (pathTo p r) (find-leads p r (p .height) (p .root)) f in
         held-is r p .1 (alike-among alike-stored r (leads-record p r (p .height) (p .root) (way .0) (way .1)))),
@@ -107,10 +101,10 @@ module _ (p : Pool) (w : Whole p) (r : Record) where
     held-in = alike-among stored-alike r (held-is r p .0 h)
 
     pub held-valid : valid (r .rect) ≡ true
-    held-valid = record-valid p (p .height) (p .root) (w .tree) r held-in
+    held-valid = record-good p (p .height) (p .root) (w .tree) r held-in .0
 
     pub held-number : goodNumber (r .number) ≡ true
-    held-number = record-number p (p .height) (p .root) (w .tree) r held-in
+    held-number = record-good p (p .height) (p .root) (w .tree) r held-in .1
 
     -- the way that FindLeaf gives, and that it leads to the exact pair
     pub find-way : (way : Path) × (pathTo p r ≡ some way) × Leads p r (p .height) (p .root) way

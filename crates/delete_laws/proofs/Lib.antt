@@ -3,7 +3,6 @@ pub mod Clauses
 pub mod Finds
 pub mod Held
 pub mod Asides
-pub mod Freed
 pub mod Out
 pub mod Narrow
 pub mod Condense

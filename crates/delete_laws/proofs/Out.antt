@@ -1,4 +1,4 @@
--- D2: the pair goes out of its leaf.
+-- D2: the pair goes out of its leaf. One slot is written, and its tree is that leaf alone: the other entries fit as before.
 use mathlib.Core.Path.{_≡_, sym, ap, _∙_}
 use mathlib.Core.List.{List, [], map, List·Memᴰ·not-nil, Memᴰ·cast}
 use Prim.Native.Nat.{ℕ, suc, _+_, _<_}
@@ -11,23 +11,17 @@ use Rattle.rules.specs.Lists.{total, without}
 use Rattle.rules.specs.Pool.{Pool, node, noEntry, nodeAt, entriesAt, entryFrom, entryAt, recordOf, putNode}
 use Rattle.rules.specs.Delete.{place, takeOut}
 use Rattle.rules_laws.proofs.Places.{Among, at-place}
-use Rattle.rules_laws.proofs.Parts.{length-without}
+use Rattle.rules_laws.proofs.Parts.{length-without, among-without}
+use Rattle.rules_laws.proofs.Sums.{total-none, total-without, total-alike}
 use Rattle.sound_laws.specs.Tree.{Tree, NodeIn}
-use Rattle.sound_laws.proofs.Joins.{total-none, total-more, total-without}
 use Rattle.sound_laws.proofs.Walk.{tree-node, top-among}
 use Rattle.sound_laws.proofs.Frame.{put-length, put-same, put-other, put-slot}
-use Rattle.insert_laws.specs.Grown.{slotsUnder, recordsUnder, Weights, weightUnder}
-use Rattle.insert_laws.proofs.Sums.{total-alike, among-without}
-use Rattle.insert_laws.proofs.FreeCount.{put-used}
-use Rattle.insert_laws.proofs.Under.{entries-are, tree-fits, leaf-fits, fits-leaf, tree-made, weight-parts, weight-made}
+use Rattle.sound_laws.proofs.Free.{put-used}
+use Rattle.insert_laws.specs.Grown.{Weights, weightUnder}
+use Rattle.insert_laws.proofs.Under.{entries-are, tree-fits, leaf-fits, fits-leaf, tree-made, weight-parts, weight-made, weight-leaf}
 use Rattle.insert_laws.proofs.Install.{put-head, put-entries}
 use Rattle.delete_laws.specs.Shrunk.{Shrunk, condensed}
 use Rattle.delete_laws.proofs.Asides.{weight-aside-none}
-
--- a leaf's entry weighs what its record does, in every pool
-pub leaf-weighs : (w : Weights) (p : Pool) (e : Entry) → weightUnder w p 1 e ≡ w .ofRecord (recordOf e)
-unfolding weightUnder slotsUnder recordsUnder
-leaf-weighs w p e = omega (arith, total-none (w .ofSlot), total-none (w .ofRecord), total-more (w .ofRecord) (recordOf e) [])
 
 module _ (p : Pool) (s : SlotNumber) (d : Tree p 1 s) (i : ℕ) (there : i < length (entriesAt p s)) (r : Record)
     (is : recordOf (entryAt p s i) ≡ r) where
@@ -61,7 +55,7 @@ module _ (p : Pool) (s : SlotNumber) (d : Tree p 1 s) (i : ℕ) (there : i < len
       omega (
         arith,
         total-without (weightUnder w p 1) (entriesAt p s) i noEntry there,
-        leaf-weighs w p (entryAt p s i),
+        weight-leaf w p (entryAt p s i),
         ap (w .ofRecord) is,
       )
 
@@ -77,7 +71,7 @@ module _ (p : Pool) (s : SlotNumber) (d : Tree p 1 s) (i : ℕ) (there : i < len
       weight-made w made 0 s rest made-at,
       weight-parts w p 0 s,
       taken-weighs w,
-      total-alike (weightUnder w made 1) (weightUnder w p 1) rest (λ y m. leaf-weighs w made y ∙ sym (leaf-weighs w p y)),
+      total-alike (weightUnder w made 1) (weightUnder w p 1) rest (λ y m. weight-leaf w made y ∙ sym (weight-leaf w p y)),
       weight-aside-none made w,
       total-none (w .ofSlot),
     );

@@ -1,4 +1,5 @@
--- D4: "Last, an inner root with one child is freed and that child is root."
+-- D4: "Last, an inner root with one child is freed and that child is root." The child's tree is all that stood below the root, so the pool
+-- stands with it; and it has three entries at least, since it was no root before.
 use mathlib.Core.Path.{_≡_, refl, sym, ap, subst, _∙_}
 use mathlib.Core.Logic.{_≢_}
 use mathlib.Core.Bool.{Bool, true, false}
@@ -17,20 +18,19 @@ use Rattle.rules.specs.Delete.{shorten}
 use Rattle.rules_laws.proofs.Orders.{never-both}
 use Rattle.rules_laws.proofs.Places.{Among, nothing}
 use Rattle.rules_laws.proofs.Parts.{length-without}
+use Rattle.rules_laws.proofs.Sums.{total-none, total-more}
 use Rattle.sound_laws.specs.Tree.{slotsIn, recordsIn, treeSlots, treeRecords, times, Slot, Used, NodeIn, InnerEntry, Tree}
-use Rattle.sound_laws.proofs.Joins.{total-none, total-more}
 use Rattle.sound_laws.proofs.Tests.{leaf-is}
 use Rattle.sound_laws.proofs.Times.{slot-discrete, times-none, times-other}
 use Rattle.sound_laws.proofs.Walk.{tree-node, tree-positive, within, within-used}
 use Rattle.sound_laws.proofs.Frame.{entries-same, slots-frame, records-frame, tree-frame, put-length, put-same, put-other}
+use Rattle.sound_laws.proofs.Free.{zero-freed}
 use Rattle.insert_laws.specs.Grown.{Weights, weightUnder, spot, weightAt}
 use Rattle.insert_laws.specs.Standing.{Standing}
 use Rattle.insert_laws.proofs.Counts.{timesOf, countOf, times-at, count-at, times-taken, count-taken}
 use Rattle.insert_laws.proofs.Root.{root-at}
-use Rattle.insert_laws.proofs.Tighten.{child-entry}
+use Rattle.insert_laws.proofs.Beside.{child-entry, weight-child}
 use Rattle.delete_laws.specs.Shrunk.{Shortened}
-use Rattle.delete_laws.proofs.Freed.{zero-freed}
-use Rattle.delete_laws.proofs.Narrow.{weight-child}
 
 module _ (p : Pool) where
   pub shorten-leaf : isLeaf (nodeAt p (p .root)) ≡ true → shorten p ≡ p

@@ -1,4 +1,5 @@
--- With so many slots free that each entry put back finds one for each level and one more, none is refused.
+-- With so many slots free that each entry put back finds one for each level and one more, none is refused: an entry takes no more than that
+-- (Slots), and the tree rises by one level at most for each.
 use mathlib.Core.Path.{_≡_, refl}
 use mathlib.Core.Logic.{⊎-elim}
 use mathlib.Core.List.{List, [], _∷_, List·Memᴰ·head}

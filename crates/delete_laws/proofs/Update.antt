@@ -1,4 +1,5 @@
--- "Update deletes the old pair, then inserts the new rectangle under the same number; also where old equals new."
+-- "Update deletes the old pair, then inserts the new rectangle under the same number; also where old equals new." So its laws are those of
+-- delete and then of insert.
 use mathlib.Core.Path.{_≡_, refl, sym, subst, _∙_}
 use mathlib.Core.Logic.{_≢_}
 use mathlib.Core.Bool.{Bool, true}
@@ -33,9 +34,9 @@ module _ (c : Choice) (p : Pool) (old : Record) (new : Rect) where
   unfolding updateRecord
   update-done q h = rw (h, updateRecord)
 
-  pub update-none : deleteRecord c p old ≡ NoneFree → updateRecord c p old new ≡ NoneFree
+  pub update-stuck : deleteRecord c p old ≡ NoneFree → updateRecord c p old new ≡ NoneFree
   unfolding updateRecord
-  update-none h = rw (h, updateRecord)
+  update-stuck h = rw (h, updateRecord)
 
   module _ (lawful : Lawful c) (w : Whole p) (y : held p old ≡ true) (v : valid new ≡ true) (z : Pool) (u : updateRecord c p old new ≡ Done z) where
     abbrev Updated : Type 0
@@ -55,7 +56,7 @@ module _ (c : Choice) (p : Pool) (old : Record) (new : Rect) where
               insert-whole c lawful q whole (renewed old new) v number z is,
               λ f. omega (arith, delete-stored c lawful p w old q h y f, insert-stored c lawful q whole (renewed old new) v number z is f),
             )
-        go NoneFree h = absurd (subst (EachPool (λ x. ⊥)) (sym (update-none h) ∙ u) tt)
+        go NoneFree h = absurd (subst (EachPool (λ x. ⊥)) (sym (update-stuck h) ∙ u) tt)
 
     pub update-whole : Whole z
     update-whole = updated .0

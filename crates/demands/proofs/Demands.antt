@@ -1,4 +1,5 @@
--- The customer's three demands, proved of what `dustmap_call` promises.
+-- The customer's three demands, proved of what `dustmap_call` promises: that is what `call` defines, request by request, and the pool that a
+-- history leaves holds the records in force.
 use mathlib.Core.Path.{_≡_, refl, sym, ap, subst, _∙_}
 use mathlib.Core.Logic.{_≢_}
 use mathlib.Core.Bool.{not, _||_}
@@ -30,8 +31,8 @@ use Rattle.sound_laws.specs.Tree.{Whole}
 use Rattle.sound_laws.proofs.Sound.{sound-whole}
 use Rattle.in_force_laws.proofs.Faults.{no-row}
 use Rattle.in_force_laws.proofs.Whole.{request-whole}
-use Rattle.in_force_laws.proofs.Batch.{noAnswer, kept, long, two-parts}
-use Rattle.in_force_laws.proofs.Call.{left-refused, left-served, no-fault, left-answers, answers-long, call-shows}
+use Rattle.in_force_laws.proofs.Batch.{noAnswer, answers-kept, answers-as-many, two-parts}
+use Rattle.in_force_laws.proofs.Call.{callBy-refused, callBy-served, no-fault, left-answers, answers-long, call-shows}
 use Rattle.demands.specs.Steps.{Step, Call, History, inForceAfter}
 use Rattle.map.specs.Asking.{Allowed}
 use Rattle.map.proofs.Calls.{once}
@@ -99,7 +100,7 @@ module _ (l : Lent) where
       place-there : length done < length (now .answers)
       unfolding starting
       place-there =
-          omega (arith, long ours 0 done (starting l), answers-long ours l fine, ap length all, length-append done (q ∷ rest))
+          omega (arith, answers-as-many ours 0 done (starting l), answers-long ours l fine, ap length all, length-append done (q ∷ rest))
 
       next-answer : getD (next .answers) (length done) noAnswer ≡ answerOf (turnAfter l done a .reply)
       unfolding doRequest afterTurn
@@ -115,7 +116,7 @@ module _ (l : Lent) where
       unfolding call
       call-answer =
           ap (λ (xs : List Answer). getD xs (length done) noAnswer) (left-answers ours l fine ∙ ap (λ (b : Batch). b .answers) whole-parts)
-          ∙ kept ours (suc (length done)) rest next (length done) (omega arith) ∙ next-answer
+          ∙ answers-kept ours (suc (length done)) rest next (length done) (omega arith) ∙ next-answer
 
 -- ---- D1
 
@@ -127,7 +128,7 @@ module _ (l : Lent) (o : Left) (k : Allowed l o) where
   turned-off : (v : Verdict) → callFault l ≡ some v → (o .number ≡ verdictNumber v) × Untouched l o
   unfolding call refused
   turned-off v h =
-      let e = left-refused ours l v h in (
+      let e = callBy-refused ours l v h in (
         k .number ∙ ap (λ (x : Left). x .number) e,
         record {
           pool = k .pool ∙ ap (λ (x : Left). x .pool) e;
@@ -139,7 +140,7 @@ module _ (l : Lent) (o : Left) (k : Allowed l o) where
 
   taken-on : callFault l ≡ none → o .number ≡ pos 0
   unfolding call served verdictNumber
-  taken-on h = k .number ∙ ap (λ (x : Left). x .number) (left-served ours l h)
+  taken-on h = k .number ∙ ap (λ (x : Left). x .number) (callBy-served ours l h)
 
   module _ (z : o .number ≡ pos 0) (done : List Request) (q : Request) (rest : List Request) (all : l .requests ≡ done ++ q ∷ rest)
       (a : Asked) (is : asked q ≡ some a) where
@@ -168,7 +169,7 @@ module _ (l : Lent) (o : Left) (k : Allowed l o) where
   pub demand-2 : o .number ≡ pos 0 → Does l o
   unfolding call served
   demand-2 z =
-      let e = left-served ours l (fine z) in
+      let e = callBy-served ours l (fine z) in
       record {
         each = accepts z;
         pool = k .pool ∙ ap (λ (x : Left). x .pool) e;

@@ -1,4 +1,5 @@
--- The pool that a history leaves holds the pairs in force.
+-- The pool that a history leaves holds the pairs in force. By induction on its steps: blanking leaves none, a refused call leaves what was
+-- there, and each request of a served call does to the pool what it does to the plain list.
 use mathlib.Core.Path.{_≡_, refl, sym, ap, subst, _∙_}
 use mathlib.Core.Logic.{_≢_}
 use mathlib.Core.Bool.{Bool, true, false}
@@ -22,8 +23,8 @@ use Rattle.demands.specs.Steps.{Blanks, Step, Blank, Call, poolAfter, Hi
 use Rattle.map.specs.Asking.{Allowed}
 use Rattle.rules_laws.proofs.Splits.{ours-lawful}
 use Rattle.sound_laws.proofs.Blank.{blank-whole}
-use Rattle.in_force_laws.proofs.Written.{reads}
-use Rattle.in_force_laws.proofs.Call.{left-refused, left-served, no-fault, call-force, call-pool, blank-holds}
+use Rattle.in_force_laws.proofs.Written.{whole-reads}
+use Rattle.in_force_laws.proofs.Call.{callBy-refused, callBy-served, no-fault, call-force, call-pool, blank-holds}
 
 -- ---- what blanking leaves
 
@@ -61,7 +62,7 @@ module _ (l : Lent) where
 
   none-zero : callFault l ≡ none → call l .number ≡ pos 0
   unfolding call served verdictNumber
-  none-zero h = ap (λ (x : Left). x .number) (left-served ours l h)
+  none-zero h = ap (λ (x : Left). x .number) (callBy-served ours l h)
 
   -- "A refused call returns its number and writes nothing at all."
   pub refused-left : call l .number ≢ pos 0 → (v : Verdict) × (callFault l ≡ some v) × (call l ≡ refused l v)
@@ -69,7 +70,7 @@ module _ (l : Lent) where
     where
       go : (o : Option Verdict) → callFault l ≡ o → (v : Verdict) × (callFault l ≡ some v) × (call l ≡ refused l v)
       go none h = absurd (n (none-zero h))
-      go (some v) h = (v, h, call-is ∙ left-refused ours l v h)
+      go (some v) h = (v, h, call-is ∙ callBy-refused ours l v h)
 
 -- ---- in force, step by step
 
@@ -94,7 +95,7 @@ module _ (l : Lent) (o : Left) (steps : List Step) where
 -- ---- the pool holds them
 
 blank-pool : (n : ℕ) → HoldsRecords (read (words (blankPool n))) []
-blank-pool n = subst (λ (p : Pool). HoldsRecords p []) (sym (reads (blankPool n) (blank-whole n))) (blank-holds n)
+blank-pool n = subst (λ (p : Pool). HoldsRecords p []) (sym (whole-reads (blankPool n) (blank-whole n))) (blank-holds n)
 
 module _ (b : Blanked) (w : List ℤ) (k : Blanks w b) (steps : List Step) (now : HoldsRecords (read w) (inForceAfter steps)) where
   blank-step : HoldsRecords (read (b .pool)) (inForceAfter (Blank b ∷ steps))
@@ -114,7 +115,7 @@ module _ (l : Lent) (o : Left) (k : Allowed l o) (steps : List Step) (now : Hold
   served-step z =
       let y = zero-number z in
       let h = call-force ours l ours-lawful (inForceAfter steps) now y in
-      rw (k .answers, k .pool, call-pool ours l ours-lawful (inForceAfter steps) now y, reads _ (h .whole)) h
+      rw (k .answers, k .pool, call-pool ours l ours-lawful (inForceAfter steps) now y, whole-reads _ (h .whole)) h
 
   refused-step : o .number ≢ pos 0 → HoldsRecords (read (o .pool)) (inForceAfter steps)
   refused-step n =

@@ -1,8 +1,8 @@
 -- A frame's call, done by one request: in a sound pool the call is served, and its answers, found list and pool are those of the request.
 use mathlib.Core.Path.{_≡_, refl, sym, ap, ap₂, _∙_}
-use mathlib.Core.Bool.{true, false}
+use mathlib.Core.Bool.{true}
 use mathlib.Core.List.{List, [], _∷_, _++_}
-use mathlib.Core.Option.{Option, none, some}
+use mathlib.Core.Option.{none, some}
 use Prim.Native.Nat.{ℕ, suc, min, _+_, _-_, _≤_}
 use native.Mathlib.Omega.{arith}
 use native.Mathlib.Decide.{decLe}
@@ -39,11 +39,11 @@ abbrev empties : List Record
 empties = replicate 64 noRecord
 
 module _ (p w : List ℤ) where
-  pub found-none : empties ≡ sets empties 0 (itemsFrom p w 0 0)
-  found-none = rw (items-none p w 0)
+  pub empties-none : empties ≡ sets empties 0 (itemsFrom p w 0 0)
+  empties-none = rw (items-none p w 0)
 
-  pub found-more : (k : ℕ) → set (sets empties 0 (itemsFrom p w 0 k)) k (itemAt p w k) ≡ sets empties 0 (itemsFrom p w 0 (k + 1))
-  found-more k =
+  pub empties-more : (k : ℕ) → set (sets empties 0 (itemsFrom p w 0 k)) k (itemAt p w k) ≡ sets empties 0 (itemsFrom p w 0 (k + 1))
+  empties-more k =
       let n = items-length p w 0 k in
       let e : 0 + length (itemsFrom p w 0 k) ≡ k = omega arith in
       let z : 0 + k ≡ k = omega arith in
@@ -53,8 +53,8 @@ module _ (p w : List ℤ) where
       ∙ sets-append (itemsFrom p w 0 k) (itemAt p w k ∷ []) empties 0 ∙ ap (λ (l : List Record). sets empties 0 l) (sym more)
 
   -- the list has 64 places, so no more are filled
-  pub found-all : (n : ℕ) → sets empties 0 (itemsFrom p w 0 (min n 64)) ≡ sets empties 0 (itemsFrom p w 0 n)
-  found-all n = go (decLe n 64)
+  pub empties-all : (n : ℕ) → sets empties 0 (itemsFrom p w 0 (min n 64)) ≡ sets empties 0 (itemsFrom p w 0 n)
+  empties-all n = go (decLe n 64)
     where
       go : Dec (n ≤ 64) → sets empties 0 (itemsFrom p w 0 (min n 64)) ≡ sets empties 0 (itemsFrom p w 0 n)
       go (yes h) = ap (λ (k : ℕ). sets empties 0 (itemsFrom p w 0 k)) (min-eq-left h)
@@ -71,25 +71,17 @@ module _ (p w : List ℤ) where
 
 -- ---- the call
 
-pub asked-some : (q : Request) → isRequest q ≡ true → (a : Asked) × (asked q ≡ some a)
-unfolding isRequest
-asked-some q h = go (asked q) refl h
-  where
-    go : (o : Option Asked) → asked q ≡ o → elim o [ none ↦ false | some a ↦ true ] ≡ true → (a : Asked) × (asked q ≡ some a)
-    go none e k = let z : _≡_ {A = ℕ} 0 1 = cc in absurd (omega arith)
-    go (some a) e k = (a, e)
-
 lentBy : List ℤ → Request → Lent
 lentBy w q = record { pool = w; workspace = w; requests = q ∷ []; answers = answer 0 0 0 0 ∷ []; found = empties }
 
 module _ (w : List ℤ) (q : Request) (right : validLength w ≡ true) (ok : sound w ≡ true) (is : isRequest q ≡ true) where
-  no-fault : callFault (lentBy w q) ≡ none
+  one-accepted : callFault (lentBy w q) ≡ none
   unfolding callFault firstRow lentBy every
-  no-fault = rw (callFault, firstRow, right, eq-eqb (length w) (length w) refl, ok, is)
+  one-accepted = rw (callFault, firstRow, right, eq-eqb (length w) (length w) refl, ok, is)
 
-  call-served : call (lentBy w q) ≡ served (doRequests ours 0 (q ∷ []) (starting (lentBy w q)))
+  one-served : call (lentBy w q) ≡ served (doRequests ours 0 (q ∷ []) (starting (lentBy w q)))
   unfolding call callBy lentBy
-  call-served = rw (call, callBy, no-fault)
+  one-served = rw (call, callBy, one-accepted)
 
   module _ (a : Asked) (e : asked q ≡ some a) where
     one-done : doRequests ours 0 (q ∷ []) (starting (lentBy w q)) ≡ afterTurn 0 (starting (lentBy w q)) (request ours (read w) 0 64 a)
@@ -98,7 +90,7 @@ module _ (w : List ℤ) (q : Request) (right : validLength w ≡ true) (ok : sou
 
     frame-is : frameCall w q ≡ served (afterTurn 0 (starting (lentBy w q)) (request ours (read w) 0 64 a))
     unfolding frameCall lentBy
-    frame-is = call-served ∙ ap served one-done
+    frame-is = one-served ∙ ap served one-done
 
     left-is : frameCall w q .pool ≡ words (request ours (read w) 0 64 a .pool)
     unfolding served afterTurn starting lentBy
@@ -118,7 +110,7 @@ replies-by w q a before at out now left scratch s filled f right ok is e v g t h
     record {
       ready = v .ready;
       map = sym (left-is w q right ok is a e ∙ ap words (sym (v .pool)) ∙ sound-fit left (v .ready .right) (v .ready .sound) .same);
-      wrote = wrote-as (ap₂ (replyLines (suc before)) (v .answer) (g ∙ found-all left scratch (s .listed) ∙ ap (λ (l : List Record). sets empties 0 l) (v .items))
+      wrote = wrote-as (ap₂ (replyLines (suc before)) (v .answer) (g ∙ empties-all left scratch (s .listed) ∙ ap (λ (l : List Record). sets empties 0 l) (v .items))
           ∙ sym (replied-is w q right ok is a e before)) t;
       short = h;
     }

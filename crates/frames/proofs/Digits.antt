@@ -61,9 +61,9 @@ shown-more n l h =
     more-digits 19 n [] l ∙ digits-then 19 (n / 10) ((48 + n % 10) ∷ [])
     ∙ ap (λ (d : List ℕ). d ++ (48 + n % 10) ∷ []) (sym (spare 18 (n / 10) [] (tenth n (10 ^ 19) (omega arith))))
 
-at-most : (k n : ℕ) (b : List ℕ) → length (digits k n b) ≤ k + length b
-at-most zero n b = let e = ap length (no-digits n b) in omega arith
-at-most (suc k) n b = go (decLe 10 n) (at-most k (n / 10) ((48 + n % 10) ∷ b))
+digits-most : (k n : ℕ) (b : List ℕ) → length (digits k n b) ≤ k + length b
+digits-most zero n b = let e = ap length (no-digits n b) in omega arith
+digits-most (suc k) n b = go (decLe 10 n) (digits-most k (n / 10) ((48 + n % 10) ∷ b))
   where
     go : Dec (10 ≤ n) → length (digits k (n / 10) ((48 + n % 10) ∷ b)) ≤ k + suc (length b) → length (digits (suc k) n b) ≤ suc k + length b
     go (no h) r = let e = ap length (one-digit k n b (omega arith)) in omega arith
@@ -71,4 +71,4 @@ at-most (suc k) n b = go (decLe 10 n) (at-most k (n / 10) ((48 + n % 10) ∷ b))
 
 pub shown-length : (n : ℕ) → length (natShown n) ≤ 20
 unfolding natShown
-shown-length n = let h = at-most 20 n [] in omega arith
+shown-length n = let h = digits-most 20 n [] in omega arith

@@ -86,12 +86,12 @@ wrong-asking : {q : Request} {l : List ℕ} → Wrong ≡ Asking q l → ⊥
 wrong-asking e = let z : _≡_ {A = ℕ} 0 1 = cc in omega arith
 
 -- the length is that of the kind, and so many bytes are here
-pub record Fine (bs : List ℕ) : Type 0 where
+pub record FullFrame (bs : List ℕ) : Type 0 where
   pub kind : kindLength (kindField bs) ≡ lengthField bs
   pub some : 0 < lengthField bs
   pub here : 2 + lengthField bs ≤ length bs
 
-pub begun-wrong : (bs : List ℕ) → 2 ≤ length bs → (Fine bs → ⊥) → beginning bs ≡ Wrong
+pub begun-wrong : (bs : List ℕ) → 2 ≤ length bs → (FullFrame bs → ⊥) → beginning bs ≡ Wrong
 begun-wrong [] h no-way = absurd (omega arith)
 begun-wrong (b ∷ []) h no-way = begun-one b
 begun-wrong (b ∷ c ∷ rest) h no-way = go (decLe 2 n) (decLe n (length rest))
@@ -108,7 +108,7 @@ begun-wrong (b ∷ c ∷ rest) h no-way = go (decLe 2 n) (decLe n (length rest))
         begun-no (b ∷ c ∷ rest) (wholeIn n rest) (drop n rest) (next-of b c rest ∙ is-whole n rest l m)
         (request-none (wholeIn n rest) (λ e. no-way (record { kind = e ∙ omega arith; some = omega arith; here = omega arith })))
 
-pub begun-asks : (bs : List ℕ) → Fine bs → beginning bs ≡ Asking (requestFrom (kindField bs) bs) (drop (2 + lengthField bs) bs)
+pub begun-asks : (bs : List ℕ) → FullFrame bs → beginning bs ≡ Asking (requestFrom (kindField bs) bs) (drop (2 + lengthField bs) bs)
 begun-asks [] f = absurd (omega (arith, f .here))
 begun-asks (b ∷ []) f = absurd (omega (arith, f .here, f .some))
 begun-asks (b ∷ c ∷ rest) f =
@@ -169,8 +169,8 @@ module _ (bs : List ℕ) where
       go (b ∷ []) e = framed-waits (ap beginning e ∙ begun-one b) (hope-few h)
       go (b ∷ c ∷ r) e = let m = ap length e in absurd (omega arith)
 
-  pub bad-length : 2 ≤ length bs → someLength (lengthField bs) ≡ false → framed bs ≡ Bad
-  bad-length h s =
+  pub bad-field : 2 ≤ length bs → someLength (lengthField bs) ≡ false → framed bs ≡ Bad
+  bad-field h s =
       framed-bad (begun-wrong bs h (λ f. no-such (lengthField bs) (kindField bs)
       (omega (arith, f .kind, length-least (kindField bs) (omega (arith, f .kind, f .some)))) s (f .kind))) (no-hope-length h s)
 
@@ -196,7 +196,7 @@ module _ (bs : List ℕ) where
 -- ---- it stays so, whatever comes after
 
 -- the bytes begin with a whole frame of length n that asks q
-record Asked (bs : List ℕ) (q : Request) (after : List ℕ) : Type 0 where
+record AskedFor (bs : List ℕ) (q : Request) (after : List ℕ) : Type 0 where
   b : ℕ
   c : ℕ
   rest : List ℕ
@@ -206,7 +206,7 @@ record Asked (bs : List ℕ) (q : Request) (after : List ℕ) : Type 0 where
   asks : frameRequest (wholeIn (pairValue (b ∷ c ∷ [])) rest) ≡ some q
   left : after ≡ drop (pairValue (b ∷ c ∷ [])) rest
 
-asked-by : (bs : List ℕ) (q : Request) (after : List ℕ) → beginning bs ≡ Asking q after → Asked bs q after
+asked-by : (bs : List ℕ) (q : Request) (after : List ℕ) → beginning bs ≡ Asking q after → AskedFor bs q after
 asked-by [] q after e = absurd (nothing-asking (sym begun-none ∙ e))
 asked-by (b ∷ []) q after e = absurd (wrong-asking (sym (begun-one b) ∙ e))
 asked-by (b ∷ c ∷ rest) q after e = go (decLe 2 n) (decLe n (length rest)) (frameRequest (wholeIn n rest)) refl
@@ -214,7 +214,7 @@ asked-by (b ∷ c ∷ rest) q after e = go (decLe 2 n) (decLe n (length rest)) (
     n : ℕ
     n = pairValue (b ∷ c ∷ [])
 
-    go : Dec (2 ≤ n) → Dec (n ≤ length rest) → (f : Option Request) → frameRequest (wholeIn n rest) ≡ f → Asked (b ∷ c ∷ rest) q after
+    go : Dec (2 ≤ n) → Dec (n ≤ length rest) → (f : Option Request) → frameRequest (wholeIn n rest) ≡ f → AskedFor (b ∷ c ∷ rest) q after
     go (no l) m f r = absurd (wrong-asking (sym (begun-cut (b ∷ c ∷ rest) (next-of b c rest ∙ small-cut n rest (omega arith))) ∙ e))
     go (yes l) (no m) f r = absurd (wrong-asking (sym (begun-cut (b ∷ c ∷ rest) (next-of b c rest ∙ long-cut n rest l (omega arith))) ∙ e))
     go (yes l) (yes m) none r =

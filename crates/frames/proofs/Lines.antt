@@ -15,7 +15,7 @@ use Rattle.rules.specs.declared.Record.{Record}
 use Rattle.rules.specs.declared.Answer.{Answer}
 use Rattle.rules.specs.Lists.{joined}
 use Rattle.rules.specs.Frames.{natShown, intShown, line, answerLine, recordLine, listedOf, replyLines, badLine}
-use Rattle.sound_laws.proofs.Joins.{joined-none, joined-more, joined-append}
+use Rattle.rules_laws.proofs.Joins.{joined-none, joined-more, joined-append}
 use Rattle.frames.specs.Places.{lift}
 use Rattle.frames.specs.Writing.{Wrote}
 use Rattle.frames.proofs.Texts.{nothing-wrote, wrote-then, wrote-as}
@@ -34,24 +34,24 @@ shown-above (negsuc n) f h = absurd (omega arith)
 
 -- ---- fields
 
-pub four : (a b c d : List ℕ) → (((a ++ 32 ∷ []) ++ (b ++ 32 ∷ [])) ++ (c ++ 32 ∷ [])) ++ (d ++ 10 ∷ []) ≡ line (a ∷ b ∷ c ∷ d ∷ [])
+pub line-of-four : (a b c d : List ℕ) → (((a ++ 32 ∷ []) ++ (b ++ 32 ∷ [])) ++ (c ++ 32 ∷ [])) ++ (d ++ 10 ∷ []) ≡ line (a ∷ b ∷ c ∷ d ∷ [])
 unfolding line
-four a b c d = simp append-assoc
+line-of-four a b c d = simp append-assoc
 
-pub five : (a b c d e : List ℕ)
+pub line-of-five : (a b c d e : List ℕ)
     → ((((a ++ 32 ∷ []) ++ (b ++ 32 ∷ [])) ++ (c ++ 32 ∷ [])) ++ (d ++ 32 ∷ [])) ++ (e ++ 10 ∷ []) ≡ line (a ∷ b ∷ c ∷ d ∷ e ∷ [])
 unfolding line
-five a b c d e = simp append-assoc
+line-of-five a b c d e = simp append-assoc
 
 pub answer-is : (p : ℕ) (a : Answer) → line (natShown p ∷ natShown (a .number) ∷ natShown (a .found) ∷ natShown (a .opened) ∷ []) ≡ answerLine p a
 unfolding answerLine
 answer-is p a = refl
 
-pub record-is : (r : Record)
+pub record-line : (r : Record)
     → line (intShown (r .number .0) ∷ intShown (r .rect .lowX) ∷ intShown (r .rect .lowY) ∷ intShown (r .rect .highX) ∷ intShown (r .rect .highY) ∷ [])
     ≡ recordLine r
 unfolding recordLine
-record-is r = refl
+record-line r = refl
 
 pub bad-is : (p : ℕ) → (98 ∷ 97 ∷ 100 ∷ 32 ∷ 102 ∷ 114 ∷ 97 ∷ 109 ∷ 101 ∷ 32 ∷ []) ++ (natShown p ++ 10 ∷ []) ≡ badLine p
 unfolding badLine
@@ -59,17 +59,17 @@ bad-is p = refl
 
 -- ---- the records that a call lists
 
-pub listed-none : (a : Answer) → (a .number ≡ 0 → ⊥) → 0 ≡ min (listedOf a) 64
+pub told-none : (a : Answer) → (a .number ≡ 0 → ⊥) → 0 ≡ min (listedOf a) 64
 unfolding listedOf
-listed-none a h = rw (listedOf, ne-eqb (a .number) 0 h)
+told-none a h = rw (listedOf, ne-eqb (a .number) 0 h)
 
-pub listed-few : (a : Answer) → a .number ≡ 0 → a .found < 64 → a .found ≡ min (listedOf a) 64
+pub told-few : (a : Answer) → a .number ≡ 0 → a .found < 64 → a .found ≡ min (listedOf a) 64
 unfolding listedOf
-listed-few a h l = rw (listedOf, eq-eqb (a .number) 0 h) (sym (min-eq-left (omega arith)))
+told-few a h l = rw (listedOf, eq-eqb (a .number) 0 h) (sym (min-eq-left (omega arith)))
 
-pub listed-most : (a : Answer) → a .number ≡ 0 → 64 ≤ a .found → 64 ≡ min (listedOf a) 64
+pub told-most : (a : Answer) → a .number ≡ 0 → 64 ≤ a .found → 64 ≡ min (listedOf a) 64
 unfolding listedOf
-listed-most a h l = rw (listedOf, eq-eqb (a .number) 0 h) (sym (min-eq-right l))
+told-most a h l = rw (listedOf, eq-eqb (a .number) 0 h) (sym (min-eq-right l))
 
 -- ---- the lines of the first i records
 

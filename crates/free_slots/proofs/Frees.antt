@@ -1,11 +1,11 @@
--- The free slots, a slot at a time: the lowest of those from a slot on, and how many of them there are.
+-- The free slots, a slot at a time: the lowest of those from a slot on, and how many of them there are. Each slot is free, and then the lowest
+-- or one more, or it is not and the next ones decide.
 use mathlib.Core.Path.{_≡_, refl, sym, ap, _∙_}
 use mathlib.Core.Bool.{Bool, true, false, cond}
-use mathlib.Core.List.{List, [], _∷_}
+use mathlib.Core.List.{List, _∷_}
 use Prim.Native.Nat.{ℕ, suc, _+_, _-_, _≤_, _<_}
 use native.Mathlib.Numerals.{add-one}
 use native.Mathlib.Omega.{arith}
-use lib.Dec.{eqb}
 use lib.ListN.{length, drop, drop-of-length-le}
 use lib.Seq.{drop-cons}
 use Rattle.rules.specs.declared.FreeSlot.{FreeSlot}
@@ -13,10 +13,7 @@ use Rattle.rules.specs.declared.FreeSlot.the-variants.{At, Nowhere}
 use Rattle.rules.specs.Lists.{those}
 use Rattle.rules.specs.Pool.{Node, Pool, slot, freeNode, nodeAt, freeFrom, lowestFree, freeCount}
 use Rattle.rules_laws.proofs.Parts.{those-yes, those-no, those-none}
-
--- "Level 0 is free"
-abbrev pub isFree : Node → Bool
-isFree n = eqb (n .level) 0
+use Rattle.sound_laws.proofs.Free.{isFree, free-nowhere, free-here, free-later}
 
 -- the lowest free slot of those from s on, and how many of them are free
 abbrev pub lowestFrom : Pool → ℕ → FreeSlot
@@ -26,18 +23,6 @@ abbrev pub countFrom : Pool → ℕ → ℕ
 countFrom p s = length (those isFree (drop (s - 1) (p .slots)))
 
 -- ---- a slot at a time
-
-from-none : (s : ℕ) → freeFrom s [] ≡ Nowhere
-unfolding freeFrom
-from-none s = refl
-
-from-free : (s : ℕ) (n : Node) (ns : List Node) → isFree n ≡ true → freeFrom s (n ∷ ns) ≡ At (slot s)
-unfolding freeFrom
-from-free s n ns e = rw (freeFrom, e)
-
-from-used : (s : ℕ) (n : Node) (ns : List Node) → isFree n ≡ false → freeFrom s (n ∷ ns) ≡ freeFrom (suc s) ns
-unfolding freeFrom
-from-used s n ns e = rw (freeFrom, e)
 
 pub one-most : (b : Bool) → cond b 1 0 ≤ 1
 one-most true = omega arith
@@ -57,18 +42,18 @@ module _ (p : Pool) (s : ℕ) where
     onward = let e : suc (s - 1) ≡ s + 1 - 1 = omega arith in rw (drop-cons (p .slots) (s - 1) freeNode (omega arith), e)
 
     pub lowest-here : isFree (nodeAt p (slot s)) ≡ true → lowestFrom p s ≡ At (slot s)
-    lowest-here e = ap (freeFrom s) onward ∙ from-free s (nodeAt p (slot s)) (drop (s + 1 - 1) (p .slots)) e
+    lowest-here e = ap (freeFrom s) onward ∙ free-here s (nodeAt p (slot s)) (drop (s + 1 - 1) (p .slots)) e
 
     pub lowest-next : isFree (nodeAt p (slot s)) ≡ false → lowestFrom p s ≡ lowestFrom p (s + 1)
     lowest-next e =
-        ap (freeFrom s) onward ∙ from-used s (nodeAt p (slot s)) (drop (s + 1 - 1) (p .slots)) e
+        ap (freeFrom s) onward ∙ free-later s (nodeAt p (slot s)) (drop (s + 1 - 1) (p .slots)) e
         ∙ ap (λ (k : ℕ). freeFrom k (drop (s + 1 - 1) (p .slots))) (sym (add-one s))
 
     pub count-next : countFrom p s ≡ cond (isFree (nodeAt p (slot s))) 1 0 + countFrom p (s + 1)
     count-next = ap (λ (ns : List Node). length (those isFree ns)) onward ∙ count-one (nodeAt p (slot s)) (drop (s + 1 - 1) (p .slots))
 
   pub lowest-end : length (p .slots) < s → lowestFrom p s ≡ Nowhere
-  lowest-end h = ap (freeFrom s) (drop-of-length-le (p .slots) {i = s - 1} (omega arith)) ∙ from-none s
+  lowest-end h = ap (freeFrom s) (drop-of-length-le (p .slots) {i = s - 1} (omega arith)) ∙ free-nowhere s
 
   pub count-end : length (p .slots) < s → countFrom p s ≡ 0
   count-end h = ap (λ (ns : List Node). length (those isFree ns)) (drop-of-length-le (p .slots) {i = s - 1} (omega arith)) ∙ ap length (those-none isFree)

@@ -83,20 +83,20 @@ module _ (c : Choice) where
 
   -- ---- .. and those from place i on
 
-  pub kept : (i : ℕ) (qs : List Request) (b : Batch) (j : ℕ) → j < i → getD (doRequests c i qs b .answers) j noAnswer ≡ getD (b .answers) j noAnswer
+  pub answers-kept : (i : ℕ) (qs : List Request) (b : Batch) (j : ℕ) → j < i → getD (doRequests c i qs b .answers) j noAnswer ≡ getD (b .answers) j noAnswer
   unfolding doRequests
-  kept i [] b j h = refl
-  kept i (q ∷ qs) b j h = kept (suc i) qs (doRequest c i b (asked q)) j (omega arith) ∙ step-kept i b (asked q) j h
+  answers-kept i [] b j h = refl
+  answers-kept i (q ∷ qs) b j h = answers-kept (suc i) qs (doRequest c i b (asked q)) j (omega arith) ∙ step-kept i b (asked q) j h
 
-  pub long : (i : ℕ) (qs : List Request) (b : Batch) → length (doRequests c i qs b .answers) ≡ length (b .answers)
+  pub answers-as-many : (i : ℕ) (qs : List Request) (b : Batch) → length (doRequests c i qs b .answers) ≡ length (b .answers)
   unfolding doRequests
-  long i [] b = refl
-  long i (q ∷ qs) b = long (suc i) qs (doRequest c i b (asked q)) ∙ step-long i b (asked q)
+  answers-as-many i [] b = refl
+  answers-as-many i (q ∷ qs) b = answers-as-many (suc i) qs (doRequest c i b (asked q)) ∙ step-long i b (asked q)
 
-  pub places : (i : ℕ) (qs : List Request) (b : Batch) → length (doRequests c i qs b .found) ≡ length (b .found)
+  pub places-as-many : (i : ℕ) (qs : List Request) (b : Batch) → length (doRequests c i qs b .found) ≡ length (b .found)
   unfolding doRequests
-  places i [] b = refl
-  places i (q ∷ qs) b = places (suc i) qs (doRequest c i b (asked q)) ∙ step-places i b (asked q)
+  places-as-many i [] b = refl
+  places-as-many i (q ∷ qs) b = places-as-many (suc i) qs (doRequest c i b (asked q)) ∙ step-places i b (asked q)
 
   found-kept : (i : ℕ) (qs : List Request) (b : Batch) (n : ℕ) → n ≤ b .filled → take n (doRequests c i qs b .found) ≡ take n (b .found)
   unfolding doRequests
@@ -146,7 +146,7 @@ module _ (c : Choice) where
         let b1 = doRequest c i b (asked q) in
         let end = doRequests c (suc i) qs b1 in
         subst (λ (x : Answer). HoldsRecords (end .pool) (forceAfter (forceBy rs (asked q) x) (suc i) qs (end .answers)))
-        (sym (kept (suc i) qs b1 i (omega arith)))
+        (sym (answers-kept (suc i) qs b1 i (omega arith)))
         (batch-force (suc i) qs b1 (forceBy rs (asked q) (getD (b1 .answers) i noAnswer)) (step-force i b rs (asked q) k (omega (arith, h)))
         (omega (arith, h, step-long i b (asked q))))
 
@@ -188,7 +188,7 @@ module _ (c : Choice) where
         ≡ request c (b .pool) (b .filled) (length (b .found) - b .filled) (Search window) .listed =
         ap (drop (b .filled)) (found-kept (suc i) later now (b .filled + howManyMeet window rs) (omega (arith, filled-now))) ∙ listed-now in
         record {
-          told = kept (suc i) later now i (omega arith) ∙ told-now;
+          told = answers-kept (suc i) later now i (omega arith) ∙ told-now;
           shown = there ∙ shows .lists;
           once = subst EachOnce (sym there) (shows .once);
           high = shows .high;
@@ -216,7 +216,7 @@ module _ (c : Choice) where
     same-force =
         force-same rs i earlier (before .answers) (end .answers) (λ j l.
         sym (ap (λ (x : Batch). getD (x .answers) j noAnswer) (two-parts i earlier (q ∷ later) b)
-        ∙ kept (i + length earlier) (q ∷ later) before j l))
+        ∙ answers-kept (i + length earlier) (q ∷ later) before j l))
 
     pub batch-search : (window : Rect) → asked q ≡ some (Search window) → valid window ≡ true
         → howManyMeet window (forceAfter rs i earlier (end .answers)) ≤ length (b .found) - before .filled
@@ -227,5 +227,5 @@ module _ (c : Choice) where
         subst (λ (x : Batch).
         Told (before .pool) (forceAfter rs i earlier (end .answers)) (before .filled) window (i + length earlier) (x .answers) (x .found))
         (sym (end-is (some (Search window)) s))
-        (told-end (i + length earlier) before (forceAfter rs i earlier (end .answers)) holds (omega (arith, inside, long i earlier b)) window v
-        (omega (arith, room, places i earlier b)) later)
+        (told-end (i + length earlier) before (forceAfter rs i earlier (end .answers)) holds (omega (arith, inside, answers-as-many i earlier b)) window v
+        (omega (arith, room, places-as-many i earlier b)) later)

@@ -1,6 +1,7 @@
--- A call that returns 0, and the calls of a history.
+-- A call that returns 0, and the calls of a history. No row refused such a call, so it did its batch; and what one call leaves is what the next
+-- begins with.
 use mathlib.Core.Path.{_≡_, refl, sym, subst, ap, _∙_}
-use mathlib.Core.Bool.{Bool, true, false, not, _||_}
+use mathlib.Core.Bool.{true, not, _||_}
 use mathlib.Core.List.{List, [], _∷_, _++_}
 use mathlib.Core.Option.{Option, none, some}
 use Prim.Native.Nat.{ℕ, _+_, _-_, _≤_}
@@ -24,8 +25,7 @@ use Rattle.rules.specs.Insert.{Choice, ours}
 use Rattle.rules.specs.Lawful.{Lawful}
 use Rattle.rules.specs.Request.{asked}
 use Rattle.rules.specs.Call.{Lent, Left, Batch, doRequests, callFault, refused, served, starting, callBy, call}
-use Rattle.rules_laws.proofs.Bools.{not-false}
-use Rattle.rules_laws.proofs.Orders.{never-both}
+use Rattle.rules_laws.proofs.Bools.{not-false, or-neither}
 use Rattle.rules_laws.proofs.Places.{nothing}
 use Rattle.rules_laws.proofs.Parts.{those-none}
 use Rattle.rules_laws.proofs.Splits.{ours-lawful}
@@ -34,43 +34,39 @@ use Rattle.in_force_laws.specs.Force.{forceAfter, filledAfter}
 use Rattle.in_force_laws.specs.Shows.{HoldsRecords}
 use Rattle.in_force_laws.specs.Batch.{howManyMeet, Told}
 use Rattle.in_force_laws.specs.History.{poolServed, forceOf, CallsServed}
-use Rattle.in_force_laws.proofs.Written.{reads}
+use Rattle.in_force_laws.proofs.Written.{whole-reads}
 use Rattle.in_force_laws.proofs.Faults.{EachGiven, given-none, given-row, no-row}
 use Rattle.in_force_laws.proofs.Batch.{batch-force, batch-search}
 use Rattle.in_force_laws.proofs.Filled.{part-filled}
 
 -- ---- a call that returns 0 is not refused
 
-size : ℤ → ℕ
-size (pos n) = n
-size (negsuc n) = 1
+natOf : ℤ → ℕ
+natOf (pos n) = n
+natOf (negsuc n) = 1
 
 abbrev Told-off : Verdict → Type 0
 Told-off v = verdictNumber v ≡ pos 0 → ⊥
 
 all-off : (l : Lent) → EachGiven Told-off (callFault l)
-unfolding callFault verdictNumber size
+unfolding callFault verdictNumber natOf
 all-off l =
-    given-row Told-off _ BadLists _ (λ h. omega (arith, ap size h))
-    (given-row Told-off _ BadLength _ (λ h. omega (arith, ap size h))
-    (given-row Told-off _ NotSound _ (λ h. omega (arith, ap size h))
-    (given-row Told-off _ NoRequest _ (λ h. omega (arith, ap size h)) (given-none Told-off))))
-
-or-later : (a b : Bool) → (a || b) ≡ false → b ≡ false
-or-later true b h = never-both refl h
-or-later false b h = h
+    given-row Told-off _ BadLists _ (λ h. omega (arith, ap natOf h))
+    (given-row Told-off _ BadLength _ (λ h. omega (arith, ap natOf h))
+    (given-row Told-off _ NotSound _ (λ h. omega (arith, ap natOf h))
+    (given-row Told-off _ NoRequest _ (λ h. omega (arith, ap natOf h)) (given-none Told-off))))
 
 module _ (c : Choice) (l : Lent) where
   abbrev whole-batch : Batch
   whole-batch = doRequests c 0 (l .requests) (starting l)
 
-  pub left-refused : (v : Verdict) → callFault l ≡ some v → callBy c l ≡ refused l v
+  pub callBy-refused : (v : Verdict) → callFault l ≡ some v → callBy c l ≡ refused l v
   unfolding callBy
-  left-refused v h = rw (h, callBy)
+  callBy-refused v h = rw (h, callBy)
 
-  pub left-served : callFault l ≡ none → callBy c l ≡ served whole-batch
+  pub callBy-served : callFault l ≡ none → callBy c l ≡ served whole-batch
   unfolding callBy
-  left-served h = rw (h, callBy)
+  callBy-served h = rw (h, callBy)
 
   pub refused-number : (v : Verdict) → refused l v .number ≡ verdictNumber v
   unfolding refused
@@ -81,25 +77,25 @@ module _ (c : Choice) (l : Lent) where
     where
       go : (o : Option Verdict) → callFault l ≡ o → EachGiven Told-off o → callFault l ≡ none
       go none h g = h
-      go (some v) h g = absurd (g (sym (refused-number v) ∙ ap (λ (x : Left). x .number) (sym (left-refused v h)) ∙ z))
+      go (some v) h g = absurd (g (sym (refused-number v) ∙ ap (λ (x : Left). x .number) (sym (callBy-refused v h)) ∙ z))
 
   pub answers-long : callFault l ≡ none → length (l .answers) ≡ length (l .requests)
   unfolding callFault
   answers-long h =
       let a = no-row (ltb mostRequests (length (l .requests)) || not (eqb (length (l .answers)) (length (l .requests)))) BadLists _ h in
-      eqb-true _ _ (not-false _ (or-later (ltb mostRequests (length (l .requests))) _ (a .0)))
+      eqb-true _ _ (not-false _ (or-neither (ltb mostRequests (length (l .requests))) _ (a .0) .1))
 
   pub left-pool : callFault l ≡ none → callBy c l .pool ≡ words (whole-batch .pool)
   unfolding served
-  left-pool h = ap (λ (x : Left). x .pool) (left-served h)
+  left-pool h = ap (λ (x : Left). x .pool) (callBy-served h)
 
   pub left-answers : callFault l ≡ none → callBy c l .answers ≡ whole-batch .answers
   unfolding served
-  left-answers h = ap (λ (x : Left). x .answers) (left-served h)
+  left-answers h = ap (λ (x : Left). x .answers) (callBy-served h)
 
   pub left-found : callFault l ≡ none → callBy c l .found ≡ whole-batch .found
   unfolding served
-  left-found h = ap (λ (x : Left). x .found) (left-served h)
+  left-found h = ap (λ (x : Left). x .found) (callBy-served h)
 
   module _ (lawful : Lawful c) (rs : List Record) (k : HoldsRecords (read (l .pool)) rs) (z : callBy c l .number ≡ pos 0) where
     start-holds : HoldsRecords (starting l .pool) rs
@@ -180,15 +176,15 @@ blank-holds n = record {
 
 module _ (c : Choice) (lawful : Lawful c) where
   -- the pool that a history leaves holds the records in force
-  pub history-holds : (n : ℕ) (ls : List Lent) → CallsServed c n ls → HoldsRecords (read (poolServed c n ls)) (forceOf c ls)
+  pub calls-hold : (n : ℕ) (ls : List Lent) → CallsServed c n ls → HoldsRecords (read (poolServed c n ls)) (forceOf c ls)
   unfolding poolServed forceOf
-  history-holds n [] h = subst (λ (p : Pool). HoldsRecords p []) (sym (reads (blankPool n) (blank-whole n))) (blank-holds n)
-  history-holds n (l ∷ ls) h =
+  calls-hold n [] h = subst (λ (p : Pool). HoldsRecords p []) (sym (whole-reads (blankPool n) (blank-whole n))) (blank-holds n)
+  calls-hold n (l ∷ ls) h =
       let k : HoldsRecords (read (l .pool)) (forceOf c ls) =
-      subst (λ (w : List ℤ). HoldsRecords (read w) (forceOf c ls)) (sym (h .0)) (history-holds n ls (h .2)) in
+      subst (λ (w : List ℤ). HoldsRecords (read w) (forceOf c ls)) (sym (h .0)) (calls-hold n ls (h .2)) in
       let now = call-force c l lawful (forceOf c ls) k (h .1) in
       subst (λ (p : Pool). HoldsRecords p (forceAfter (forceOf c ls) 0 (l .requests) (callBy c l .answers)))
-      (sym (ap read (call-pool c l lawful (forceOf c ls) k (h .1)) ∙ reads (whole-batch c l .pool) (now .whole))) now
+      (sym (ap read (call-pool c l lawful (forceOf c ls) k (h .1)) ∙ whole-reads (whole-batch c l .pool) (now .whole))) now
 
   -- "From a blank pool changed only by these requests, every search in a call that returns 0 (valid window, room in its list) shows the
   -- records in force that meet the window, each once, in record order; the nodes opened are one for the root and one for each other node
@@ -201,7 +197,7 @@ module _ (c : Choice) (lawful : Lawful c) where
       (filledAfter 0 0 earlier (callBy c l .answers)) window (length earlier) (callBy c l .answers) (callBy c l .found)
   in-force n ls l h earlier q later is window s v room =
       let k : HoldsRecords (read (l .pool)) (forceOf c ls) =
-      subst (λ (w : List ℤ). HoldsRecords (read w) (forceOf c ls)) (sym (h .0)) (history-holds n ls (h .2)) in
+      subst (λ (w : List ℤ). HoldsRecords (read w) (forceOf c ls)) (sym (h .0)) (calls-hold n ls (h .2)) in
       call-shows c l lawful (forceOf c ls) k (h .1) earlier q later is window s v room
 
 -- .. by document 01's choices

@@ -1,4 +1,5 @@
--- A request, accepted or refused, leaves a whole pool that holds the records in force: for every lawful choice.
+-- A request, accepted or refused, leaves a whole pool that holds the records in force: for every lawful choice. A row of its table refuses
+-- it and nothing changes; or it has passed every row, and the laws of insert, delete and update apply.
 use mathlib.Core.Path.{_≡_, refl, sym, subst}
 use mathlib.Core.Bool.{Bool, true, false, cond, not, _&&_, _||_}
 use mathlib.Core.List.{List, []}
@@ -6,21 +7,23 @@ use mathlib.Core.Option.{Option, none, some}
 use Prim.Native.Nat.{ℕ}
 use native.Mathlib.Omega.{arith}
 use lib.Dec.{eqb}
+use lib.ListN.{length}
 use Rattle.rules.specs.declared.Rect.{Rect}
 use Rattle.rules.specs.declared.Record.{Record}
 use Rattle.rules.specs.declared.Asked.{Asked}
 use Rattle.rules.specs.declared.Asked.the-variants.{Insert, Delete, Update, Search}
 use Rattle.rules.specs.declared.Reply.{Reply}
-use Rattle.rules.specs.declared.Reply.the-variants.{Changed, BadRectangle, BadNumber, NotHeld, Held, NoSlot}
+use Rattle.rules.specs.declared.Reply.the-variants.{Changed, Listed, BadRectangle, BadNumber, NotHeld, Held, NoSlot, NoRoom}
 use Rattle.rules.specs.Numbers.{goodNumber}
 use Rattle.rules.specs.Geometry.{valid, samePair}
 use Rattle.rules.specs.Pool.{Pool, held}
+use Rattle.rules.specs.Search.{found, opened}
 use Rattle.rules.specs.Answers.{answerOf}
 use Rattle.rules.specs.Insert.{Choice, Change, Done, NoneFree, insertRecord}
 use Rattle.rules.specs.Lawful.{Lawful}
 use Rattle.rules.specs.Delete.{deleteRecord, updateRecord}
 use Rattle.rules.specs.Request.{Turn, turn, afterChange, insertFault, deleteFault, updateFault, searchFault, request}
-use Rattle.rules_laws.proofs.Bools.{not-false}
+use Rattle.rules_laws.proofs.Bools.{or-neither, not-false}
 use Rattle.rules_laws.proofs.Orders.{never-both}
 use Rattle.rules_laws.proofs.Places.{Among}
 use Rattle.rules_laws.proofs.Parts.{count-cons}
@@ -63,11 +66,12 @@ module _ (p : Pool) where
       given-row Refused _ BadRectangle _ refl
       (given-row Refused _ BadNumber _ refl (given-row Refused _ NotHeld _ refl (given-row Refused _ Held _ refl (given-none Refused))))
 
--- ---- what is accepted has passed every row
+  pub search-refused : (room : ℕ) (window : Rect) → EachGiven Refused (searchFault p room window)
+  unfolding searchFault answerOf
+  search-refused room window =
+      given-row Refused _ BadRectangle _ refl (given-row Refused _ (NoRoom _ _) _ refl (given-none Refused))
 
-or-none : (a b : Bool) → (not a || not b) ≡ false → (a ≡ true) × (b ≡ true)
-or-none true b h = (refl, not-false b h)
-or-none false b h = never-both refl h
+-- ---- what is accepted has passed every row
 
 and-unless : (a b : Bool) → (a && not b) ≡ false → b ≡ false → a ≡ false
 and-unless true true h e = e
@@ -99,7 +103,7 @@ module _ (p : Pool) where
       let b = no-row (not (goodNumber (old .number))) BadNumber _ (a .1) in
       let d = no-row (not (held p old)) NotHeld _ (b .1) in
       let e = no-row (held p (renewed old new) && not (samePair old (renewed old new))) Held _ (d .1) in
-      (or-none (valid (old .rect)) (valid new) (a .0) .1, not-false _ (d .0), e .0)
+      (not-false _ (or-neither (not (valid (old .rect))) (not (valid new)) (a .0) .1), not-false _ (d .0), e .0)
 
 -- ---- a request opened at its table
 
@@ -130,13 +134,46 @@ module _ (c : Choice) (p : Pool) (filled room : ℕ) where
   unfolding request
   update-none old new h = rw (h, request)
 
-  pub search-pool : (window : Rect) → request c p filled room (Search window) .pool ≡ p
+  pub search-some : (window : Rect) (reply : Reply) → searchFault p room window ≡ some reply → request c p filled room (Search window) ≡ turn p reply []
   unfolding request
-  search-pool window = go (searchFault p room window) refl
-    where
-      go : (o : Option Reply) → searchFault p room window ≡ o → request c p filled room (Search window) .pool ≡ p
-      go none h = rw (h, request)
-      go (some reply) h = rw (h, request)
+  search-some window reply h = rw (h, request)
+
+  pub search-none : (window : Rect) → searchFault p room window ≡ none
+      → request c p filled room (Search window) ≡ turn p (Listed (length (found p window)) filled (opened p window)) (found p window)
+  unfolding request
+  search-none window h = rw (h, request)
+
+-- a row of a table applies, or none does
+row-or-none : {X : Type 0} (fault : Option Reply) → EachGiven Refused fault → ((reply : Reply) → fault ≡ some reply → Refused reply → X)
+    → (fault ≡ none → X) → X
+row-or-none none g f h = h refl
+row-or-none (some reply) g f h = f reply refl g
+
+-- what is so of every turn that refuses, and of every request that is done, is so of every request
+module _ (c : Choice) (p : Pool) (filled room : ℕ) (P : Asked → Turn → Type 0)
+    (refused : (a : Asked) (reply : Reply) → Refused reply → P a (turn p reply []))
+    (inserted : (r : Record) → insertFault p r ≡ none → P (Insert r) (afterChange p (insertRecord c p r)))
+    (deleted : (r : Record) → deleteFault p r ≡ none → P (Delete r) (afterChange p (deleteRecord c p r)))
+    (updated : (old : Record) (new : Rect) → updateFault p old new ≡ none → P (Update old new) (afterChange p (updateRecord c p old new)))
+    (listed : (window : Rect) → searchFault p room window ≡ none
+    → P (Search window) (turn p (Listed (length (found p window)) filled (opened p window)) (found p window))) where
+  pub request-cases : (a : Asked) → P a (request c p filled room a)
+  request-cases (Insert r) =
+      row-or-none (insertFault p r) (insert-refused p r)
+      (λ reply h g. subst (P (Insert r)) (sym (insert-some c p filled room r reply h)) (refused (Insert r) reply g))
+      (λ h. subst (P (Insert r)) (sym (insert-none c p filled room r h)) (inserted r h))
+  request-cases (Delete r) =
+      row-or-none (deleteFault p r) (delete-refused p r)
+      (λ reply h g. subst (P (Delete r)) (sym (delete-some c p filled room r reply h)) (refused (Delete r) reply g))
+      (λ h. subst (P (Delete r)) (sym (delete-none c p filled room r h)) (deleted r h))
+  request-cases (Update old new) =
+      row-or-none (updateFault p old new) (update-refused p old new)
+      (λ reply h g. subst (P (Update old new)) (sym (update-some c p filled room old new reply h)) (refused (Update old new) reply g))
+      (λ h. subst (P (Update old new)) (sym (update-none c p filled room old new h)) (updated old new h))
+  request-cases (Search window) =
+      row-or-none (searchFault p room window) (search-refused p room window)
+      (λ reply h g. subst (P (Search window)) (sym (search-some c p filled room window reply h)) (refused (Search window) reply g))
+      (λ h. subst (P (Search window)) (sym (search-none c p filled room window h)) (listed window h))
 
 -- ---- each kind of change
 
@@ -218,36 +255,19 @@ module _ (c : Choice) (lawful : Lawful c) (p : Pool) (rs : List Record) (k : Hol
 
   -- ---- the request
 
-  module _ (filled room : ℕ) where
-    search-force : (window : Rect) (reply : Reply) → inForce rs (Search window) (answerOf reply) ≡ rs
-    unfolding inForce change
-    search-force window reply = go (eqb (answerOf reply .number) 0) refl
-      where
-        go : (b : Bool) → eqb (answerOf reply .number) 0 ≡ b → inForce rs (Search window) (answerOf reply) ≡ rs
-        go true h = rw (h, inForce, change)
-        go false h = rw (h, inForce, change)
+  search-force : (window : Rect) (reply : Reply) → inForce rs (Search window) (answerOf reply) ≡ rs
+  unfolding inForce change
+  search-force window reply = go (eqb (answerOf reply .number) 0) refl
+    where
+      go : (b : Bool) → eqb (answerOf reply .number) 0 ≡ b → inForce rs (Search window) (answerOf reply) ≡ rs
+      go true h = rw (h, inForce, change)
+      go false h = rw (h, inForce, change)
 
-    -- a request of any kind, accepted or refused
-    pub request-force : (a : Asked) → Good a (request c p filled room a)
-    request-force (Insert r) = go (insertFault p r) refl (insert-refused p r)
-      where
-        go : (o : Option Reply) → insertFault p r ≡ o → EachGiven Refused o → Good (Insert r) (request c p filled room (Insert r))
-        go none h g = subst (Good (Insert r)) (sym (insert-none c p filled room r h)) (after-good (Insert r) (insertRecord c p r) (insert-holds r h))
-        go (some reply) h g = subst (Good (Insert r)) (sym (insert-some c p filled room r reply h)) (refused-good (Insert r) reply g)
-    request-force (Delete r) = go (deleteFault p r) refl (delete-refused p r)
-      where
-        go : (o : Option Reply) → deleteFault p r ≡ o → EachGiven Refused o → Good (Delete r) (request c p filled room (Delete r))
-        go none h g = subst (Good (Delete r)) (sym (delete-none c p filled room r h)) (after-good (Delete r) (deleteRecord c p r) (delete-holds r h))
-        go (some reply) h g = subst (Good (Delete r)) (sym (delete-some c p filled room r reply h)) (refused-good (Delete r) reply g)
-    request-force (Update old new) = go (updateFault p old new) refl (update-refused p old new)
-      where
-        go : (o : Option Reply) → updateFault p old new ≡ o → EachGiven Refused o → Good (Update old new) (request c p filled room (Update old new))
-        go none h g =
-            subst (Good (Update old new)) (sym (update-none c p filled room old new h))
-            (after-good (Update old new) (updateRecord c p old new) (update-holds old new h))
-        go (some reply) h g =
-            subst (Good (Update old new)) (sym (update-some c p filled room old new reply h)) (refused-good (Update old new) reply g)
-    request-force (Search window) =
-        subst (λ (q : Pool). HoldsRecords q (inForce rs (Search window) (answerOf (request c p filled room (Search window) .reply))))
-        (sym (search-pool c p filled room window))
-        (subst (HoldsRecords p) (sym (search-force window (request c p filled room (Search window) .reply))) k)
+  -- a request of any kind, accepted or refused
+  pub request-force : (filled room : ℕ) (a : Asked) → Good a (request c p filled room a)
+  request-force filled room =
+      request-cases c p filled room Good refused-good
+      (λ r h. after-good (Insert r) (insertRecord c p r) (insert-holds r h))
+      (λ r h. after-good (Delete r) (deleteRecord c p r) (delete-holds r h))
+      (λ old new h. after-good (Update old new) (updateRecord c p old new) (update-holds old new h))
+      (λ window h. subst (HoldsRecords p) (sym (search-force window (Listed (length (found p window)) filled (opened p window)))) k)

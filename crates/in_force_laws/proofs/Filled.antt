@@ -1,28 +1,28 @@
--- The places of the found list that a batch has filled, by its answers.
-use mathlib.Core.Path.{_≡_, refl, sym, subst, ap, _∙_}
+-- The places of the found list that a batch has filled, by its answers: a search that lists fills as many as it found, and nothing else
+-- fills one.
+use mathlib.Core.Path.{_≡_, refl, sym, ap, _∙_}
 use mathlib.Core.List.{List, [], _∷_, _++_}
 use mathlib.Core.Option.{Option, none, some}
 use Prim.Native.Nat.{ℕ, suc, _+_, _-_, _≤_, _<_}
 use native.Mathlib.Omega.{arith}
 use lib.ListN.{length, getD}
 use lib.Seq.{getD-set-same}
-use Rattle.rules.specs.declared.Rect.{Rect}
+use Rattle.rules.specs.declared.Record.{Record}
 use Rattle.rules.specs.declared.Request.{Request}
 use Rattle.rules.specs.declared.Asked.{Asked}
-use Rattle.rules.specs.declared.Asked.the-variants.{Insert, Delete, Update, Search}
 use Rattle.rules.specs.declared.Answer.{Answer}
 use Rattle.rules.specs.declared.Reply.{Reply}
-use Rattle.rules.specs.declared.Reply.the-variants.{BadRectangle, NoRoom}
+use Rattle.rules.specs.declared.Reply.the-variants.{Listed}
 use Rattle.rules.specs.Pool.{Pool}
+use Rattle.rules.specs.Search.{found, opened}
 use Rattle.rules.specs.Answers.{answerOf}
 use Rattle.rules.specs.Insert.{Choice, Change, Done, NoneFree, insertRecord}
 use Rattle.rules.specs.Delete.{deleteRecord, updateRecord}
-use Rattle.rules.specs.Request.{Turn, turn, asked, afterChange, insertFault, deleteFault, updateFault, searchFault, request}
+use Rattle.rules.specs.Request.{Turn, turn, asked, afterChange, request}
 use Rattle.rules.specs.Call.{Batch, afterTurn, doRequest, doRequests}
 use Rattle.in_force_laws.specs.Force.{placesFilled, filledBy, filledAfter}
-use Rattle.in_force_laws.proofs.Faults.{EachGiven, given-none, given-row}
-use Rattle.in_force_laws.proofs.Change.{Refused, insert-refused, delete-refused, update-refused, insert-some, insert-none, delete-some, delete-none, update-some, update-none}
-use Rattle.in_force_laws.proofs.Batch.{noAnswer, kept, step-long, two-parts}
+use Rattle.in_force_laws.proofs.Change.{Refused, request-cases}
+use Rattle.in_force_laws.proofs.Batch.{noAnswer, answers-kept, step-long, two-parts}
 
 -- ---- one request
 
@@ -38,41 +38,15 @@ unfolding afterChange placesFilled answerOf
 after-fills p (Done q) = refl
 after-fills p NoneFree = refl
 
-search-refused : (p : Pool) (room : ℕ) (window : Rect) → EachGiven Refused (searchFault p room window)
-unfolding searchFault answerOf
-search-refused p room window =
-    given-row Refused _ BadRectangle _ refl (given-row Refused _ (NoRoom _ _) _ refl (given-none Refused))
+list-fills : (p : Pool) (rs : List Record) (start opened : ℕ) → Fills (turn p (Listed (length rs) start opened) rs)
+unfolding placesFilled answerOf
+list-fills p rs start opened = refl
 
-module _ (c : Choice) (p : Pool) (filled room : ℕ) where
-  search-some : (window : Rect) (reply : Reply) → searchFault p room window ≡ some reply → request c p filled room (Search window) ≡ turn p reply []
-  unfolding request
-  search-some window reply h = rw (h, request)
-
-  search-none : (window : Rect) → searchFault p room window ≡ none → Fills (request c p filled room (Search window))
-  unfolding request placesFilled answerOf
-  search-none window h = rw (h, request)
-
-  request-fills : (a : Asked) → Fills (request c p filled room a)
-  request-fills (Insert r) = go (insertFault p r) refl (insert-refused p r)
-    where
-      go : (o : Option Reply) → insertFault p r ≡ o → EachGiven Refused o → Fills (request c p filled room (Insert r))
-      go none h g = subst Fills (sym (insert-none c p filled room r h)) (after-fills p (insertRecord c p r))
-      go (some reply) h g = subst Fills (sym (insert-some c p filled room r reply h)) (refused-fills p reply g)
-  request-fills (Delete r) = go (deleteFault p r) refl (delete-refused p r)
-    where
-      go : (o : Option Reply) → deleteFault p r ≡ o → EachGiven Refused o → Fills (request c p filled room (Delete r))
-      go none h g = subst Fills (sym (delete-none c p filled room r h)) (after-fills p (deleteRecord c p r))
-      go (some reply) h g = subst Fills (sym (delete-some c p filled room r reply h)) (refused-fills p reply g)
-  request-fills (Update old new) = go (updateFault p old new) refl (update-refused p old new)
-    where
-      go : (o : Option Reply) → updateFault p old new ≡ o → EachGiven Refused o → Fills (request c p filled room (Update old new))
-      go none h g = subst Fills (sym (update-none c p filled room old new h)) (after-fills p (updateRecord c p old new))
-      go (some reply) h g = subst Fills (sym (update-some c p filled room old new reply h)) (refused-fills p reply g)
-  request-fills (Search window) = go (searchFault p room window) refl (search-refused p room window)
-    where
-      go : (o : Option Reply) → searchFault p room window ≡ o → EachGiven Refused o → Fills (request c p filled room (Search window))
-      go none h g = search-none window h
-      go (some reply) h g = subst Fills (sym (search-some window reply h)) (refused-fills p reply g)
+request-fills : (c : Choice) (p : Pool) (filled room : ℕ) (a : Asked) → Fills (request c p filled room a)
+request-fills c p filled room =
+    request-cases c p filled room (λ a t. Fills t) (λ a. refused-fills p) (λ r h. after-fills p (insertRecord c p r))
+    (λ r h. after-fills p (deleteRecord c p r)) (λ old new h. after-fills p (updateRecord c p old new))
+    (λ window h. list-fills p (found p window) filled (opened p window))
 
 -- ---- a batch
 
@@ -104,7 +78,7 @@ module _ (c : Choice) where
       let end = doRequests c (suc i) qs b1 in
       batch-filled (suc i) qs b1 (omega (arith, h, step-long c i b (asked q)))
       ∙ ap (λ (n : ℕ). filledAfter n (suc i) qs (end .answers)) (step-fills i b (asked q) (omega (arith, h))
-      ∙ ap (filledBy (b .filled) (asked q)) (sym (kept c (suc i) qs b1 i (omega arith))))
+      ∙ ap (filledBy (b .filled) (asked q)) (sym (answers-kept c (suc i) qs b1 i (omega arith))))
 
   -- .. by the answers that the whole batch leaves
   pub part-filled : (i : ℕ) (xs ys : List Request) (b : Batch) → i + length xs ≤ length (b .answers)
@@ -113,4 +87,4 @@ module _ (c : Choice) where
       batch-filled i xs b h
       ∙ filled-same (b .filled) i xs (doRequests c i xs b .answers) (doRequests c i (xs ++ ys) b .answers) (λ j l.
       sym (ap (λ (x : Batch). getD (x .answers) j noAnswer) (two-parts c i xs ys b)
-      ∙ kept c (i + length xs) ys (doRequests c i xs b) j l))
+      ∙ answers-kept c (i + length xs) ys (doRequests c i xs b) j l))

@@ -1,7 +1,7 @@
--- What a slot of a whole pool holds can be written and read: 8 entries at most, each pointer of its level's kind.
+-- What a slot of a whole pool holds can be written and read: 8 entries at most, each pointer of its level's kind. A slot in use is one of the
+-- tree, where each node is so; the others are free, and have no entries.
 use mathlib.Core.Path.{_≡_, refl, sym, subst}
 use mathlib.Core.Logic.{⊎-elim}
-use mathlib.Core.List.{List, [], _∷_, List·Memᴰ·head, List·Memᴰ·tail}
 use mathlib.Core.Bool.{true}
 use Prim.Native.Nat.{ℕ, zero, suc, _-_, _≤_, _<_}
 use native.Mathlib.Omega.{arith}
@@ -16,7 +16,7 @@ use Rattle.rules.specs.Numbers.{most, goodNumber}
 use Rattle.rules.specs.Pool.{Node, Pool, slot, entry, freeNode, nodeAt, entriesAt, childOf, numberOf}
 use Rattle.rules.specs.Layout.{pointerWord, natural, pointerOf}
 use Rattle.rules_laws.proofs.Orders.{never-both}
-use Rattle.rules_laws.proofs.Places.{Among, Each, map-upFrom, each-upFrom}
+use Rattle.rules_laws.proofs.Places.{Among, Each, map-upFrom, each-upFrom, each-among}
 use Rattle.sound_laws.specs.Tree.{Slot, Used, Tree, Whole}
 use Rattle.sound_laws.proofs.Walk.{no-tree, leaf-of, inner-of, tree-node}
 use Rattle.sound_laws.proofs.Whole.{reached-used, slot-cases, tree-at}
@@ -50,10 +50,6 @@ module _ (p : Pool) where
 pub record Writable (n : Node) : Type 0 where
   pub few : length (n .entries) ≤ most
   pub kinds : Each (λ (e : Entry). pointerOf (n .level) (pointerWord (e .pointer)) ≡ e .pointer) (n .entries)
-
-each-among : {A : Type 0} (P : A → Type 0) (xs : List A) → ((x : A) → Among x xs → P x) → Each P xs
-each-among P [] h = tt
-each-among P (x ∷ xs) h = (h x (List·Memᴰ·head refl), each-among P xs (λ y m. h y (List·Memᴰ·tail m)))
 
 module _ (p : Pool) (w : Whole p) where
   slot-writable : (s : SlotNumber) → Slot p s → Writable (nodeAt p s)

@@ -1,4 +1,5 @@
--- A search in a pool that holds the records in force shows those that meet its window.
+-- A search in a pool that holds the records in force shows those that meet its window: it is exact on the stored records, which are the
+-- records in force in another order, and found order does not depend on that.
 use mathlib.Core.Path.{_≡_, refl, sym, subst, ap, _∙_}
 use mathlib.Core.Logic.{_⊎_}
 use mathlib.Core.Bool.{Bool, true, false}
@@ -20,13 +21,14 @@ use Rattle.rules.specs.Search.{ordered, found, opened}
 use Rattle.rules.specs.Answers.{firstRow}
 use Rattle.rules.specs.Insert.{Choice}
 use Rattle.rules.specs.Request.{turn, searchFault, request}
+use Rattle.rules_laws.proofs.Parts.{those-and}
 use Rattle.search_laws.specs.Window.{recordMeets}
 use Rattle.search_laws.specs.Order.{Alike}
-use Rattle.search_laws.proofs.Lists.{those-and}
 use Rattle.search_laws.proofs.Order.{alike-length, ordered-alike, ordered-same}
 use Rattle.search_laws.proofs.Exact.{search-exact, opened-exact, found-once}
 use Rattle.sound_laws.proofs.Heights.{height-records}
 use Rattle.in_force_laws.specs.Shows.{EachOnce, HoldsRecords, SearchShows}
+use Rattle.in_force_laws.proofs.Change.{search-none}
 
 -- those of alike lists are alike
 pub those-alike : (t : Record → Bool) (xs ys : List Record) → Alike xs ys → Alike (those t xs) (those t ys)
@@ -53,18 +55,13 @@ module _ (p : Pool) (rs : List Record) (k : HoldsRecords p rs) (window : Rect) w
       (height-records p (k .whole))
 
   module _ (room : ℕ) where
-    no-fault : valid window ≡ true → length (those (recordMeets window) rs) ≤ room → searchFault p room window ≡ none
+    room-enough : valid window ≡ true → length (those (recordMeets window) rs) ≤ room → searchFault p room window ≡ none
     unfolding searchFault firstRow
-    no-fault v r =
+    room-enough v r =
         let enough : ltb room (length (found p window)) ≡ false = le-ltb room (length (found p window)) (omega (arith, found-many, r)) in
         rw (v, enough)
 
     module _ (c : Choice) (filled : ℕ) where
-      search-is : searchFault p room window ≡ none
-          → request c p filled room (Search window) ≡ turn p (Listed (length (found p window)) filled (opened p window)) (found p window)
-      unfolding request
-      search-is h = rw (h, request)
-
       shown : SearchShows p rs filled window (turn p (Listed (length (found p window)) filled (opened p window)) (found p window))
       shown = record {
         lists = found-force;
@@ -77,4 +74,4 @@ module _ (p : Pool) (rs : List Record) (k : HoldsRecords p rs) (window : Rect) w
       -- "valid window, room in its list"
       pub request-search : valid window ≡ true → length (those (recordMeets window) rs) ≤ room
           → SearchShows p rs filled window (request c p filled room (Search window))
-      request-search v r = subst (SearchShows p rs filled window) (sym (search-is (no-fault v r))) shown
+      request-search v r = subst (SearchShows p rs filled window) (sym (search-none c p filled room window (room-enough v r))) shown

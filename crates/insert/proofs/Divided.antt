@@ -31,9 +31,9 @@ use Rattle.free_slots.proofs.Known.{known-at, known-put, lowest-put}
 use Rattle.sound_laws.specs.Tree.{Slot, NodeIn, Tree}
 use Rattle.sound_laws.proofs.Walk.{no-tree, tree-node, tree-positive}
 use Rattle.sound_laws.proofs.Frame.{put-same, put-slot}
+use Rattle.sound_laws.proofs.Free.{lowest-slot}
 use Rattle.insert_laws.specs.Grown.{Fits}
 use Rattle.insert_laws.proofs.Under.{entries-are}
-use Rattle.insert_laws.proofs.Free.{lowest-slot}
 use Rattle.insert_laws.proofs.Install.{putTwo, all-fit, split-none, split-at, install-room, install-full}
 use Rattle.insert.specs.declared.Growth.the-variants.{One, Two, Stuck}
 use Rattle.insert.specs.Left.{GrewTo}
@@ -186,7 +186,7 @@ module _ {w : List ℤ} {s : SlotNumber} {e : Entry} {f : FreeSlots} (r : Fitted
             is = refl;
             known = subst⁻¹ (λ (y : Pool). Known y k) q (subst⁻¹ (Known (both h full low)) less
                 (known-at (putNode p s _) f (put-known _) t _
-                (lowest-put p t s _ (lowest-at p t low) (here-node h .slot .low) (here-node h .slot .high) (here-used h) (here-used h)) (here-used h)));
+                (lowest-put p t s _ (lowest-at p t low) (here-node h .slot) (here-used h) (here-used h)) (here-used h)));
           },
         )
       where

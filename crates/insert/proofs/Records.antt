@@ -1,12 +1,11 @@
 -- A record goes in. The number of records is no part of the tree, so with the record counted the pool stands as before; and with the number
 -- put back the words are what they were. A slot has eight entries at most, so the number is one that a word holds.
 use mathlib.Core.Path.{_≡_, refl, sym, ap, subst, subst⁻¹, _∙_}
-use mathlib.Core.Bool.{Bool, true, false}
-use mathlib.Core.List.{List, [], _∷_, map}
+use mathlib.Core.Bool.{true}
+use mathlib.Core.List.{List, [], map}
 use Prim.Native.Nat.{ℕ, _+_, _*_, _≤_}
-use native.Mathlib.Nat.{mul-suc}
 use native.Mathlib.Omega.{arith}
-use lib.ListN.{length, length-append, length-map}
+use lib.ListN.{length, length-map}
 use lib.IntN.{ℤ}
 use Rattle.rules.specs.declared.Record.{Record}
 use Rattle.rules.specs.declared.Pointer.the-variants.{Number}
@@ -16,16 +15,18 @@ use Rattle.rules.specs.Numbers.{goodNumber}
 use Rattle.rules.specs.Geometry.{valid}
 use Rattle.rules.specs.Pool.{Node, Pool, entry, recordOf, leafEntry, isLeaf, stored, putRecords}
 use Rattle.rules.specs.Insert.{Change, Done, NoneFree, ours, insertAt, insertRecord}
-use Rattle.rules.specs.Layout.{validLength, words, read}
-use Rattle.rules_laws.proofs.Places.{Each}
-use Rattle.rules_laws.proofs.Parts.{those-yes, those-no, those-none}
+use Rattle.rules.specs.Layout.{validLength, slotCount, words, read}
+use Rattle.rules_laws.proofs.Places.{each-of}
+use Rattle.rules_laws.proofs.Parts.{among-those, those-fewer}
+use Rattle.rules_laws.proofs.Joins.{joined-length}
+use Rattle.rules_laws.proofs.Sums.{total-most}
 use Rattle.pool.specs.Slots.{Fit}
-use Rattle.pool.proofs.Written.{Fine, read-fine}
+use Rattle.pool.proofs.Written.{Fine, read-fine, read-slots}
+use Rattle.pool.proofs.Parts.{few-slots}
 use Rattle.free_slots.specs.declared.FreeSlots.{FreeSlots}
 use Rattle.free_slots.specs.Known.{Known}
 use Rattle.free_slots.proofs.Known.{known-records}
 use Rattle.sound_laws.specs.Tree.{Whole}
-use Rattle.sound_laws.proofs.Joins.{joined-none, joined-more}
 use Rattle.sound_laws.proofs.Heights.{height-eight}
 use Rattle.sound_laws.proofs.Walk.{tree-positive}
 use Rattle.insert_laws.specs.Grown.{Fits}
@@ -38,27 +39,25 @@ use Rattle.nodes.proofs.Slots.{most-slots}
 
 -- ---- how many records there can be
 
-entries-of : Node → List Entry
-entries-of n = n .entries
-
-leaves-few : (ns : List Node) → Each Fine ns → length (joined (map entries-of (those isLeaf ns))) ≤ 8 * length ns
-unfolding entries-of
-leaves-few [] f = rw (those-none isLeaf, joined-none entries-of) (omega arith)
-leaves-few (n ∷ ns) f = go (isLeaf n) refl (leaves-few ns (f .1))
+-- 8 for each slot at most
+pub stored-few : (w : List ℤ) → length (stored (read w)) ≤ 8 * slotCount w
+unfolding stored
+stored-few w =
+    omega (
+      arith,
+      length-map (joined (map entries (those isLeaf (read w .slots)))) recordOf,
+      joined-length entries (those isLeaf (read w .slots)),
+      total-most (λ n. length (entries n)) 8 (those isLeaf (read w .slots))
+          (λ n m. each-of Fine (read-fine w) (among-those isLeaf n (read w .slots) .0 m .0) .few),
+      those-fewer isLeaf (read w .slots),
+      read-slots w,
+    )
   where
-    go : (b : Bool) → isLeaf n ≡ b → length (joined (map entries-of (those isLeaf ns))) ≤ 8 * length ns
-        → length (joined (map entries-of (those isLeaf (n ∷ ns)))) ≤ 8 * length (n ∷ ns)
-    go true e h =
-        rw (those-yes isLeaf n ns e, joined-more entries-of n (those isLeaf ns))
-        (omega (arith, length-append (entries-of n) (joined (map entries-of (those isLeaf ns))), f .0 .few, mul-suc 8 (length ns)))
-    go false e h = rw (those-no isLeaf n ns e) (omega (arith, mul-suc 8 (length ns)))
-
-stored-few : (p : Pool) → Each Fine (p .slots) → length (stored p) ≤ 8 * length (p .slots)
-unfolding stored entries-of
-stored-few p f = omega (arith, length-map (joined (map entries-of (those isLeaf (p .slots)))) recordOf, leaves-few (p .slots) f)
+    entries : Node → List Entry
+    entries n = n .entries
 
 pub records-few : (w : List ℤ) → validLength w ≡ true → Whole (read w) → read w .records ≤ 32768
-records-few w r h = omega (arith, h .counted, stored-few (read w) (read-fine w), most-slots w r)
+records-few w r h = omega (arith, h .counted, stored-few w, few-slots w r)
 
 -- ---- a change that was made, and one that was not
 

@@ -33,9 +33,10 @@ use Rattle.nodes.proofs.Tight.{inner-no-leaf}
 use Rattle.insert_laws.specs.Grown as G
 use Rattle.insert_laws.specs.Slots.{leading, isFull, wayUp}
 use Rattle.insert_laws.proofs.Under.{fits-level}
-use Rattle.insert_laws.proofs.Tighten.{among-here, child-entry, top-same, tighten-grew}
+use Rattle.insert_laws.proofs.Tighten.{tighten-grew, grew-beside}
 use Rattle.insert_laws.proofs.Below.{below-here, below-down, way, adjust-kept, adjust-split, adjust-full, way-there, below-grows}
 use Rattle.insert_laws.proofs.Taken.{way-here, run, run-ends, run-goes-on}
+use Rattle.insert_laws.proofs.Beside.{among-here, child-entry, top-same}
 use Rattle.insert.specs.declared.Growth.{Growth}
 use Rattle.insert.specs.declared.Growth.the-variants.{One, Two, Stuck}
 use Rattle.insert.specs.Left.{HoldsPool, GrewTo}
@@ -168,7 +169,7 @@ module _ {p : Pool} {n : ℕ} {s : SlotNumber} {e : Entry} (h : WayDown p n s e)
         (g : G.Grew (G.spot p (suc below) child) (G.spot q (suc below) child) come left taken (slotsIn p (suc below) child))
         (low : left .level ≤ suc (suc below)) (enough : least ≤ length (entriesAt q child)) where
       same : nodeAt p s ≡ nodeAt q s
-      same = top-same p below s tree at there once q g low enough
+      same = top-same (grew-beside p below s tree at there once q g)
 
       same-entry : entryAt q s at ≡ entryAt p s at
       unfolding entryAt

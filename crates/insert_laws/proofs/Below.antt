@@ -18,7 +18,8 @@ use Rattle.insert_laws.specs.Grown.{Fits, Spot, spot, slotsAt, Grew, Sam
 use Rattle.insert_laws.proofs.Under.{no-fit}
 use Rattle.insert_laws.proofs.Install.{head-twice, install-grows}
 use Rattle.insert_laws.proofs.Twice.{grew-twice}
-use Rattle.insert_laws.proofs.Tighten.{among-here, child-entry, tighten-grew, tighten-many, tighten-head}
+use Rattle.insert_laws.proofs.Tighten.{grew-beside, tighten-grew}
+use Rattle.insert_laws.proofs.Beside.{among-here, child-entry, tight-many, tight-head}
 
 -- it may as well have touched more of the tree
 wider : {a b : Spot} {come left : Node} {taken touched : List SlotNumber} → Grew a b come left taken touched
@@ -99,15 +100,15 @@ module _ (c : Choice) where
         rw (adjust-kept s i q) (
           h .0,
           tighten-grew p l s d i there once q (h .1) (omega arith) enough,
-          head-twice (h .2) (tighten-head p l s d i there once q (h .1) (omega arith) enough),
-          omega (arith, tighten-many p l s d i there once q (h .1) (omega arith) enough),
+          head-twice (h .2) (tight-head (grew-beside p l s d i there once q (h .1))),
+          omega (arith, tight-many (grew-beside p l s d i there once q (h .1))),
         )
     adjust-grows (Split q x) h =
         let low : suc (suc l) ≤ suc (suc l) = omega arith in
         let g = tighten-grew p l s d i there once q (h .1) low (h .3) in
         rw (adjust-split s i q x)
-        (then-grows (suc (suc l)) x g (head-twice (h .2) (tighten-head p l s d i there once q (h .1) low (h .3)))
-        (tighten-many p l s d i there once q (h .1) low (h .3)) (install c (tighten q s i) s x)
+        (then-grows (suc (suc l)) x g (head-twice (h .2) (tight-head (grew-beside p l s d i there once q (h .1))))
+        (tight-many (grew-beside p l s d i there once q (h .1))) (install c (tighten q s i) s x)
         (install-grows c lawful (tighten q s i) (suc l) s (g .tree) x (g .fit x (List·Memᴰ·head refl))))
     adjust-grows Full h = rw (adjust-full s i) tt
 

@@ -1,4 +1,5 @@
--- What a tree that grew holds: how often each slot stands in it, and how many of its records a test holds of. Both are weights.
+-- What a tree that grew holds: how often each slot stands in it, and how many of its records a test holds of. Both are weights, and a tree
+-- that grew weighs more by what came and what was taken.
 use mathlib.Core.Path.{_≡_, refl, sym, _∙_}
 use mathlib.Core.Bool.{Bool}
 use mathlib.Core.List.{List, [], _∷_, map}
@@ -11,8 +12,8 @@ use Rattle.rules.specs.declared.Entry.{Entry}
 use Rattle.rules.specs.Lists.{those, total}
 use Rattle.rules.specs.Pool.{Node, Pool, sameSlot, nodeAt}
 use Rattle.rules_laws.proofs.Places.{Among}
+use Rattle.rules_laws.proofs.Sums.{total-zero, count-total}
 use Rattle.sound_laws.specs.Tree.{slotsIn, recordsIn, times, Tree}
-use Rattle.sound_laws.proofs.Joins.{total-zero, count-total}
 use Rattle.sound_laws.proofs.Times.{among-times, not-among}
 use Rattle.sound_laws.proofs.Walk.{within-used}
 use Rattle.insert_laws.specs.Grown.{slotsUnder, recordsUnder, Fits, Weights, weigh, weightUnder, weightOf, Spot, slotsAt, weightAt, Grew}

@@ -1,4 +1,5 @@
--- One node, in full: what stands in its slot, and in the partner's, after an entry came to it.
+-- One node, in full: what stands in its slot, and in the partner's, after an entry came to it. Two slots are written, and they differ, since
+-- the one is in use and the other was free.
 use mathlib.Core.Path.{_≡_, ap, _∙_}
 use mathlib.Core.List.{List, [], _∷_, _++_}
 use Prim.Native.Nat.{ℕ, suc, _≤_, _<_}
@@ -16,7 +17,7 @@ use Rattle.rules.specs.Lawful.{LawfulSplit}
 use Rattle.rules_laws.proofs.Splits.{at-most-six}
 use Rattle.sound_laws.specs.Tree.{NodeIn}
 use Rattle.sound_laws.proofs.Frame.{put-same}
-use Rattle.insert_laws.proofs.Free.{lowest-slot, lowest-free}
+use Rattle.sound_laws.proofs.Free.{lowest-slot, lowest-free}
 use Rattle.insert_laws.proofs.Under.{entries-are}
 use Rattle.insert_laws.proofs.Install.{putTwo, two-first, two-second, other-level, put-entries, split-none, split-at, install-room, install-full}
 

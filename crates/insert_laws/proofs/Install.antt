@@ -22,15 +22,14 @@ use Rattle.rules.specs.Insert.{Choice, Kept, Split, Full, splitInto, install}
 use Rattle.rules.specs.Lawful.{Parted, LawfulSplit}
 use Rattle.rules_laws.proofs.Places.{Among}
 use Rattle.rules_laws.proofs.Parts.{parted-length}
+use Rattle.rules_laws.proofs.Sums.{total-none, total-more, total-append, parted-total}
 use Rattle.sound_laws.specs.Tree.{Slot, NodeIn, Tree}
-use Rattle.sound_laws.proofs.Joins.{total-none, total-more, total-append}
 use Rattle.sound_laws.proofs.Times.{times-none, times-one}
 use Rattle.sound_laws.proofs.Walk.{tree-node, top-among}
 use Rattle.sound_laws.proofs.Frame.{put-length, put-same, put-other, put-slot}
+use Rattle.sound_laws.proofs.Free.{lowest-slot, lowest-free}
 use Rattle.insert_laws.specs.Grown.{Fits, Weights, weightUnder, weightOf, spot, weightAt, Grew, SameHead, Grows}
-use Rattle.insert_laws.proofs.Sums.{parted-total}
 use Rattle.insert_laws.proofs.Members.{one-among, two-among}
-use Rattle.insert_laws.proofs.Free.{lowest-slot, lowest-free}
 use Rattle.insert_laws.proofs.Under.{entries-are, tree-fits, tree-made, fits-inner, weight-inner, weight-parts, weight-made, weight-none, weight-one, SameBelow, fits-below, total-below}
 
 -- slots of different levels are different

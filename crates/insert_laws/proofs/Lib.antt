@@ -1,17 +1,15 @@
 -- Laws of inserting.
-pub mod Sums
 pub mod Members
-pub mod Free
 pub mod Under
 pub mod Install
 pub mod Counts
 pub mod Twice
+pub mod Beside
 pub mod Tighten
 pub mod Below
 pub mod Root
 pub mod Standing
 pub mod Whole
-pub mod FreeCount
 pub mod Taken
 pub mod Slots
 pub mod Halves

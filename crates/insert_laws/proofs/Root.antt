@@ -15,14 +15,14 @@ use Rattle.rules.specs.Pool.{Pool, node, freeNode, nodeAt, entriesAt, childOf, 
 use Rattle.rules.specs.Insert.{Choice, Grown, Kept, Split, Full, Done, NoneFree, newRoot, growTree, insertBelow, insertAt}
 use Rattle.rules.specs.Lawful.{Lawful}
 use Rattle.rules_laws.proofs.Places.{Among}
+use Rattle.rules_laws.proofs.Sums.{total-none, total-more}
 use Rattle.sound_laws.specs.Tree.{treeSlots, Once, Slot, Tree}
-use Rattle.sound_laws.proofs.Joins.{total-none, total-more}
 use Rattle.sound_laws.proofs.Times.{times-one}
 use Rattle.sound_laws.proofs.Walk.{no-tree}
 use Rattle.sound_laws.proofs.Frame.{put-length, put-same, put-other}
+use Rattle.sound_laws.proofs.Free.{lowest-slot, lowest-free}
 use Rattle.insert_laws.specs.Grown.{Fits, Weights, weightUnder, spot, weightAt, Grew, SameHead, Grows}
 use Rattle.insert_laws.specs.Standing.{Put, Puts}
-use Rattle.insert_laws.proofs.Free.{lowest-slot, lowest-free}
 use Rattle.insert_laws.proofs.Under.{fits-level, entries-are, tree-made, fits-inner, weight-inner, weight-made, weight-none, weight-one, SameBelow, fits-below, total-below}
 use Rattle.insert_laws.proofs.Install.{other-level, put-head}
 use Rattle.insert_laws.proofs.Twice.{grew-twice}

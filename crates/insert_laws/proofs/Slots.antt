@@ -20,17 +20,16 @@ use Rattle.rules.specs.Pool.{Pool, node, nodeAt, entriesAt, entryAt, childOf, l
 use Rattle.rules.specs.Insert.{Choice, Grown, Kept, Split, Full, Change, Done, NoneFree, newRoot, growTree, insertBelow, insertAt, insertRecord}
 use Rattle.rules.specs.Lawful.{Lawful}
 use Rattle.sound_laws.specs.Tree.{treeSlots, Once, Tree, Whole}
+use Rattle.sound_laws.proofs.Free.{lowest-slot, lowest-free, put-free, nowhere-none, head-free}
 use Rattle.insert_laws.specs.Grown.{Fits}
 use Rattle.insert_laws.specs.Standing.{Standing}
 use Rattle.insert_laws.specs.Slots.{leading, isFull, wayUp, neededOn, slotsNeeded, recordNeeds}
-use Rattle.insert_laws.proofs.Free.{lowest-slot, lowest-free}
-use Rattle.insert_laws.proofs.FreeCount.{put-free, nowhere-none}
 use Rattle.insert_laws.proofs.Under.{fits-level}
 use Rattle.insert_laws.proofs.Taken.{leading-le, Takes, way-length, run, below-takes}
 use Rattle.insert_laws.proofs.Below.{way}
 use Rattle.insert_laws.proofs.Root.{grow-kept, grow-split, grow-full}
 use Rattle.insert_laws.proofs.Standing.{standing-once}
-use Rattle.insert_laws.proofs.Whole.{counted, counted-stands, counted-high, record-fits}
+use Rattle.insert_laws.proofs.Whole.{recordCounted, counted-stands, counted-high, record-fits}
 
 -- ---- the run and the root
 
@@ -120,31 +119,27 @@ module _ (c : Choice) (p : Pool) (m : ℕ) where
   unfolding slotsNeeded neededOn isFull entriesAt nodeAt putRecords
   head-needs k e = ap (neededOn p) (head-way (p .height - k) (p .root) e)
 
-  head-free : freeCount (putRecords p m) ≡ freeCount p
-  unfolding freeCount putRecords
-  head-free = refl
-
 module _ (c : Choice) (lawful : Lawful c) (p : Pool) (w : Whole p) (r : Record) (v : valid (r .rect) ≡ true) (n : goodNumber (r .number) ≡ true) where
-  stands : Standing (counted p) []
+  stands : Standing (recordCounted p) []
   stands = counted-stands p w
 
-  once : Once (treeSlots (counted p))
-  once = standing-once (counted p) [] stands
+  once : Once (treeSlots (recordCounted p))
+  once = standing-once (recordCounted p) [] stands
 
-  fits : Fits (counted p) 1 (leafEntry r)
-  fits = record-fits (counted p) r v n
+  fits : Fits (recordCounted p) 1 (leafEntry r)
+  fits = record-fits (recordCounted p) r v n
 
   pub insert-slots : (insertRecord c p r ≡ NoneFree) ↔ (freeCount p < recordNeeds c p r)
   unfolding insertRecord recordNeeds
   insert-slots =
-      rw (head-free c p (p .records + 1), head-needs c p (p .records + 1) 1 (leafEntry r))
-      at (level-slots c lawful (counted p) 1 (leafEntry r) (stands .tree) once (stands .some) fits (counted-high p w))
+      rw (head-free p (p .records + 1), head-needs c p (p .records + 1) 1 (leafEntry r))
+      at (level-slots c lawful (recordCounted p) 1 (leafEntry r) (stands .tree) once (stands .some) fits (counted-high p w))
 
   pub insert-takes : (q : Pool) → insertRecord c p r ≡ Done q → freeCount q + recordNeeds c p r ≡ freeCount p
   unfolding insertRecord recordNeeds
   insert-takes q h =
-      rw (head-free c p (p .records + 1), head-needs c p (p .records + 1) 1 (leafEntry r))
-      at (level-takes c lawful (counted p) 1 (leafEntry r) (stands .tree) once (stands .some) fits (counted-high p w) q h)
+      rw (head-free p (p .records + 1), head-needs c p (p .records + 1) 1 (leafEntry r))
+      at (level-takes c lawful (recordCounted p) 1 (leafEntry r) (stands .tree) once (stands .some) fits (counted-high p w) q h)
 
   pub insert-needs-few : recordNeeds c p r ≤ suc (p .height)
   unfolding recordNeeds putRecords
@@ -152,7 +147,7 @@ module _ (c : Choice) (lawful : Lawful c) (p : Pool) (w : Whole p) (r : Record) 
       omega (
         arith,
         head-needs c p (p .records + 1) 1 (leafEntry r),
-        level-needs-few c lawful (counted p) 1 (leafEntry r) (stands .tree) once (stands .some) fits (counted-high p w),
+        level-needs-few c lawful (recordCounted p) 1 (leafEntry r) (stands .tree) once (stands .some) fits (counted-high p w),
       )
 
   -- "with h + 1 slots free it is never refused 7"

@@ -22,14 +22,14 @@ use Rattle.sound_laws.specs.Tree.{slotsIn, Once, Slot, Tree}
 use Rattle.sound_laws.proofs.Apart.{once-child}
 use Rattle.sound_laws.proofs.Walk.{no-tree, tree-node}
 use Rattle.sound_laws.proofs.Frame.{put-other, put-slot}
+use Rattle.sound_laws.proofs.Free.{lowest-slot, lowest-free, put-used, put-free, nowhere-none}
 use Rattle.insert_laws.specs.Grown.{Fits, Grows}
 use Rattle.insert_laws.specs.Slots.{leading, isFull, wayUp}
-use Rattle.insert_laws.proofs.Free.{lowest-slot, lowest-free}
-use Rattle.insert_laws.proofs.FreeCount.{put-used, put-free, nowhere-none}
 use Rattle.insert_laws.proofs.Under.{no-fit}
 use Rattle.insert_laws.proofs.Install.{other-level, put-entries, split-none, split-at, install-room, install-full}
-use Rattle.insert_laws.proofs.Tighten.{among-here, child-entry, tighten-grew, tighten-many, tighten-free}
+use Rattle.insert_laws.proofs.Tighten.{grew-beside, tighten-grew}
 use Rattle.insert_laws.proofs.Below.{below-here, below-down, way, adjust-kept, adjust-split, adjust-full, way-there, below-grows}
+use Rattle.insert_laws.proofs.Beside.{among-here, child-entry, tight-many, tight-free}
 
 -- ---- what a list begins with
 
@@ -202,13 +202,13 @@ module _ (c : Choice) where
         let x = child-entry p l s d i there in
         let enough : least ≤ length (entriesAt q child) = omega (arith, x .enough, h .3) in
         let same = longer .ended (t .0) in
-        rw (adjust-kept c s i q) (omega (arith, t .0), omega (arith, t .1, tighten-free p l s d i there once q (h .1) (omega arith) enough))
+        rw (adjust-kept c s i q) (omega (arith, t .0), omega (arith, t .1, tight-free (grew-beside p l s d i there once q (h .1))))
     adjust-takes (Split q x) h t =
         let low : suc (suc l) ≤ suc (suc l) = omega arith in
         let g = tighten-grew p l s d i there once q (h .1) low (h .3) in
-        let free = tighten-free p l s d i there once q (h .1) low (h .3) in
+        let free = tight-free (grew-beside p l s d i there once q (h .1)) in
         rw (adjust-split c s i q x)
-        (then-takes (tighten q s i) (t .0) (omega (arith, t .1)) (tighten-many p l s d i there once q (h .1) low (h .3))
+        (then-takes (tighten q s i) (t .0) (omega (arith, t .1)) (tight-many (grew-beside p l s d i there once q (h .1)))
         (install c (tighten q s i) s x) (install-takes c (tighten q s i) (suc l) s (g .tree) x))
     adjust-takes Full h t = rw (adjust-full c s i) (omega (arith, longer .more))
 

@@ -10,8 +10,8 @@ use Rattle.rules.specs.declared.SlotNumber.{SlotNumber}
 use Rattle.rules.specs.Pool.{Node, sameSlot, nodeAt}
 use Rattle.rules_laws.proofs.Places.{Among}
 use Rattle.rules_laws.proofs.Parts.{count-append}
+use Rattle.rules_laws.proofs.Sums.{total-append}
 use Rattle.sound_laws.specs.Tree.{times, Slot}
-use Rattle.sound_laws.proofs.Joins.{total-append}
 use Rattle.sound_laws.proofs.Times.{times-among, not-among}
 use Rattle.insert_laws.specs.Grown.{Spot, Grew}
 use Rattle.insert_laws.proofs.Counts.{free-apart, free-before}

@@ -13,12 +13,12 @@ use Rattle.rules.specs.Lists.{joined, total}
 use Rattle.rules.specs.Numbers.{most}
 use Rattle.rules.specs.Pool.{Node, Pool, node, nodeAt, entriesAt, childOf, recordOf}
 use Rattle.rules_laws.proofs.Places.{Among}
+use Rattle.rules_laws.proofs.Sums.{total-none, total-more, total-sum, total-alike}
+use Rattle.rules_laws.proofs.Joins.{total-joined}
 use Rattle.sound_laws.specs.Tree.{slotsIn, recordsIn, Slot, Used, LeafEntry, InnerEntry, Tree}
-use Rattle.sound_laws.proofs.Joins.{total-none, total-more}
 use Rattle.sound_laws.proofs.Walk.{slots-leaf, slots-inner, records-leaf, records-inner, no-tree, leaf-of, inner-of, leaf-tree, inner-tree, within, within-used}
 use Rattle.sound_laws.proofs.Frame.{slots-frame, records-frame, inner-frame}
 use Rattle.insert_laws.specs.Grown.{slotsUnder, recordsUnder, Fits, Weights, weigh, weightUnder, weightOf, spot, weightAt}
-use Rattle.insert_laws.proofs.Sums.{total-sum, total-alike, total-joined}
 
 -- ---- the clauses
 
@@ -94,7 +94,8 @@ module _ (p : Pool) where
 
 module _ (w : Weights) where
   module _ (p : Pool) where
-    weight-leaf : (e : Entry) → weightUnder w p 1 e ≡ w .ofRecord (recordOf e)
+    -- a leaf's entry weighs what its record does, in every pool
+    pub weight-leaf : (e : Entry) → weightUnder w p 1 e ≡ w .ofRecord (recordOf e)
     unfolding weightUnder slotsUnder recordsUnder
     weight-leaf e = omega (arith, total-none (w .ofSlot), total-none (w .ofRecord), total-more (w .ofRecord) (recordOf e) [])
 

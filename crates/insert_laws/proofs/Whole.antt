@@ -42,7 +42,7 @@ module _ (p : Pool) (n : ℕ) where
   head-slots : (l : ℕ) (s : SlotNumber) → slotsIn (putRecords p n) l s ≡ slotsIn p l s
   head-slots l s = slots-frame p (putRecords p n) l s (λ t m. head-at t)
 
-  head-records : (l : ℕ) (s : SlotNumber) → recordsIn (putRecords p n) l s ≡ recordsIn p l s
+  pub head-records : (l : ℕ) (s : SlotNumber) → recordsIn (putRecords p n) l s ≡ recordsIn p l s
   head-records l s = records-frame p (putRecords p n) l s (λ t m. head-at t)
 
   head-stored : stored (putRecords p n) ≡ stored p
@@ -116,14 +116,14 @@ unfolding recordsUnder recordOf leafEntry numberOf
 under-record p r = refl
 
 -- the pool that the record goes into, which counts it already
-abbrev pub counted : Pool → Pool
-counted p = putRecords p (p .records + 1)
+abbrev pub recordCounted : Pool → Pool
+recordCounted p = putRecords p (p .records + 1)
 
 module _ (p : Pool) (w : Whole p) where
-  pub counted-stands : Standing (counted p) []
+  pub counted-stands : Standing (recordCounted p) []
   counted-stands = head-standing p (p .records + 1) [] (whole-standing p w)
 
-  pub counted-high : 1 ≤ counted p .height
+  pub counted-high : 1 ≤ recordCounted p .height
   unfolding putRecords
   counted-high = height-positive p w
 
@@ -132,19 +132,19 @@ record-fits p r v n = fits-leaf p (leafEntry r) (record-leaf r v n)
 
 module _ (c : Choice) (lawful : Lawful c) (p : Pool) (w : Whole p) (r : Record) (v : valid (r .rect) ≡ true) (n : goodNumber (r .number) ≡ true)
     (q : Pool) (h : insertRecord c p r ≡ Done q) where
-  stands : Standing (counted p) (slotsUnder (counted p) 1 (leafEntry r) ++ [])
-  stands = rw (under-leaf (counted p) (leafEntry r)) (counted-stands p w)
+  stands : Standing (recordCounted p) (slotsUnder (recordCounted p) 1 (leafEntry r) ++ [])
+  stands = rw (under-leaf (recordCounted p) (leafEntry r)) (counted-stands p w)
 
-  at-one : insertAt c 1 (counted p) (leafEntry r) ≡ Done q
+  at-one : insertAt c 1 (recordCounted p) (leafEntry r) ≡ Done q
   unfolding insertRecord
   at-one = h
 
   -- what the tree and the pool have become
-  pub insert-put-record : Put (counted p) 1 (leafEntry r) q
-  insert-put-record = standing-put c lawful (counted p) 1 (leafEntry r) [] stands (record-fits (counted p) r v n) (counted-high p w) q at-one
+  pub insert-put-record : Put (recordCounted p) 1 (leafEntry r) q
+  insert-put-record = standing-put c lawful (recordCounted p) 1 (leafEntry r) [] stands (record-fits (recordCounted p) r v n) (counted-high p w) q at-one
 
   now : Standing q []
-  now = insert-standing c lawful (counted p) 1 (leafEntry r) [] stands (record-fits (counted p) r v n) (counted-high p w) q at-one
+  now = insert-standing c lawful (recordCounted p) 1 (leafEntry r) [] stands (record-fits (recordCounted p) r v n) (counted-high p w) q at-one
 
   two : 2 ≤ q .height → 2 ≤ length (entriesAt q (q .root))
   unfolding putRecords
@@ -160,8 +160,8 @@ module _ (c : Choice) (lawful : Lawful c) (p : Pool) (w : Whole p) (r : Record) 
         arith,
         standing-stored q now two f,
         stored-in p w f,
-        put-count (counted p) 1 (leafEntry r) q insert-put-record f,
-        ap (λ (rs : List Record). length (those f rs)) (under-record (counted p) r),
+        put-count (recordCounted p) 1 (leafEntry r) q insert-put-record f,
+        ap (λ (rs : List Record). length (those f rs)) (under-record (recordCounted p) r),
         ap (λ (rs : List Record). length (those f rs)) (head-records p (p .records + 1) (p .height) (p .root)),
       )
 

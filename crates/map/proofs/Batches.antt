@@ -1,8 +1,8 @@
 -- The loop of `serve`, with no machine: what holds at its test, that a turn keeps it, and what is left when every request is done.
 use mathlib.Core.Path.{_≡_, refl, sym, ap, _∙_}
-use mathlib.Core.Bool.{Bool, true, false, not, _||_}
+use mathlib.Core.Bool.{true, not, _||_}
 use mathlib.Core.List.{List, [], _∷_}
-use mathlib.Core.Option.{Option, none, some}
+use mathlib.Core.Option.{none, some}
 use mathlib.Core.WellFounded.{WellFounded, InvImage·wf}
 use Prim.Native.Nat.{ℕ, suc, _+_, _-_, _*_, _≤_, _<_}
 use native.Mathlib.Omega.{arith}
@@ -25,15 +25,15 @@ use Rattle.rules.specs.Sound.{sound}
 use Rattle.rules.specs.Insert.{ours}
 use Rattle.rules.specs.Request.{Turn, asked, request}
 use Rattle.rules.specs.Call.{Lent, Batch, afterTurn, doRequest, doRequests, isRequest, callFault, starting}
-use Rattle.rules_laws.proofs.Bools.{not-false}
-use Rattle.rules_laws.proofs.Orders.{never-both}
+use Rattle.rules_laws.proofs.Bools.{not-false, or-neither}
 use Rattle.rules_laws.proofs.Places.{at-place}
-use Rattle.sound_laws.proofs.Tests.{every-is}
+use Rattle.rules_laws.proofs.Everies.{every-is}
 use Rattle.in_force_laws.proofs.Faults.{no-row}
 use Rattle.found_items.specs.Items.{itemsFrom, Pointing}
 use Rattle.request.specs.declared.Served.{Served}
 use Rattle.request.specs.Serving.{Ready, Serves}
 use Rattle.request.proofs.Sounds.{sound-fit}
+use Rattle.request.proofs.Cases.{asks-something}
 use Rattle.map.specs.declared.Progress.{Progress}
 use Rattle.map.specs.declared.Stepped.{Stepped}
 use Rattle.map.specs.Batching.{Begun, stepOf, batchOf, Batched}
@@ -50,10 +50,6 @@ pub record Fine (l : Lent) : Type 0 where
   pub sound : sound (l .pool) ≡ true
   pub asked : every isRequest (l .requests) ≡ true
 
-neither : (a b : Bool) → (a || b) ≡ false → (a ≡ false) × (b ≡ false)
-neither true b h = never-both refl h
-neither false b h = (refl, h)
-
 pub fine : (l : Lent) → callFault l ≡ none → Fine l
 unfolding callFault
 fine l h =
@@ -61,8 +57,8 @@ fine l h =
     let b = no-row (not (validLength (l .pool)) || not (eqb (length (l .workspace)) (length (l .pool)))) BadLength _ (a .1) in
     let c = no-row (not (sound (l .pool))) NotSound _ (b .1) in
     let d = no-row (not (every isRequest (l .requests))) NoRequest _ (c .1) in
-    let lists = neither (ltb mostRequests (length (l .requests))) (not (eqb (length (l .answers)) (length (l .requests)))) (a .0) in
-    let lengths = neither (not (validLength (l .pool))) (not (eqb (length (l .workspace)) (length (l .pool)))) (b .0) in
+    let lists = or-neither (ltb mostRequests (length (l .requests))) (not (eqb (length (l .answers)) (length (l .requests)))) (a .0) in
+    let lengths = or-neither (not (validLength (l .pool))) (not (eqb (length (l .workspace)) (length (l .pool)))) (b .0) in
     record {
       many = ltb-false mostRequests (length (l .requests)) (lists .0);
       answers = eqb-true (length (l .answers)) (length (l .requests)) (not-false _ (lists .1));
@@ -73,14 +69,6 @@ fine l h =
     }
 
 -- ---- a request of the list
-
-pub is-asked : (q : Request) → isRequest q ≡ true → (a : Asked) × (asked q ≡ some a)
-unfolding isRequest
-is-asked q h = go (asked q) refl
-  where
-    go : (o : Option Asked) → asked q ≡ o → (a : Asked) × (asked q ≡ some a)
-    go none e = never-both h (ap (λ (o : Option Asked). elim o [ none ↦ false | some a ↦ true ]) e)
-    go (some a) e = (a, e)
 
 every-at : (qs : List Request) (i : ℕ) → i < length qs → every isRequest qs ≡ true → isRequest (getD qs i nothing-asked) ≡ true
 every-at qs i lt h = every-is isRequest qs .0 h (getD qs i nothing-asked) (at-place qs i nothing-asked lt)
@@ -179,13 +167,13 @@ module _ (l : Lent) (f : Fine l) where
 
     module _ (r : Served) (p w : List ℤ) (does : Does r p w) where
       abbrev a : Asked
-      a = is-asked q q-asked .0
+      a = asks-something q q-asked .0
 
       abbrev t : Turn
       t = request ours (read (s .pool)) (s .prog .filled) room a
 
       pub serves : Serves (length (s .pool)) t r p w
-      serves = does a (is-asked q q-asked .1)
+      serves = does a (asks-something q q-asked .1)
 
       placed : Placed room (length (s .pool)) t
       placed = request-placed (s .pool) (s .ready .right) (s .ready .sound) ours (s .prog .filled) room a
@@ -222,7 +210,7 @@ module _ (l : Lent) (f : Fine l) where
         does-request : doRequest ours (s .prog .done) (batchAt (s .prog) (s .pool) (s .answers) (s .found)) (asked q) ≡ batchAt next-prog p next-answers fs
         unfolding doRequest
         does-request =
-            ap (doRequest ours (s .prog .done) (batchAt (s .prog) (s .pool) (s .answers) (s .found))) (is-asked q q-asked .1) ∙ sym is-turn
+            ap (doRequest ours (s .prog .done) (batchAt (s .prog) (s .pool) (s .answers) (s .found))) (asks-something q q-asked .1) ∙ sym is-turn
 
         one-more : (i : ℕ) (x : Request) (xs : List Request) (b : Batch) → doRequests ours i (x ∷ xs) b ≡ doRequests ours (suc i) xs (doRequest ours i b (asked x))
         unfolding doRequests

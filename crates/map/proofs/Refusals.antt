@@ -18,7 +18,9 @@ use Rattle.rules.specs.Layout.{validLength}
 use Rattle.rules.specs.Sound.{sound}
 use Rattle.rules.specs.Answers.{row, firstRow, verdictNumber}
 use Rattle.rules.specs.Request.{asked}
-use Rattle.rules.specs.Call.{Lent, Left, call, callBy, callFault, refused, served, isRequest}
+use Rattle.rules.specs.Insert.{ours}
+use Rattle.rules.specs.Call.{Lent, Left, call, callFault, refused, served, isRequest}
+use Rattle.in_force_laws.proofs.Call.{callBy-refused, callBy-served}
 use Rattle.map.specs.Asking.{nothingAsked}
 use Rattle.map.specs.Batching.{faultNumber, refusalOf, batchOf}
 
@@ -60,12 +62,12 @@ refusal-is l = refl
 
 -- a call that a row refuses, and one that none does
 pub call-refused : (l : Lent) (v : Verdict) → callFault l ≡ some v → call l ≡ refused l v
-unfolding call callBy
-call-refused l v h = rw (call, callBy, h)
+unfolding call
+call-refused l v h = callBy-refused ours l v h
 
 pub call-served : (l : Lent) → callFault l ≡ none → call l ≡ served (batchOf l)
-unfolding call callBy batchOf
-call-served l h = rw (call, callBy, h)
+unfolding call batchOf
+call-served l h = callBy-served ours l h
 
 pub call-number : (l : Lent) → refusalOf (l .pool) (length (l .workspace)) (length (l .requests)) (length (l .answers)) (every isRequest (l .requests)) ≡ call l .number
 unfolding faultNumber refused served verdictNumber
@@ -80,29 +82,29 @@ unfolding every
 check-number w = call-number (nothingAsked w)
 
 -- "A request is of one of the four kinds"
-asked-some : {A : Type 0} (a b c d : Bool) (w x y z : A) → elim (firstRow (row a w ∷ row b x ∷ row c y ∷ row d z ∷ [])) [ none ↦ false | some e ↦ true ] ≡ (a || b || c || d)
+some-row : {A : Type 0} (a b c d : Bool) (w x y z : A) → elim (firstRow (row a w ∷ row b x ∷ row c y ∷ row d z ∷ [])) [ none ↦ false | some e ↦ true ] ≡ (a || b || c || d)
 unfolding firstRow
-asked-some true b c d w x y z = refl
-asked-some false true c d w x y z = refl
-asked-some false false true d w x y z = refl
-asked-some false false false true w x y z = refl
-asked-some false false false false w x y z = refl
+some-row true b c d w x y z = refl
+some-row false true c d w x y z = refl
+some-row false false true d w x y z = refl
+some-row false false false true w x y z = refl
+some-row false false false false w x y z = refl
 
 over : (m : ℕ) → 5 ≤ m → (leZ (pos 1) (pos m) && leZ (pos m) (pos 4)) ≡ (same (pos m) (pos 1) || same (pos m) (pos 2) || same (pos m) (pos 3) || same (pos m) (pos 4))
 unfolding same
 over m h =
     rw (same, le-leb 1 m (omega arith), lt-leb m 1 (omega arith), lt-leb m 2 (omega arith), lt-leb m 3 (omega arith), lt-leb m 4 (omega arith))
 
-four : (k : ℤ) → (leZ (pos 1) k && leZ k (pos 4)) ≡ (same k (pos 1) || same k (pos 2) || same k (pos 3) || same k (pos 4))
+one-to-four : (k : ℤ) → (leZ (pos 1) k && leZ k (pos 4)) ≡ (same k (pos 1) || same k (pos 2) || same k (pos 3) || same k (pos 4))
 unfolding same
-four (negsuc n) = refl
-four (pos zero) = refl
-four (pos (suc zero)) = refl
-four (pos (suc (suc zero))) = refl
-four (pos (suc (suc (suc zero)))) = refl
-four (pos (suc (suc (suc (suc zero))))) = refl
-four (pos (suc (suc (suc (suc (suc n)))))) = over (suc (suc (suc (suc (suc n))))) (omega arith)
+one-to-four (negsuc n) = refl
+one-to-four (pos zero) = refl
+one-to-four (pos (suc zero)) = refl
+one-to-four (pos (suc (suc zero))) = refl
+one-to-four (pos (suc (suc (suc zero)))) = refl
+one-to-four (pos (suc (suc (suc (suc zero))))) = refl
+one-to-four (pos (suc (suc (suc (suc (suc n)))))) = over (suc (suc (suc (suc (suc n))))) (omega arith)
 
 pub four-kinds : (q : Request) → (leZ (pos 1) (q .kind) && leZ (q .kind) (pos 4)) ≡ isRequest q
 unfolding isRequest asked
-four-kinds q = four (q .kind) ∙ sym (asked-some (same (q .kind) (pos 1)) (same (q .kind) (pos 2)) (same (q .kind) (pos 3)) (same (q .kind) (pos 4)) _ _ _ _)
+four-kinds q = one-to-four (q .kind) ∙ sym (some-row (same (q .kind) (pos 1)) (same (q .kind) (pos 2)) (same (q .kind) (pos 3)) (same (q .kind) (pos 4)) _ _ _ _)

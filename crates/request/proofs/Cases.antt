@@ -1,4 +1,4 @@
--- What is asked of a request, and what is told of a reply, case by case.
+-- What is asked of a request, and what is told of a reply, case by case: each is the row of its table that applies.
 use mathlib.Core.Path.{_≡_, refl, sym, ap, subst, _∙_}
 use mathlib.Core.Bool.{Bool, true, false}
 use mathlib.Core.Option.{Option, none, some}
@@ -32,9 +32,9 @@ module _ (q : Request) where
   unfolding asked firstRow
   asks-update a b h = rw (a, b, h, firstRow)
 
-  no-request : asked q ≡ none → isRequest q ≡ false
+  asks-nothing : asked q ≡ none → isRequest q ≡ false
   unfolding isRequest
-  no-request h = rw (h, isRequest)
+  asks-nothing h = rw (h, isRequest)
 
   pub asks-search : kind (pos 1) ≡ false → kind (pos 2) ≡ false → kind (pos 3) ≡ false → isRequest q ≡ true → asked q ≡ some (Search (q .first))
   unfolding asked firstRow
@@ -42,7 +42,7 @@ module _ (q : Request) where
     where
       go : (t : Bool) → kind (pos 4) ≡ t → asked q ≡ some (Search (q .first))
       go true e = rw (a, b, d, e, firstRow)
-      go false e = never-both h (no-request (rw (a, b, d, e, firstRow)))
+      go false e = never-both h (asks-nothing (rw (a, b, d, e, firstRow)))
 
 -- ---- what is told
 
@@ -87,3 +87,11 @@ asks-one P q b h x a e = subst P (ap pick (sym h ∙ e)) x
     pick : Option Asked → Asked
     pick none = b
     pick (some c) = c
+
+-- what is a request asks something
+pub asks-something : (q : Request) → isRequest q ≡ true → (a : Asked) × (asked q ≡ some a)
+asks-something q h = go (asked q) refl
+  where
+    go : (o : Option Asked) → asked q ≡ o → (a : Asked) × (asked q ≡ some a)
+    go none e = never-both h (asks-nothing q e)
+    go (some a) e = (a, e)

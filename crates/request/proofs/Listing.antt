@@ -1,4 +1,5 @@
--- A search in words: what it may write, and what it leaves.
+-- A search in words: what it may write, and what it leaves. It finds no more records than the slots have places for, so the workspace has two
+-- words for each.
 use mathlib.Core.Path.{_≡_, refl, sym, ap, subst, _∙_}
 use mathlib.Core.Bool.{true, false}
 use mathlib.Core.List.{List, []}
@@ -18,13 +19,14 @@ use Rattle.rules.specs.Search.{ordered, found, opened, foundFromRoot}
 use Rattle.rules.specs.Insert.{ours}
 use Rattle.rules.specs.Answers.{answerOf}
 use Rattle.rules.specs.Request.{Turn, turn, request}
+use Rattle.find_leaf.proofs.Held.{low-enough}
 use Rattle.pool.proofs.Parts.{right-size, few-slots}
 use Rattle.search_laws.proofs.Order.{alike-length, ordered-alike}
 use Rattle.free_slots.specs.declared.FreeSlots.{FreeSlots}
 use Rattle.found_items.specs.Items.{itemsFrom, Pointing}
 use Rattle.request.specs.declared.Served.{Served}
 use Rattle.request.specs.Serving.{Ready, Serves, Changes, replied}
-use Rattle.request.proofs.Sounds.{found-few, low-tree}
+use Rattle.request.proofs.Sounds.{found-few}
 use Rattle.request.proofs.Rows.{search-3, search-8, search-0}
 use Rattle.request.proofs.Turns.{ready-whole, stays}
 
@@ -59,7 +61,7 @@ module _ (w : List ℤ) (f : FreeSlots) (r : Ready w f) (window : Rect) where
   walk-few = found-few w (r .right) (ready-whole w f r) window
 
   pub ready-low : read w .height ≤ 8
-  ready-low = low-tree w (r .right) (ready-whole w f r)
+  ready-low = low-enough w (r .right) (ready-whole w f r)
 
   -- there is room for them in a workspace as long as the pool, twice
   pub walk-room : 4 * length walk ≤ length w
@@ -72,16 +74,16 @@ module _ (w : List ℤ) (f : FreeSlots) (r : Ready w f) (window : Rect) where
     abbrev searches : Turn
     searches = request ours (read w) filled room (Search window)
 
-    off : (reply : Reply) → searches ≡ turn (read w) reply [] → Serves (length w) searches (replied reply f) w u
-    off reply h = quiet (length w) searches (replied reply f) w u long (stays w f r searches reply h)
+    search-row : (reply : Reply) → searches ≡ turn (read w) reply [] → Serves (length w) searches (replied reply f) w u
+    search-row reply h = quiet (length w) searches (replied reply f) w u long (stays w f r searches reply h)
 
     pub search-bad : valid window ≡ false → Serves (length w) searches (replied BadRectangle f) w u
-    search-bad v = off BadRectangle (search-3 (read w) filled room window v)
+    search-bad v = search-row BadRectangle (search-3 (read w) filled room window v)
 
     pub search-full : valid window ≡ true → (n o : ℕ) → n ≡ length walk → o ≡ opened (read w) window → room < n
         → Serves (length w) searches (replied (NoRoom n o) f) w u
     search-full v n o e d h =
-        off (NoRoom n o)
+        search-row (NoRoom n o)
         (search-8 (read w) filled room window v (omega (arith, found-size, e, h))
         ∙ ap (λ (k : ℕ). turn (read w) (NoRoom k (opened (read w) window)) []) (found-size ∙ sym e)
         ∙ ap (λ (k : ℕ). turn (read w) (NoRoom n k) []) (sym d))

@@ -1,4 +1,5 @@
--- "Update deletes the old pair, then inserts the new rectangle under the same number": the two halves, in words.
+-- "Update deletes the old pair, then inserts the new rectangle under the same number": the two halves, in words. What the delete leaves is
+-- ready for the insert, since a delete leaves a whole pool.
 use mathlib.Core.Path.{_≡_, refl, sym, ap, subst, _∙_}
 use mathlib.Core.List.{List}
 use lib.ListN.{length}
@@ -15,7 +16,7 @@ use Rattle.sound_laws.specs.Tree.{Whole}
 use Rattle.free_slots.specs.declared.FreeSlots.{FreeSlots}
 use Rattle.free_slots.specs.Known.{Known}
 use Rattle.delete_laws.proofs.Delete.{delete-whole}
-use Rattle.delete_laws.proofs.Update.{renewed, update-done, update-none}
+use Rattle.delete_laws.proofs.Update.{renewed, update-done, update-stuck}
 use Rattle.insert.specs.declared.Outcome.{Outcome}
 use Rattle.insert.specs.declared.Outcome.the-variants.{Made, Refused}
 use Rattle.insert.specs.Left.{Leaves}
@@ -43,7 +44,7 @@ module _ (w : List ℤ) (whole : Whole (read w)) (old : Record) (new : Rect) whe
     where
       go : (c : Change) → deletes ≡ c → Removes w c Refused v → Removes w (updateRecord ours (read w) old new) Refused v
       go (Done q) e k = absurd k
-      go NoneFree e k = rw (update-none ours (read w) old new e) k
+      go NoneFree e k = rw (update-stuck ours (read w) old new e) k
 
   module _ (v : List ℤ) (first : Outcome) (g : FreeSlots) (is : first ≡ Made g) (h : Removes w deletes first v) where
     half : Removes w deletes (Made g) v

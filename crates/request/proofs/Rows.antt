@@ -1,15 +1,14 @@
--- The rows of the table that apply, request by request: what is refused, and that what passes every row is done.
+-- The rows of the table that apply, request by request: what is refused, and that what passes every row is done. The table is read from the
+-- top, so a row decides where those above it do not apply.
 use mathlib.Core.Path.{_≡_, refl}
 use mathlib.Core.Bool.{Bool, true, false, _&&_}
 use mathlib.Core.List.{[]}
-use mathlib.Core.Option.{none, some}
 use Prim.Native.Nat.{ℕ, _≤_, _<_}
 use lib.ListN.{length}
 use borrow.Author.Tests.{lt-ltb, le-ltb}
 use Rattle.rules.specs.declared.Rect.{Rect}
 use Rattle.rules.specs.declared.Record.{Record}
 use Rattle.rules.specs.declared.Asked.the-variants.{Insert, Delete, Update, Search}
-use Rattle.rules.specs.declared.Reply.{Reply}
 use Rattle.rules.specs.declared.Reply.the-variants.{Listed, BadRectangle, BadNumber, NotHeld, Held, NoRoom}
 use Rattle.rules.specs.Numbers.{goodNumber}
 use Rattle.rules.specs.Lists.{same}
@@ -22,7 +21,7 @@ use Rattle.rules.specs.Answers.{firstRow}
 use Rattle.rules.specs.Request.{Turn, turn, afterChange, insertFault, deleteFault, updateFault, searchFault, request}
 use Rattle.sound_laws.proofs.Same.{same-is}
 use Rattle.request.specs.Serving.{otherHeld}
-use Rattle.in_force_laws.proofs.Change.{insert-some, insert-none, delete-some, delete-none, update-some, update-none}
+use Rattle.in_force_laws.proofs.Change.{insert-some, insert-none, delete-some, delete-none, update-some, update-none, search-some, search-none}
 
 -- ---- insert: 3, 4, 6
 
@@ -108,27 +107,18 @@ module _ (p : Pool) (filled room : ℕ) (window : Rect) where
   abbrev searches : Turn
   searches = request ours p filled room (Search window)
 
-  search-some : (reply : Reply) → searchFault p room window ≡ some reply → searches ≡ turn p reply []
-  unfolding request
-  search-some reply h = rw (h, request)
-
-  search-none : searchFault p room window ≡ none
-      → searches ≡ turn p (Listed (length (found p window)) filled (opened p window)) (found p window)
-  unfolding request
-  search-none h = rw (h, request)
-
   pub search-3 : valid window ≡ false → searches ≡ turn p BadRectangle []
   unfolding searchFault firstRow
-  search-3 v = search-some BadRectangle (rw (v, firstRow))
+  search-3 v = search-some ours p filled room window BadRectangle (rw (v, firstRow))
 
   pub search-8 : valid window ≡ true → room < length (found p window) → searches ≡ turn p (NoRoom (length (found p window)) (opened p window)) []
   unfolding searchFault firstRow
-  search-8 v h = search-some (NoRoom (length (found p window)) (opened p window)) (rw (v, lt-ltb _ _ h, firstRow))
+  search-8 v h = search-some ours p filled room window (NoRoom (length (found p window)) (opened p window)) (rw (v, lt-ltb _ _ h, firstRow))
 
   pub search-0 : valid window ≡ true → length (found p window) ≤ room
       → searches ≡ turn p (Listed (length (found p window)) filled (opened p window)) (found p window)
   unfolding searchFault firstRow
-  search-0 v h = search-none (rw (v, le-ltb _ _ h, firstRow))
+  search-0 v h = search-none ours p filled room window (rw (v, le-ltb _ _ h, firstRow))
 
 -- ---- "and not the old pair"
 

@@ -1,36 +1,29 @@
--- Sound words: they are those of a whole pool, which is low and holds no more records than there are places for.
-use mathlib.Core.Path.{_≡_, refl, ap, ap₂, subst, _∙_}
-use mathlib.Core.Bool.{Bool, true, false, cond}
-use mathlib.Core.List.{List, [], _∷_, map, List·Memᴰ·head, List·Memᴰ·tail}
-use Prim.Native.Nat.{ℕ, _*_, _≤_}
+-- Sound words are those of a whole pool: the words say that they are the pool's, and the questions of soundness that it is whole. A search
+-- of it finds no more records than the slots have places for.
+use mathlib.Core.Path.{_≡_, refl, ap₂, subst}
+use mathlib.Core.Bool.{true}
+use mathlib.Core.List.{List, [], _∷_}
+use Prim.Native.Nat.{_*_, _≤_}
 use native.Mathlib.Omega.{arith}
-use lib.ListN.{length, length-map}
+use lib.ListN.{length}
 use lib.IntN.{ℤ}
 use Rattle.rules.specs.declared.Rect.{Rect}
-use Rattle.rules.specs.declared.SlotNumber.{SlotNumber}
-use Rattle.rules.specs.Lists.{same, those, total, upFrom}
-use Rattle.rules.specs.Numbers.{most}
-use Rattle.rules.specs.Pool.{Pool, nodeAt, entriesAt, slot, isLeaf, recordOf, stored, slotNumbers}
+use Rattle.rules.specs.Lists.{same}
+use Rattle.rules.specs.Pool.{stored}
 use Rattle.rules.specs.Layout.{validLength, slotCount, words, read, sameWords}
 use Rattle.rules.specs.Sound.{nothingElse, soundPool, sound}
 use Rattle.rules.specs.Search.{foundFromRoot}
 use Rattle.rules_laws.proofs.Bools.{and-both, both-and}
 use Rattle.rules_laws.proofs.Orders.{never-both}
-use Rattle.rules_laws.proofs.Places.{Among, length-upFrom}
-use Rattle.rules_laws.proofs.Parts.{those-all}
-use Rattle.sound_laws.specs.Tree.{recordsAt, Whole}
+use Rattle.rules_laws.proofs.Parts.{those-fewer}
+use Rattle.insert.proofs.Records.{stored-few}
+use Rattle.sound_laws.specs.Tree.{Whole}
 use Rattle.sound_laws.proofs.Same.{same-is}
-use Rattle.sound_laws.proofs.Joins.{length-joined}
-use Rattle.sound_laws.proofs.Flat.{slots-are, stored-are}
 use Rattle.sound_laws.proofs.Sound.{sound-whole, whole-sound}
-use Rattle.sound_laws.proofs.Heights.{height-eight}
 use Rattle.search_laws.specs.Window.{recordMeets}
-use Rattle.search_laws.proofs.Lists.{count-fewer}
 use Rattle.search_laws.proofs.Order.{alike-length}
 use Rattle.search_laws.proofs.Found.{found-alike}
 use Rattle.pool.specs.Slots.{Fit}
-use Rattle.pool.proofs.Parts.{few-slots, slot-few}
-use Rattle.pool.proofs.Written.{read-slots}
 
 -- ---- words
 
@@ -67,40 +60,10 @@ module _ (w : List ℤ) where
       both-and (sameWords (words (read w)) w) (soundPool (read w))
       (subst (λ (v : List ℤ). sameWords (words (read w)) v ≡ true) (f .same) (words-same (words (read w)))) (whole-sound (read w) t)
 
-  pub low-tree : validLength w ≡ true → Whole (read w) → read w .height ≤ 8
-  low-tree right whole = height-eight (read w) whole (omega (arith, few-slots w right, read-slots w))
-
 -- ---- how many records there are
 
-total-few : {A : Type 0} (f : A → ℕ) (n : ℕ) (xs : List A) → ((x : A) → Among x xs → f x ≤ n) → total (map f xs) ≤ n * length xs
-unfolding total
-total-few f n [] h = omega arith
-total-few f n (x ∷ xs) h = omega (arith, h x (List·Memᴰ·head refl), total-few f n xs (λ y m. h y (List·Memᴰ·tail m)))
-
-few-at : (p : Pool) (s : SlotNumber) → length (entriesAt p s) ≤ most → length (recordsAt p s) ≤ most
-unfolding recordsAt
-few-at p s h = go (isLeaf (nodeAt p s))
-  where
-    go : (b : Bool) → length (cond b (map recordOf (entriesAt p s)) []) ≤ most
-    go true = omega (arith, length-map (entriesAt p s) recordOf, h)
-    go false = omega arith
-
-those-fewer : {A : Type 0} (t : A → Bool) (xs : List A) → length (those t xs) ≤ length xs
-those-fewer t xs = rw (those-all (those t xs), those-all xs) at (count-fewer (λ x. true) t xs)
-
-size-slots : (p : Pool) → length (slotNumbers p) ≡ length (p .slots)
-unfolding slotNumbers
-size-slots p = length-map (upFrom 1 (length (p .slots))) slot ∙ length-upFrom 1 (length (p .slots))
-
-module _ (w : List ℤ) (right : validLength w ≡ true) where
-  -- 8 for each slot at most
-  pub stored-few : length (stored (read w)) ≤ 8 * slotCount w
-  stored-few =
-      let few = total-few (λ s. length (recordsAt (read w) s)) 8 (slotNumbers (read w))
-      (λ s m. let i = slots-are (read w) s .0 m in few-at (read w) s (slot-few (record { right = right; low = i .low; high = omega (arith, i .high, read-slots w) }))) in
-      omega (arith, few, ap length (stored-are (read w)), length-joined (recordsAt (read w)) (slotNumbers (read w)), size-slots (read w), read-slots w)
-
+module _ (w : List ℤ) where
   -- a search finds no more than that
   pub found-few : Whole (read w) → (window : Rect) → length (foundFromRoot (read w) window) ≤ 8 * slotCount w
   found-few whole window =
-      omega (arith, stored-few, alike-length (found-alike (read w) window whole), those-fewer (recordMeets window) (stored (read w)))
+      omega (arith, stored-few w, alike-length (found-alike (read w) window whole), those-fewer (recordMeets window) (stored (read w)))

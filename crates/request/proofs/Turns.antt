@@ -1,4 +1,4 @@
--- A turn in words: what is refused leaves the words; what a change leaves is sound again.
+-- A turn in words: what is refused leaves the words; what a change leaves is sound again, since insert, delete and update leave a whole pool.
 use mathlib.Core.Path.{_≡_, refl, sym, subst, _∙_}
 use mathlib.Core.Logic.{_≢_}
 use mathlib.Core.Bool.{Bool, true, false}
@@ -35,7 +35,7 @@ use Rattle.delete.specs.Removed.{Removes}
 use Rattle.request.specs.Serving.{Ready, Changes, ChangesTo, replied, came, TakenBack, enoughFor, otherHeld}
 use Rattle.rules_laws.proofs.Splits.{ours-lawful}
 use Rattle.insert_laws.proofs.Whole.{insert-whole}
-use Rattle.delete_laws.proofs.Delete.{delete-whole, delete-fits}
+use Rattle.delete_laws.proofs.Delete.{delete-whole, delete-fits, pool-left}
 use Rattle.delete_laws.proofs.Update.{update-whole, update-fits}
 use Rattle.request.proofs.Rows.{insert-0, delete-0, update-0}
 use Rattle.request.proofs.Sounds.{sound-fit, sound-tree, fit-sound}
@@ -120,9 +120,9 @@ pub enough-is : (n h : ℕ) → n ≡ 2 * (h - 1) → n * (h + n) + (h + n + 1) 
 unfolding enoughFor deleteRoom roomFor
 enough-is n h e = rw e (omega arith)
 
-pub back-few : (n h : ℕ) → n ≤ 14 → h ≤ 8 → n * (h + n) ≤ 308
+pub back-small : (n h : ℕ) → n ≤ 14 → h ≤ 8 → n * (h + n) ≤ 308
 unfolding roomFor
-back-few n h a b = room-least n 14 8 h a b
+back-small n h a b = room-least n 14 8 h a b
 
 -- ---- the three changes
 
@@ -137,45 +137,36 @@ module _ (p : Pool) (f : FreeSlots) (many : f .count ≡ freeCount p) (n : enoug
 
 module _ (w : List ℤ) (f : FreeSlots) (r : Ready w f) where
   -- a row of the table applies
-  pub off : (a : Asked) (reply : Reply) → ((filled room : ℕ) → request ours (read w) filled room a ≡ turn (read w) reply [])
+  pub row-applies : (a : Asked) (reply : Reply) → ((filled room : ℕ) → request ours (read w) filled room a ≡ turn (read w) reply [])
       → ChangesTo w a (replied reply f) w
-  off a reply h filled room = stays w f r _ reply (h filled room)
+  row-applies a reply h filled room = stays w f r _ reply (h filled room)
 
   module _ (p : Record) (a : valid (p .rect) ≡ true) (b : goodNumber (p .number) ≡ true) where
-    pub insert-made : held (read w) p ≡ false → (o : Outcome) (v : List ℤ)
+    pub insert-changes : held (read w) p ≡ false → (o : Outcome) (v : List ℤ)
         → length v ≡ length w → Leaves w (insertRecord ours (read w) p) o v → ChangesTo w (Insert p) (came o f) v
-    insert-made d o v e h filled room =
+    insert-changes d o v e h filled room =
         subst (λ (t : Turn). Changes (length w) t (came o f) v) (sym (insert-0 (read w) filled room p a b d))
-        (inserted w f r (insertRecord ours (read w) p) (go (insertRecord ours (read w) p) refl) o v e h)
-      where
-        go : (c : Change) → insertRecord ours (read w) p ≡ c → EachPool Whole c
-        go (Done q) e = insert-whole ours ours-lawful (read w) (ready-whole w f r) p a b q e
-        go NoneFree e = tt
+        (inserted w f r (insertRecord ours (read w) p)
+        (pool-left Whole (insertRecord ours (read w) p) (insert-whole ours ours-lawful (read w) (ready-whole w f r) p a b)) o v e h)
 
     module _ (d : held (read w) p ≡ true) (kept : List ℤ) (copied : ltb (f .count) (enoughFor (read w .height)) ≡ true → kept ≡ w) where
-      pub delete-made : (o : Outcome) (v : List ℤ) → Removes w (deleteRecord ours (read w) p) o v
+      pub delete-changes : (o : Outcome) (v : List ℤ) → Removes w (deleteRecord ours (read w) p) o v
           → (u : List ℤ) → length u ≡ length w → TakenBack o v kept u → ChangesTo w (Delete p) (came o f) u
-      delete-made o v h u e back filled room =
+      delete-changes o v h u e back filled room =
           subst (λ (t : Turn). Changes (length w) t (came o f) u) (sym (delete-0 (read w) filled room p a b d))
-          (removed w f r (enoughFor (read w .height)) kept copied (deleteRecord ours (read w) p) (go (deleteRecord ours (read w) p) refl) enough o v h u e back)
+          (removed w f r (enoughFor (read w .height)) kept copied (deleteRecord ours (read w) p)
+          (pool-left Whole (deleteRecord ours (read w) p) (delete-whole ours ours-lawful (read w) (ready-whole w f r) p)) enough o v h u e back)
         where
-          go : (c : Change) → deleteRecord ours (read w) p ≡ c → EachPool Whole c
-          go (Done q) e = delete-whole ours ours-lawful (read w) (ready-whole w f r) p q e
-          go NoneFree e = tt
-
           enough : enoughFor (read w .height) ≤ f .count → deleteRecord ours (read w) p ≢ NoneFree
           enough n = delete-fits ours (read w) p (ready-whole w f r) ours-lawful (less-enough (read w) f (r .known .many) n)
 
       module _ (new : Rect) (c : valid new ≡ true) (other : otherHeld (read w) p new ≡ false) where
-        pub update-made : (o : Outcome) (v : List ℤ) → Removes w (updateRecord ours (read w) p new) o v
+        pub update-changes : (o : Outcome) (v : List ℤ) → Removes w (updateRecord ours (read w) p new) o v
             → (u : List ℤ) → length u ≡ length w → TakenBack o v kept u → ChangesTo w (Update p new) (came o f) u
-        update-made o v h u e back filled room =
+        update-changes o v h u e back filled room =
             subst (λ (t : Turn). Changes (length w) t (came o f) u) (sym (update-0 (read w) filled room p new a c b d other))
-            (removed w f r (enoughFor (read w .height)) kept copied (updateRecord ours (read w) p new) (go (updateRecord ours (read w) p new) refl) enough o v h u e back)
+            (removed w f r (enoughFor (read w .height)) kept copied (updateRecord ours (read w) p new)
+            (pool-left Whole (updateRecord ours (read w) p new) (update-whole ours (read w) p new ours-lawful (ready-whole w f r) d c)) enough o v h u e back)
           where
-            go : (c : Change) → updateRecord ours (read w) p new ≡ c → EachPool Whole c
-            go (Done q) e = update-whole ours (read w) p new ours-lawful (ready-whole w f r) d c q e
-            go NoneFree e = tt
-
             enough : enoughFor (read w .height) ≤ f .count → updateRecord ours (read w) p new ≢ NoneFree
             enough n = update-fits ours (read w) p new ours-lawful (ready-whole w f r) d c (all-enough (read w) f (r .known .many) n)

@@ -1,6 +1,6 @@
--- Tests: a conjunction and its parts, a negation, two tests that hold together.
+-- Tests: a conjunction and its parts, a disjunction that fails, a negation, two tests that hold together. By cases of the tests.
 use mathlib.Core.Path.{_≡_, refl, sym, ap, _∙_}
-use mathlib.Core.Bool.{Bool, true, false, cond, not, _&&_}
+use mathlib.Core.Bool.{Bool, true, false, cond, not, _&&_, _||_, true≢false}
 use Prim.Native.Nat.{ℕ, _≤_, _<_}
 use lib.Dec.{leb}
 use borrow.Author.Tests.{leb-true, leb-false, le-leb, lt-leb}
@@ -11,6 +11,10 @@ and-both false q e = (e, ap (λ (b : Bool). cond b true q) e)
 
 pub both-and : (p q : Bool) → p ≡ true → q ≡ true → (p && q) ≡ true
 both-and p q e f = rw (e, f)
+
+pub or-neither : (p q : Bool) → (p || q) ≡ false → (p ≡ false) × (q ≡ false)
+or-neither true q e = absurd (true≢false e)
+or-neither false q e = (refl, e)
 
 pub not-true : (b : Bool) → not b ≡ true → b ≡ false
 not-true true e = sym e

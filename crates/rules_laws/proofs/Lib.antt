@@ -2,8 +2,11 @@
 pub mod Orders
 pub mod Places
 pub mod Parts
+pub mod Sums
+pub mod Joins
 pub mod Earliest
 pub mod Picks
 pub mod Splits
 pub mod Bools
+pub mod Everies
 pub mod Turns

@@ -1,5 +1,5 @@
 -- Comparisons that know ties. Each choice of document 01 compares numbers, and a later rule decides only where the earlier ones
--- find no difference, so every comparison here is that of numbers, one behind the other.
+-- find no difference, so every comparison here is that of numbers, one after another.
 use mathlib.Core.Path.{_≡_, refl, sym, ap, _∙_}
 use mathlib.Core.Logic.{_↔_, Iff·rfl, _⊎_, inl, inr, ⊎-elim}
 use mathlib.Core.Bool.{Bool, true, false, true≢false}
@@ -90,6 +90,9 @@ not-less (pos a) (pos b) p = le-leb a b (ltb-false b a p)
 not-less (pos a) (negsuc b) p = sym p
 not-less (negsuc a) (pos b) p = refl
 not-less (negsuc a) (negsuc b) p = le-leb b a (ltb-false a b p)
+
+pub at-most-self : (a : ℤ) → leZ a a ≡ true
+at-most-self a = not-less a a (not-itself ltZ-strict a)
 
 pub both-at-most : (a b : ℤ) → leZ a b ≡ true → leZ b a ≡ true → a ≡ b
 both-at-most (pos a) (pos b) p q = ap pos (omega (arith, leb-true a b p, leb-true b a q))

@@ -1,18 +1,19 @@
 -- Which members of a list a test holds of. Two lists together are a third where every test holds of as many, so a part is proved by
 -- counting: a member counts alike wherever it stands.
 use mathlib.Core.Path.{_≡_, refl, sym, ap, _∙_}
-use mathlib.Core.Logic.{_↔_, _≢_, ⊎-elim}
-use mathlib.Core.Bool.{Bool, true, false, not}
+use mathlib.Core.Logic.{_↔_, _≢_, _⊎_, inl, inr, ⊎-elim}
+use mathlib.Core.Bool.{Bool, true, false, not, _&&_}
 use mathlib.Core.List.{List, [], _∷_, _++_, map, List·Memᴰ·head, List·Memᴰ·tail, List·Memᴰ·not-nil, List·Memᴰ·cases-cons}
 use Prim.Native.Nat.{ℕ, zero, suc, _+_, _≤_, _<_}
 use native.Mathlib.Omega.{arith}
 use lib.Dec.{eqb}
-use lib.ListN.{length, getD, length-append, length-map}
+use lib.ListN.{length, getD, set, length-append, length-map, length-set}
+use lib.Seq.{getD-set-same}
 use borrow.Author.Tests.{eqb-true, eqb-false, ne-eqb, not-true}
 use Rattle.rules.specs.Lists.{those, upFrom, without}
 use Rattle.rules.specs.Split.{leaving}
 use Rattle.rules.specs.Lawful.{Parted}
-use Rattle.rules_laws.proofs.Places.{Among, nothing}
+use Rattle.rules_laws.proofs.Places.{Among, place-of, nothing}
 
 module _ {A : Type 0} where
   module _ (p : A → Bool) where
@@ -73,6 +74,27 @@ module _ {A : Type 0} where
   pub among-those : (p : A → Bool) (x : A) (xs : List A) → Among x (those p xs) ↔ (Among x xs × (p x ≡ true))
   among-those p x xs = (among-those-to p xs, λ h. among-those-from p (h .0) (h .1))
 
+  pub those-every : (t : A → Bool) (xs : List A) → ((x : A) → Among x xs → t x ≡ true) → those t xs ≡ xs
+  those-every t [] h = those-none t
+  those-every t (x ∷ xs) h = rw (those-yes t x xs (h x (List·Memᴰ·head refl)), those-every t xs (λ y m. h y (List·Memᴰ·tail m)))
+
+  pub those-nothing : (t : A → Bool) (xs : List A) → ((x : A) → Among x xs → t x ≡ false) → those t xs ≡ []
+  those-nothing t [] h = those-none t
+  those-nothing t (x ∷ xs) h = those-no t x xs (h x (List·Memᴰ·head refl)) ∙ those-nothing t xs (λ y m. h y (List·Memᴰ·tail m))
+
+  -- one test, and then another
+  pub those-and : (a b : A → Bool) (xs : List A) → those (λ x. a x && b x) xs ≡ those b (those a xs)
+  those-and a b [] = rw (those-none a, those-none b, those-none (λ x. a x && b x))
+  those-and a b (x ∷ xs) = go (a x) (b x) refl refl (those-and a b xs)
+    where
+      both : A → Bool
+      both y = a y && b y
+
+      go : (s t : Bool) → a x ≡ s → b x ≡ t → those both xs ≡ those b (those a xs) → those both (x ∷ xs) ≡ those b (those a (x ∷ xs))
+      go true true p q e = rw (those-yes both x xs (rw (p, q)), those-yes a x xs p, those-yes b x (those a xs) q, e)
+      go true false p q e = rw (those-no both x xs (rw (p, q)), those-yes a x xs p, those-no b x (those a xs) q, e)
+      go false t p q e = rw (those-no both x xs (rw p), those-no a x xs p, e)
+
   -- ---- parts
 
   pub parted-length : {whole one two : List A} → Parted whole one two → length one + length two ≡ length whole
@@ -100,6 +122,12 @@ module _ {A : Type 0} where
   pub those-parted : (p : A → Bool) (xs : List A) → Parted xs (those p xs) (those (λ x. not (p x)) xs)
   those-parted p xs = record { each = λ q. count-both p q xs }
 
+  pub those-fewer : (t : A → Bool) (xs : List A) → length (those t xs) ≤ length xs
+  those-fewer t xs = omega (arith, parted-length (those-parted t xs))
+
+  pub count-fewer : (q t : A → Bool) (xs : List A) → length (those q (those t xs)) ≤ length (those q xs)
+  count-fewer q t xs = omega (arith, those-parted t xs .each q)
+
   -- the member at a place, and the others
   count-without : (p : A → Bool) (xs : List A) (i : ℕ) (d : A) → i < length xs
       → length (those p (getD xs i d ∷ [])) + length (those p (without i xs)) ≡ length (those p xs)
@@ -114,6 +142,42 @@ module _ {A : Type 0} where
   pub length-without : (xs : List A) (i : ℕ) → i < length xs → suc (length (without i xs)) ≡ length xs
   length-without (x ∷ xs) i h = omega (arith, parted-length (without-parted (x ∷ xs) i x h))
   length-without [] i h = absurd (omega arith)
+
+  -- ---- a list at one place
+
+  -- a member put in another's place: the others stay
+  pub without-set : (xs : List A) (i : ℕ) (y : A) → without i (set xs i y) ≡ without i xs
+  unfolding without
+  without-set [] i y = refl
+  without-set (x ∷ xs) zero y = refl
+  without-set (x ∷ xs) (suc i) y = ap (λ (l : List A). x ∷ l) (without-set xs i y)
+
+  -- a member put in another's place
+  pub count-set : (q : A → Bool) (xs : List A) (i : ℕ) (y d : A) → i < length xs
+      → length (those q (set xs i y)) + length (those q (getD xs i d ∷ [])) ≡ length (those q xs) + length (those q (y ∷ []))
+  count-set q xs i y d h =
+      let new = rw (getD-set-same xs i y d, without-set xs i y) at (without-parted (set xs i y) i d (rw length-set h)) in
+      omega (arith, new .each q, without-parted xs i d h .each q)
+
+  pub among-set : (xs : List A) (i : ℕ) (x y : A) → Among x (set xs i y) → (x ≡ y) ⊎ Among x (without i xs)
+  unfolding without
+  among-set [] i x y m = absurd (List·Memᴰ·not-nil m)
+  among-set (z ∷ zs) zero x y m = List·Memᴰ·cases-cons m
+  among-set (z ∷ zs) (suc i) x y m =
+      ⊎-elim (λ e. inr (List·Memᴰ·head e)) (λ n. ⊎-elim inl (λ k. inr (List·Memᴰ·tail k)) (among-set zs i x y n)) (List·Memᴰ·cases-cons m)
+
+  pub among-without : (xs : List A) (i : ℕ) (x : A) → Among x (without i xs)
+      → (j : ℕ) × (j < length xs) × (j ≢ i) × ((d : A) → getD xs j d ≡ x)
+  unfolding without
+  among-without [] i x m = absurd (List·Memᴰ·not-nil m)
+  among-without (z ∷ zs) zero x m = let q = place-of m in (suc (q .0), omega (arith, q .1), (λ e. omega arith), q .2)
+  among-without (z ∷ zs) (suc i) x m = go (List·Memᴰ·cases-cons m) (among-without zs i x)
+    where
+      go : (x ≡ z) ⊎ Among x (without i zs)
+          → (Among x (without i zs) → (j : ℕ) × (j < length zs) × (j ≢ i) × ((d : A) → getD zs j d ≡ x))
+          → (j : ℕ) × (j < length (z ∷ zs)) × (j ≢ suc i) × ((d : A) → getD (z ∷ zs) j d ≡ x)
+      go (inl e) f = (zero, omega arith, (λ k. omega arith), λ d. sym e)
+      go (inr n) f = let q = f n in let h = q .2 in (suc (q .0), omega (arith, q .1), (λ k. h (omega arith)), q .3)
 
 module _ {A B : Type 0} (f : A → B) where
   pub those-map : (p : B → Bool) (xs : List A) → those p (map f xs) ≡ map f (those (λ x. p (f x)) xs)
@@ -159,9 +223,9 @@ upFrom-most i (suc n) k = go (eqb i k) refl (upFrom-most (suc i) n k)
 -- ---- leaving
 
 -- the one place of i is left out: i parts from the others
-only : (i : ℕ) (l : List ℕ) → length (those (is i) l) ≡ 1 → those (is i) l ≡ i ∷ []
-only i [] h = absurd (omega (arith, ap length (those-none (is i))))
-only i (x ∷ l) h = go (eqb x i) refl (only i l)
+only-one : (i : ℕ) (l : List ℕ) → length (those (is i) l) ≡ 1 → those (is i) l ≡ i ∷ []
+only-one i [] h = absurd (omega (arith, ap length (those-none (is i))))
+only-one i (x ∷ l) h = go (eqb x i) refl (only-one i l)
   where
     go : (t : Bool) → eqb x i ≡ t → (length (those (is i) l) ≡ 1 → those (is i) l ≡ i ∷ []) → those (is i) (x ∷ l) ≡ i ∷ []
     go true e f =
@@ -172,7 +236,7 @@ only i (x ∷ l) h = go (eqb x i) refl (only i l)
 
 pub leaving-parted : (i : ℕ) (l : List ℕ) → length (those (is i) l) ≡ 1 → Parted l (i ∷ []) (leaving i l)
 unfolding leaving
-leaving-parted i l h = rw (only i l h) at (those-parted (is i) l)
+leaving-parted i l h = rw (only-one i l h) at (those-parted (is i) l)
 
 pub length-leaving : (i : ℕ) (l : List ℕ) → length (those (is i) l) ≡ 1 → suc (length (leaving i l)) ≡ length l
 length-leaving i l h = omega (arith, parted-length (leaving-parted i l h))

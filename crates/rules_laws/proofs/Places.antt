@@ -1,5 +1,5 @@
 -- What stands at the places of a list, and what is so of each member. All is by induction on the list, a place at a time.
-use mathlib.Core.Path.{_≡_, refl, sym, ap, _∙_}
+use mathlib.Core.Path.{_≡_, refl, sym, ap, ap₂, subst, _∙_}
 use mathlib.Core.List.{List, [], _∷_, _++_, map, List·Memᴰ, List·Memᴰ·head, List·Memᴰ·tail, Memᴰ·cast}
 use Prim.Native.Nat.{ℕ, zero, suc, _+_, _-_, _≤_, _<_}
 use native.Mathlib.Omega.{arith}
@@ -30,6 +30,11 @@ module _ {A : Type 0} where
   nothing [] h = refl
   nothing (x ∷ xs) h = absurd (omega arith)
 
+-- two functions that agree on the members
+pub map-same : {A B : Type 0} (f g : A → B) (xs : List A) → ((x : A) → Among x xs → f x ≡ g x) → map f xs ≡ map g xs
+map-same f g [] h = refl
+map-same {B} f g (x ∷ xs) h = ap₂ (λ (y : B) (ys : List B). y ∷ ys) (h x (List·Memᴰ·head refl)) (map-same f g xs (λ y m. h y (List·Memᴰ·tail m)))
+
 -- ---- the numbers from i on
 
 pub length-upFrom : (i n : ℕ) → length (upFrom i n) ≡ n
@@ -48,7 +53,7 @@ upFrom-among i n k a b =
     let h : k - i < n = omega arith in
     Memᴰ·cast (omega (arith, getD-upFrom i n (k - i) 0 h)) (at-place (upFrom i n) (k - i) 0 (rw length-upFrom h))
 
-map-next : {A : Type 0} (f : ℕ → A) (i n : ℕ) → map f (upFrom (suc i) n) ≡ map (λ k. f (suc k)) (upFrom i n)
+pub map-next : {A : Type 0} (f : ℕ → A) (i n : ℕ) → map f (upFrom (suc i) n) ≡ map (λ k. f (suc k)) (upFrom i n)
 unfolding upFrom
 map-next f i zero = refl
 map-next {A} f i (suc n) = ap (λ (l : List A). f (suc i) ∷ l) (map-next f (suc i) n)
@@ -78,6 +83,14 @@ module _ {A : Type 0} (P : A → Type 0) where
 pub each-also : {A : Type 0} (P Q : A → Type 0) → ((x : A) → P x → Q x) → (xs : List A) → Each P xs → Each Q xs
 each-also P Q f [] a = tt
 each-also P Q f (x ∷ xs) a = (f x (a .0), each-also P Q f xs (a .1))
+
+pub each-of : {A : Type 0} (P : A → Type 0) {x : A} {xs : List A} → Each P xs → Among x xs → P x
+each-of P {xs = y ∷ ys} a (List·Memᴰ·head e) = subst P (sym e) (a .0)
+each-of P {xs = y ∷ ys} a (List·Memᴰ·tail m) = each-of P (a .1) m
+
+pub each-among : {A : Type 0} (P : A → Type 0) (xs : List A) → ((x : A) → Among x xs → P x) → Each P xs
+each-among P [] h = tt
+each-among P (x ∷ xs) h = (h x (List·Memᴰ·head refl), each-among P xs (λ y m. h y (List·Memᴰ·tail m)))
 
 pub each-upFrom : {A : Type 0} (P : A → Type 0) (f : ℕ → A) (i n : ℕ) → ((k : ℕ) → i ≤ k → k < i + n → P (f k)) → Each P (map f (upFrom i n))
 unfolding upFrom

@@ -1,4 +1,4 @@
--- `earliestBest` one candidate at a time, as a loop goes through them.
+-- `earliestBest`, and the numbers below one, a candidate at a time, as a loop goes through them: both are defined so.
 use mathlib.Core.Path.{_≡_, refl}
 use mathlib.Core.Bool.{Bool, cond}
 use mathlib.Core.List.{List, [], _∷_}

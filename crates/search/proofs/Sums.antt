@@ -9,7 +9,8 @@ use native.Mathlib.Omega.{arith}
 use lib.ListN.{length, getD, drop, drop-of-length-le}
 use lib.Seq.{drop-cons}
 use Rattle.rules.specs.Lists.{joined, total}
-use Rattle.sound_laws.proofs.Joins.{joined-none, joined-more, total-none, total-more}
+use Rattle.rules_laws.proofs.Joins.{joined-none, joined-more}
+use Rattle.rules_laws.proofs.Sums.{total-none, total-more}
 
 module _ {A : Type 0} (f : A → ℕ) where
   module _ (xs : List A) (i : ℕ) where

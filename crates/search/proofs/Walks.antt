@@ -19,10 +19,10 @@ use Rattle.rules.specs.Choose.{rectFrom}
 use Rattle.rules.specs.Pool.{Pool, rects, noEntry, entriesAt, entryFrom, entryAt, childOf, recordOf}
 use Rattle.rules.specs.Layout.{validLength, read}
 use Rattle.rules.specs.Search.{foundIn, openedIn}
+use Rattle.rules_laws.proofs.Sums.{total-those, total-zero}
+use Rattle.rules_laws.proofs.Joins.{joined-those}
 use Rattle.pool.proofs.Parts.{rect-entry}
-use Rattle.search_laws.proofs.Lists.{total-those}
 use Rattle.search_laws.proofs.Clauses.{found-leaf, found-inner, opened-none, opened-leaf, opened-inner}
-use Rattle.sound_laws.proofs.Joins.{joined-those, total-zero}
 use Rattle.search.specs.State.{openedBelow, heldBelow, foundBelow, openedFrom, foundFrom}
 use Rattle.search.proofs.Sums.{total-end, total-next, total-most, joined-end, joined-next, joined-ones}
 use Rattle.nodes.proofs.Slots.{same-entries, most-entries}

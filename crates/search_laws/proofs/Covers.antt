@@ -11,7 +11,7 @@ use Rattle.rules.specs.declared.Entry.{Entry}
 use Rattle.rules.specs.Geometry.{meets, smaller, larger, cover, coverAll}
 use Rattle.rules.specs.Pool.{rects, coverOf}
 use Rattle.rules_laws.proofs.Bools.{and-both}
-use Rattle.rules_laws.proofs.Orders.{never-both, not-itself, ltZ-strict, not-less}
+use Rattle.rules_laws.proofs.Orders.{never-both, ltZ-strict, not-less, at-most-self}
 use Rattle.rules_laws.proofs.Places.{Among}
 
 -- ---- numbers
@@ -21,9 +21,6 @@ not-more (pos a) (pos b) p = le-ltb b a (leb-true a b p)
 not-more (pos a) (negsuc b) p = never-both p refl
 not-more (negsuc a) (pos b) p = refl
 not-more (negsuc a) (negsuc b) p = le-ltb a b (leb-true b a p)
-
-at-most-self : (a : ℤ) → leZ a a ≡ true
-at-most-self a = not-less a a (not-itself ltZ-strict a)
 
 at-most-on : (a b c : ℤ) → leZ a b ≡ true → leZ b c ≡ true → leZ a c ≡ true
 at-most-on a b c p q = not-less a c (ltZ-strict .onward c b a (not-more b c q) (not-more a b p))

@@ -16,14 +16,13 @@ use Rattle.rules.specs.Pool.{Pool, slotNumbers, nodeAt, stored}
 use Rattle.rules.specs.Sound.{inUse, isRoot, soundPool}
 use Rattle.rules.specs.Search.{ordered, foundFromRoot, found, opened}
 use Rattle.rules_laws.proofs.Places.{Among}
-use Rattle.rules_laws.proofs.Parts.{among-those}
+use Rattle.rules_laws.proofs.Parts.{among-those, those-and, count-fewer}
 use Rattle.sound_laws.specs.Tree.{treeSlots, Whole}
 use Rattle.sound_laws.proofs.Whole.{used-in}
 use Rattle.sound_laws.proofs.Heights.{height-records}
 use Rattle.sound_laws.proofs.Sound.{sound-whole}
 use Rattle.search_laws.specs.Window.{recordMeets, nodeMeets, otherNode}
 use Rattle.search_laws.specs.Order.{Alike}
-use Rattle.search_laws.proofs.Lists.{those-and, count-fewer}
 use Rattle.search_laws.proofs.Found.{found-alike}
 use Rattle.search_laws.proofs.Opened.{opened-tree}
 use Rattle.search_laws.proofs.Order.{alike-back, alike-among, ordered-alike, ordered-same}

@@ -12,17 +12,16 @@ use Rattle.rules.specs.Lists.{those, joined}
 use Rattle.rules.specs.Geometry.{meets}
 use Rattle.rules.specs.Pool.{Pool, entriesAt, childOf, recordOf, coverOf, stored}
 use Rattle.rules.specs.Search.{foundIn, foundFromRoot}
-use Rattle.rules_laws.proofs.Places.{Among}
-use Rattle.rules_laws.proofs.Parts.{those-map}
+use Rattle.rules_laws.proofs.Places.{Among, map-same}
+use Rattle.rules_laws.proofs.Parts.{those-map, those-nothing, those-and}
+use Rattle.rules_laws.proofs.Joins.{among-joined, joined-those, those-joined}
 use Rattle.sound_laws.specs.Tree.{recordsIn, treeRecords, Tree, Whole}
-use Rattle.sound_laws.proofs.Joins.{map-same, among-joined, joined-those}
 use Rattle.sound_laws.proofs.Walk.{records-leaf, records-inner, no-tree, inner-of}
 use Rattle.sound_laws.proofs.Whole.{stored-in}
 use Rattle.search_laws.specs.Window.{recordMeets, nodeMeets}
 use Rattle.search_laws.specs.Order.{Alike}
 use Rattle.search_laws.proofs.Covers.{HoldsRect, holds-on, holds-misses, cover-of-holds}
 use Rattle.search_laws.proofs.Clauses.{found-leaf, found-inner}
-use Rattle.search_laws.proofs.Lists.{those-nothing, those-and, those-joined}
 
 module _ (p : Pool) where
   -- a tight entry's rectangle, and so its node's cover, holds what its child's cover holds

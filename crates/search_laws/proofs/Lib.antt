@@ -1,6 +1,5 @@
 -- Search: exactly what is there, and exactly what was opened.
 pub mod Covers
-pub mod Lists
 pub mod Clauses
 pub mod Found
 pub mod Opened

@@ -15,17 +15,17 @@ use Rattle.rules.specs.Geometry.{meets}
 use Rattle.rules.specs.Pool.{Pool, entriesAt, childOf, coverOf}
 use Rattle.rules.specs.Sound.{isRoot}
 use Rattle.rules.specs.Search.{openedIn, opened}
-use Rattle.rules_laws.proofs.Places.{Among, nothing}
-use Rattle.rules_laws.proofs.Parts.{those-yes, those-none, those-parted, count-cons}
+use Rattle.rules_laws.proofs.Places.{Among, nothing, map-same}
+use Rattle.rules_laws.proofs.Parts.{those-yes, those-none, those-parted, count-cons, those-nothing}
+use Rattle.rules_laws.proofs.Joins.{count-joined}
+use Rattle.rules_laws.proofs.Sums.{total-those}
 use Rattle.sound_laws.specs.Tree.{slotsIn, treeSlots, Tree, Whole}
 use Rattle.sound_laws.proofs.Tests.{root-is}
-use Rattle.sound_laws.proofs.Joins.{map-same, count-joined}
 use Rattle.sound_laws.proofs.Walk.{slots-leaf, slots-inner, no-tree, inner-of, among-cases}
 use Rattle.sound_laws.proofs.Whole.{all-once}
 use Rattle.search_laws.specs.Window.{nodeMeets}
 use Rattle.search_laws.proofs.Covers.{HoldsRect, holds-self, holds-on, holds-misses}
 use Rattle.search_laws.proofs.Clauses.{opened-leaf, opened-inner}
-use Rattle.search_laws.proofs.Lists.{those-nothing, total-those}
 use Rattle.search_laws.proofs.Found.{child-holds}
 
 module _ (p : Pool) where

@@ -1,28 +1,21 @@
 -- `every`, one after the other, as a loop or a recursion goes through a list.
-use mathlib.Core.Path.{_≡_, refl}
+use mathlib.Core.Path.{_≡_}
 use mathlib.Core.Bool.{Bool, true, false, _&&_}
-use mathlib.Core.List.{List, [], _∷_}
+use mathlib.Core.List.{List}
 use Prim.Native.Nat.{ℕ, suc, _+_, _≤_, _<_}
 use native.Mathlib.Numerals.{add-one}
 use lib.ListN.{length, getD, drop, drop-of-length-le}
 use lib.Seq.{drop-cons}
 use Rattle.rules.specs.Lists.{every}
+use Rattle.rules_laws.proofs.Everies.{every-nil, every-cons}
 
 module _ {A : Type 0} (p : A → Bool) where
-  every-cons : (x : A) (xs : List A) → every p (x ∷ xs) ≡ (p x && every p xs)
-  unfolding every
-  every-cons x xs = refl
-
-  every-nil : every p [] ≡ true
-  unfolding every
-  every-nil = refl
-
   module _ (xs : List A) (i : ℕ) where
     pub every-more : (d : A) → i < length xs → every p (drop i xs) ≡ (p (getD xs i d) && every p (drop (i + 1) xs))
-    every-more d h = rw (drop-cons xs i d h, add-one i) (every-cons (getD xs i d) (drop (suc i) xs))
+    every-more d h = rw (drop-cons xs i d h, add-one i) (every-cons p (getD xs i d) (drop (suc i) xs))
 
     pub every-none : length xs ≤ i → every p (drop i xs) ≡ true
-    every-none h = rw (drop-of-length-le xs h) every-nil
+    every-none h = rw (drop-of-length-le xs h) (every-nil p)
 
     -- one that fails, and one that holds
     pub every-fails : (d : A) → i < length xs → p (getD xs i d) ≡ false → every p (drop i xs) ≡ false

@@ -10,8 +10,9 @@ use Rattle.rules.specs.declared.Entry.{Entry}
 use Rattle.rules.specs.Lists.{joined, total}
 use Rattle.rules.specs.Pool.{Pool, noEntry, entryFrom, entryAt, sameSlot, nodeAt, entriesAt, childOf}
 use Rattle.rules_laws.proofs.Places.{Among}
+use Rattle.rules_laws.proofs.Joins.{count-joined}
+use Rattle.rules_laws.proofs.Sums.{total-member, total-places}
 use Rattle.sound_laws.specs.Tree.{slotsIn, times, Once, Tree}
-use Rattle.sound_laws.proofs.Joins.{count-joined, total-member, total-places}
 use Rattle.sound_laws.proofs.Times.{among-times, times-more, times-self}
 use Rattle.sound_laws.proofs.Walk.{slots-leaf, slots-inner, no-tree, inner-of, tree-node, among-cases}
 

@@ -1,22 +1,22 @@
--- The pool slot by slot. What `rules` reads off the list of nodes, one node behind the other, is what each slot has, in slot order.
+-- The pool slot by slot. What `rules` reads off the list of nodes, one node after another, is what each slot has, in slot order.
 use mathlib.Core.Path.{_≡_, refl, sym, ap, subst, _∙_}
 use mathlib.Core.Logic.{_↔_}
 use mathlib.Core.Bool.{Bool, true, false, cond}
 use mathlib.Core.List.{List, [], _∷_, _++_, map, map-map, map-append, Memᴰ·map, Memᴰ·of-map}
-use Prim.Native.Nat.{ℕ, zero, suc, _+_, _≤_, _<_}
+use Prim.Native.Nat.{ℕ, suc, _+_, _≤_, _<_}
 use native.Mathlib.Omega.{arith}
 use lib.Dec.{leb}
-use lib.ListN.{length, getD}
+use lib.ListN.{length, getD, length-map}
 use Rattle.rules.specs.declared.SlotNumber.{SlotNumber}
 use Rattle.rules.specs.declared.Entry.{Entry}
 use Rattle.rules.specs.Lists.{those, joined, total, upFrom}
 use Rattle.rules.specs.Pool.{Node, Pool, slot, freeNode, sameSlot, slotNumbers, nodeAt, entriesAt, childOf, recordOf, isLeaf, stored}
 use Rattle.rules.specs.Sound.{innerEntries, parents}
-use Rattle.rules_laws.proofs.Places.{Among, place-of, length-upFrom, getD-upFrom, upFrom-among, map-upFrom}
+use Rattle.rules_laws.proofs.Places.{Among, place-of, length-upFrom, getD-upFrom, upFrom-among, map-upFrom, map-next, map-same}
 use Rattle.rules_laws.proofs.Parts.{those-yes, those-no, those-none, count-map, upFrom-most}
+use Rattle.rules_laws.proofs.Joins.{count-joined}
 use Rattle.sound_laws.specs.Tree.{slotsIn, childrenAt, recordsAt, times, Slot, Tree}
 use Rattle.sound_laws.proofs.Tests.{slot-or-not}
-use Rattle.sound_laws.proofs.Joins.{map-same, count-joined}
 use Rattle.sound_laws.proofs.Times.{among-times, not-among}
 use Rattle.sound_laws.proofs.Walk.{within-used}
 
@@ -36,6 +36,10 @@ among-slot p s m =
     let e : q .0 ≡ 1 + k .0 = sym (k .2 0) ∙ getD-upFrom 1 n (k .0) 0 l in
     let f : q .0 ≡ s .0 = ap (λ (t : SlotNumber). t .0) (q .2) in
     record { low = omega arith; high = omega arith }
+
+pub slots-size : (p : Pool) → length (slotNumbers p) ≡ length (p .slots)
+unfolding slotNumbers
+slots-size p = length-map (upFrom 1 (length (p .slots))) slot ∙ length-upFrom 1 (length (p .slots))
 
 pub slots-are : (p : Pool) (s : SlotNumber) → Among s (slotNumbers p) ↔ Slot p s
 slots-are p s = (among-slot p s, slot-among)
@@ -61,11 +65,6 @@ times-alike p l s t d h = go (slot-or-not p t)
     go (no n) = not-among t (slotsIn p l s) (λ m. n (within-used p l s t d m .slot)) ∙ sym (slot-never p t n)
 
 -- ---- the nodes in slot order
-
-map-next : {A : Type 0} (f : ℕ → A) (i n : ℕ) → map f (upFrom (suc i) n) ≡ map (λ k. f (suc k)) (upFrom i n)
-unfolding upFrom
-map-next f i zero = refl
-map-next {A} f i (suc n) = ap (λ (l : List A). f (suc i) ∷ l) (map-next f (suc i) n)
 
 pub nodes-are : (p : Pool) → map (nodeAt p) (slotNumbers p) ≡ p .slots
 unfolding nodeAt slotNumbers

@@ -11,9 +11,8 @@ use Rattle.rules.specs.declared.SlotNumber.{SlotNumber}
 use Rattle.rules.specs.declared.Entry.{Entry}
 use Rattle.rules.specs.Lists.{joined}
 use Rattle.rules.specs.Pool.{Node, Pool, freeNode, putNode, nodeAt, entriesAt, childOf, coverOf}
-use Rattle.rules_laws.proofs.Places.{Among}
+use Rattle.rules_laws.proofs.Places.{Among, map-same}
 use Rattle.sound_laws.specs.Tree.{slotsIn, recordsIn, Slot, NodeIn, InnerEntry, Tree}
-use Rattle.sound_laws.proofs.Joins.{map-same}
 use Rattle.sound_laws.proofs.Walk.{no-tree, leaf-of, inner-of, leaf-tree, inner-tree, top-among, below-among, within-used}
 
 pub entries-same : (p q : Pool) (t : SlotNumber) → nodeAt p t ≡ nodeAt q t → entriesAt p t ≡ entriesAt q t

@@ -13,16 +13,17 @@ use Rattle.rules.specs.Lists.{joined}
 use Rattle.rules.specs.Numbers.{least, mostSlots}
 use Rattle.rules.specs.Pool.{Pool, entriesAt, childOf, recordOf}
 use Rattle.rules_laws.proofs.Places.{Among}
+use Rattle.rules_laws.proofs.Sums.{total-least}
+use Rattle.rules_laws.proofs.Joins.{joined-length}
 use Rattle.sound_laws.specs.Tree.{slotsIn, recordsIn, treeSlots, Tree, Whole}
-use Rattle.sound_laws.proofs.Joins.{total-least, length-joined}
 use Rattle.sound_laws.proofs.Walk.{slots-leaf, slots-inner, records-leaf, records-inner, no-tree, inner-of}
-use Rattle.sound_laws.proofs.Whole.{stored-length, few-slots}
+use Rattle.sound_laws.proofs.Whole.{stored-length, tree-in-slots}
 
 -- k parts, or more, of c members each, or more
 many-parts : {A B : Type 0} (g : A → List B) (c k : ℕ) (xs : List A) → k ≤ length xs → ((x : A) → Among x xs → c ≤ length (g x))
     → c * k ≤ length (joined (map g xs))
 many-parts g c k xs h each =
-    omega (arith, length-joined g xs, total-least (λ x. length (g x)) c xs each, mul-le-mul-left c h)
+    omega (arith, joined-length g xs, total-least (λ x. length (g x)) c xs each, mul-le-mul-left c h)
 
 -- the fewest slots of a tree of l levels, each node with three entries: 1 + 3 + 9 ..
 fewestSlots : ℕ → ℕ
@@ -97,7 +98,7 @@ module _ (p : Pool) where
     height-nodes = top-slots (p .height) (p .root) (w .tree) (w .two)
 
     pub height-slots : 3 ^ (p .height - 1) ≤ length (p .slots)
-    height-slots = omega (arith, height-nodes, few-slots p w)
+    height-slots = omega (arith, height-nodes, tree-in-slots p w)
 
     -- "Height is 8 at most"
     pub height-eight : length (p .slots) ≤ mostSlots → p .height ≤ 8

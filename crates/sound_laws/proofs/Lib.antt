@@ -1,7 +1,6 @@
 -- Laws of the tree in a pool.
 pub mod Same
 pub mod Tests
-pub mod Joins
 pub mod Times
 pub mod Walk
 pub mod Frame
@@ -13,3 +12,4 @@ pub mod Heights
 pub mod Questions
 pub mod Sound
 pub mod Blank
+pub mod Free

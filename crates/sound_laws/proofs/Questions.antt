@@ -16,9 +16,10 @@ use Rattle.rules.specs.Sound.{isSlot, inUse, isRoot, heightSound, rootSound, le
 use Rattle.rules_laws.proofs.Bools.{and-both, both-and}
 use Rattle.rules_laws.proofs.Orders.{never-both}
 use Rattle.rules_laws.proofs.Places.{Among}
+use Rattle.rules_laws.proofs.Everies.{every-is}
 use Rattle.sound_laws.specs.Tree.{Slot, Used, LeafEntry}
 use Rattle.sound_laws.proofs.Same.{same-rect}
-use Rattle.sound_laws.proofs.Tests.{every-is, unless-is, or-is, slot-is, root-is, used-is, empty-is, leaf-entry-is}
+use Rattle.sound_laws.proofs.Tests.{unless-is, or-is, slot-is, root-is, used-is, empty-is, leaf-entry-is}
 use Rattle.sound_laws.proofs.Flat.{slots-are, node-among, among-node}
 
 -- ---- an inner entry and a node

@@ -2,10 +2,9 @@
 use mathlib.Core.Path.{_≡_, refl, ap}
 use mathlib.Core.Logic.{_↔_}
 use mathlib.Core.Bool.{true}
-use native.Mathlib.Omega.{arith}
-use lib.IntN.{ℤ, pos, negsuc}
+use lib.IntN.{ℤ}
 use lib.Signed.{leZ}
-use borrow.Author.Tests.{le-leb, eqb-true, eq-eqb}
+use borrow.Author.Tests.{eqb-true, eq-eqb}
 use Rattle.rules.specs.declared.Rect.{Rect}
 use Rattle.rules.specs.declared.SlotNumber.{SlotNumber}
 use Rattle.rules.specs.declared.Record.{Record}
@@ -13,17 +12,13 @@ use Rattle.rules.specs.Lists.{same}
 use Rattle.rules.specs.Geometry.{sameRect, samePair}
 use Rattle.rules.specs.Pool.{sameSlot}
 use Rattle.rules_laws.proofs.Bools.{and-both, both-and}
-use Rattle.rules_laws.proofs.Orders.{both-at-most}
-
-leZ-self : (a : ℤ) → leZ a a ≡ true
-leZ-self (pos a) = le-leb a a (omega arith)
-leZ-self (negsuc a) = le-leb a a (omega arith)
+use Rattle.rules_laws.proofs.Orders.{both-at-most, at-most-self}
 
 pub same-is : (a b : ℤ) → (same a b ≡ true) ↔ (a ≡ b)
 unfolding same
 same-is a b = (
   λ h. let q = and-both (leZ a b) (leZ b a) h in both-at-most a b (q .0) (q .1),
-  λ e. rw e (both-and (leZ b b) (leZ b b) (leZ-self b) (leZ-self b)),
+  λ e. rw e (both-and (leZ b b) (leZ b b) (at-most-self b) (at-most-self b)),
 )
 
 pub same-rect : (a b : Rect) → (sameRect a b ≡ true) ↔ (a ≡ b)

@@ -15,9 +15,9 @@ use Rattle.rules.specs.Numbers.{least}
 use Rattle.rules.specs.Pool.{Pool, sameSlot, slotNumbers, nodeAt, entriesAt, childOf, isLeaf}
 use Rattle.rules.specs.Sound.{isRoot, fewest, nodeSound, soundPool}
 use Rattle.rules_laws.proofs.Places.{Among}
+use Rattle.rules_laws.proofs.Sums.{total-zero}
 use Rattle.sound_laws.specs.Tree.{treeSlots, childrenAt, times, Slot, Used, Tree, Whole}
 use Rattle.sound_laws.proofs.Tests.{root-is}
-use Rattle.sound_laws.proofs.Joins.{total-zero}
 use Rattle.sound_laws.proofs.Times.{slot-discrete, times-self, times-other, times-among, not-among, total-same}
 use Rattle.sound_laws.proofs.Flat.{times-alike, parents-are}
 use Rattle.sound_laws.proofs.Walk.{child-of, no-tree, leaf-of, inner-of, leaf-tree, inner-tree, tree-node, within-used, child-tree, slots-parts}

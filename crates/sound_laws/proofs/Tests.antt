@@ -1,8 +1,7 @@
 -- What the tests of `rules` ask, as types. Each test is a comparison of numbers, or made of such.
-use mathlib.Core.Path.{_≡_, refl, ap, _∙_}
-use mathlib.Core.Logic.{_↔_, ⊎-elim}
+use mathlib.Core.Path.{_≡_, refl, ap}
+use mathlib.Core.Logic.{_↔_}
 use mathlib.Core.Bool.{Bool, true, false, not, _||_}
-use mathlib.Core.List.{List, [], _∷_, List·Memᴰ·head, List·Memᴰ·tail, List·Memᴰ·not-nil, List·Memᴰ·cases-cons}
 use Prim.Native.Nat.{_≤_}
 use native.Mathlib.Omega.{arith}
 use lib.Dec.{leb, eqb}
@@ -10,34 +9,15 @@ use lib.ListN.{length}
 use borrow.Author.Tests.{leb-true, le-leb, eqb-true, eqb-false, eq-eqb, ne-eqb, not-true}
 use Rattle.rules.specs.declared.SlotNumber.{SlotNumber}
 use Rattle.rules.specs.declared.Entry.{Entry}
-use Rattle.rules.specs.Lists.{every}
 use Rattle.rules.specs.Numbers.{goodNumber}
 use Rattle.rules.specs.Geometry.{valid}
 use Rattle.rules.specs.Pool.{Node, Pool, freeNode, numberOf, isLeaf}
 use Rattle.rules.specs.Sound.{isSlot, inUse, isRoot, freeEmpty, leafEntrySound}
 use Rattle.rules_laws.proofs.Bools.{and-both, both-and}
 use Rattle.rules_laws.proofs.Orders.{never-both}
-use Rattle.rules_laws.proofs.Places.{Among, nothing}
+use Rattle.rules_laws.proofs.Places.{nothing}
 use Rattle.sound_laws.specs.Tree.{Slot, LeafEntry}
 use Rattle.sound_laws.proofs.Same.{same-slot}
-
--- ---- of any kind
-
-module _ {A : Type 0} (p : A → Bool) where
-  every-to : (xs : List A) → every p xs ≡ true → (x : A) → Among x xs → p x ≡ true
-  unfolding every
-  every-to [] h x m = absurd (List·Memᴰ·not-nil m)
-  every-to (y ∷ ys) h x m =
-      let q = and-both (p y) (every p ys) h in
-      ⊎-elim (λ e. ap p e ∙ q .0) (every-to ys (q .1) x) (List·Memᴰ·cases-cons m)
-
-  every-from : (xs : List A) → ((x : A) → Among x xs → p x ≡ true) → every p xs ≡ true
-  unfolding every
-  every-from [] h = refl
-  every-from (y ∷ ys) h = both-and (p y) (every p ys) (h y (List·Memᴰ·head refl)) (every-from ys (λ x m. h x (List·Memᴰ·tail m)))
-
-  pub every-is : (xs : List A) → (every p xs ≡ true) ↔ ((x : A) → Among x xs → p x ≡ true)
-  every-is xs = (every-to xs, every-from xs)
 
 -- "unless a, b"
 pub unless-is : (a b : Bool) → ((not a || b) ≡ true) ↔ (a ≡ true → b ≡ true)

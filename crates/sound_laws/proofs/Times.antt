@@ -14,9 +14,9 @@ use Rattle.rules.specs.Pool.{sameSlot}
 use Rattle.rules_laws.proofs.Orders.{never-both}
 use Rattle.rules_laws.proofs.Places.{Among, place-of}
 use Rattle.rules_laws.proofs.Parts.{those-yes, those-no, those-none, count-cons, counted, without-parted}
+use Rattle.rules_laws.proofs.Sums.{total-none, total-more, total-without}
 use Rattle.sound_laws.specs.Tree.{times}
 use Rattle.sound_laws.proofs.Same.{same-slot}
-use Rattle.sound_laws.proofs.Joins.{total-none, total-more, total-without}
 
 -- the same slot or another
 pub slot-discrete : (s t : SlotNumber) → Dec (s ≡ t)

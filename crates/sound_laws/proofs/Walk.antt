@@ -13,10 +13,11 @@ use Rattle.rules.specs.declared.Entry.{Entry}
 use Rattle.rules.specs.Lists.{those, joined, total}
 use Rattle.rules.specs.Numbers.{least}
 use Rattle.rules.specs.Pool.{Pool, nodeAt, entriesAt, childOf, recordOf, isLeaf}
-use Rattle.rules_laws.proofs.Places.{Among}
+use Rattle.rules_laws.proofs.Places.{Among, map-same}
 use Rattle.rules_laws.proofs.Parts.{count-append, count-cons, those-none}
+use Rattle.rules_laws.proofs.Joins.{joined-none, joined-more, joined-joined, among-joined, joined-among}
+use Rattle.rules_laws.proofs.Sums.{total-none, total-more, total-append}
 use Rattle.sound_laws.specs.Tree.{slotsIn, recordsIn, childrenAt, recordsAt, Used, NodeIn, LeafEntry, InnerEntry, NodeOf, Tree}
-use Rattle.sound_laws.proofs.Joins.{joined-none, joined-more, map-same, joined-joined, among-joined, joined-among, total-none, total-more, total-append}
 use Rattle.sound_laws.proofs.Times.{slot-discrete}
 
 -- ---- the clauses

@@ -14,10 +14,11 @@ use Rattle.rules.specs.Lists.{those, total}
 use Rattle.rules.specs.Pool.{Node, Pool, freeNode, sameSlot, slotNumbers, nodeAt, stored}
 use Rattle.rules.specs.Sound.{inUse, parents}
 use Rattle.rules_laws.proofs.Places.{Among, place-of}
-use Rattle.rules_laws.proofs.Parts.{those-none, those-no, those-all, count-map}
+use Rattle.rules_laws.proofs.Parts.{those-none, those-no, those-all, count-map, those-every, those-fewer}
+use Rattle.rules_laws.proofs.Joins.{count-joined}
+use Rattle.rules_laws.proofs.Sums.{total-member, total-places, count-those}
 use Rattle.sound_laws.specs.Tree.{treeSlots, treeRecords, childrenAt, recordsAt, times, Once, Slot, Used, Tree, Whole}
 use Rattle.sound_laws.proofs.Tests.{used-is, unused-is}
-use Rattle.sound_laws.proofs.Joins.{count-joined, total-member, total-places, count-those, those-every, those-fewer}
 use Rattle.sound_laws.proofs.Times.{times-none, times-self, times-other, among-times, times-among, total-same}
 use Rattle.sound_laws.proofs.Flat.{times-alike, nodes-are, stored-are, parents-are}
 use Rattle.sound_laws.proofs.Walk.{children-none, records-none, tree-positive, Within, within, within-used, records-are, slots-parts}
@@ -112,8 +113,8 @@ module _ (p : Pool) (w : Whole p) where
       simp those-all at (used-in (λ s. true)) ∙ sym (count-map (nodeAt p) inUse (slotNumbers p))
       ∙ ap (λ (ns : List Node). length (those inUse ns)) (nodes-are p)
 
-  pub few-slots : length (treeSlots p) ≤ length (p .slots)
-  few-slots = omega (arith, used-length, those-fewer inUse (p .slots))
+  pub tree-in-slots : length (treeSlots p) ≤ length (p .slots)
+  tree-in-slots = omega (arith, used-length, those-fewer inUse (p .slots))
 
   -- ---- parents
 

@@ -14,36 +14,9 @@ use Rattle.rules.specs.Lists.{those, every, joined, upFrom}
 use Rattle.rules.specs.Pool.{Node, Pool, slot, freeNode, slotNumbers, nodeAt, entriesAt, recordOf, isLeaf, stored}
 use Rattle.rules.specs.Sound.{isSlot, inUse, isRoot, heightSound, rootSound, levelsSound, fewest, countSound, parents, oneParent, freeEmpty, recordsSound, shapeSound}
 use Rattle.rules_laws.proofs.Turns.{up-more, up-none}
+use Rattle.rules_laws.proofs.Everies.{every-nil, every-cons, every-four}
 use Rattle.sound_shape.specs.Shapes.{slotShaped, recordCount, recordCounts}
 use Rattle.tidy.proofs.Stand.{go-on, stop}
-
--- ---- every
-
-module _ {A : Type 0} where
-  every-none : (f : A → Bool) → every f [] ≡ true
-  unfolding every
-  every-none f = refl
-
-  every-cons : (f : A → Bool) (x : A) (xs : List A) → every f (x ∷ xs) ≡ (f x && every f xs)
-  unfolding every
-  every-cons f x xs = refl
-
-  every-both : (f g : A → Bool) (xs : List A) → every (λ x. f x && g x) xs ≡ (every f xs && every g xs)
-  unfolding every
-  every-both f g [] = refl
-  every-both f g (x ∷ xs) = ap (λ (b : Bool). (f x && g x) && b) (every-both f g xs) ∙ cross (f x) (g x) (every f xs) (every g xs)
-    where
-      cross : (a b c d : Bool) → ((a && b) && (c && d)) ≡ ((a && c) && (b && d))
-      cross true true c d = refl
-      cross true false true d = refl
-      cross true false false d = refl
-      cross false b c d = refl
-
-  -- four questions of each
-  every-four : (f g h k : A → Bool) (xs : List A) → every (λ x. f x && g x && h x && k x) xs ≡ (every f xs && every g xs && every h xs && every k xs)
-  every-four f g h k xs =
-      every-both (λ x. f x && g x && h x) k xs
-      ∙ ap (λ (b : Bool). b && every k xs) (every-both (λ x. f x && g x) h xs ∙ ap (λ (b : Bool). b && every h xs) (every-both f g xs))
 
 -- what is asked of the node of every slot is asked of every node
 nodes-from : (f : Node → Bool) (ns : List Node) (i n : ℕ) → i + n ≡ length ns
@@ -79,7 +52,7 @@ module _ (p : Pool) (n s : ℕ) where
     asked-stop e = asked-more ∙ stop _ _ e
 
   pub asked-end : n < s → askedFrom p n s ≡ true
-  asked-end h = ap (λ (l : List ℕ). every (slotShaped p) (map slot l)) (up-none s (n + 1) (omega arith)) ∙ every-none (slotShaped p)
+  asked-end h = ap (λ (l : List ℕ). every (slotShaped p) (map slot l)) (up-none s (n + 1) (omega arith)) ∙ every-nil (slotShaped p)
 
 pub asked-all : (p : Pool) (n : ℕ) → n ≡ length (p .slots) → askedFrom p n 1 ≡ every (slotShaped p) (slotNumbers p)
 unfolding slotNumbers
@@ -178,9 +151,9 @@ pub records-stored : (p : Pool) → recordCounts (p .slots) ≡ length (stored p
 unfolding recordCounts stored
 records-stored p = sym (length-map (joined (map (λ (n : Node). n .entries) (those isLeaf (p .slots)))) recordOf)
 
-pub records-are : (p : Pool) → eqb (recordCounts (p .slots)) (p .records) ≡ recordsSound p
+pub record-counts-are : (p : Pool) → eqb (recordCounts (p .slots)) (p .records) ≡ recordsSound p
 unfolding recordsSound
-records-are p = ap (λ (n : ℕ). eqb n (p .records)) (records-stored p)
+record-counts-are p = ap (λ (n : ℕ). eqb n (p .records)) (records-stored p)
 
 -- ---- all
 

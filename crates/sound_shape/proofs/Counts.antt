@@ -15,6 +15,7 @@ use Rattle.rules.specs.Lists.{those, joined}
 use Rattle.rules.specs.Pool.{Node, Pool, slot, freeNode, sameSlot, childOf}
 use Rattle.rules.specs.Sound.{innerEntries, parents}
 use Rattle.rules_laws.proofs.Parts.{those-none, those-append, count-append}
+use Rattle.rules_laws.proofs.Joins.{joined-both}
 use Rattle.sound_shape.specs.Shapes.{innerOf, parentsAmong, Counted, Counting, OneMore}
 
 -- ---- how many lead to a slot
@@ -78,11 +79,6 @@ at-slot s a v low high e = record { size = length-set a (s .0 - 1) v; is = λ t 
 
 -- ---- the inner nodes' entries
 
-joined-append : {A : Type 0} (xs ys : List (List A)) → joined (xs ++ ys) ≡ joined xs ++ joined ys
-unfolding joined
-joined-append [] ys = refl
-joined-append {A} (x ∷ xs) ys = ap (λ (l : List A). x ++ l) (joined-append xs ys) ∙ sym (append-assoc x (joined xs) (joined ys))
-
 abbrev inner : Node → Bool
 inner n = leb 2 (n .level)
 
@@ -93,19 +89,19 @@ inner-append : (xs ys : List Node) → innerOf (xs ++ ys) ≡ innerOf xs ++ inne
 unfolding innerOf
 inner-append xs ys =
     ap (λ (ns : List Node). joined (map entriesOf ns)) (those-append inner xs ys) ∙ ap joined (map-append entriesOf (those inner xs) (those inner ys))
-    ∙ joined-append (map entriesOf (those inner xs)) (map entriesOf (those inner ys))
+    ∙ joined-both (map entriesOf (those inner xs)) (map entriesOf (those inner ys))
 
-pub inner-none : innerOf [] ≡ []
+pub innerOf-none : innerOf [] ≡ []
 unfolding innerOf those joined
-inner-none = refl
+innerOf-none = refl
 
-pub inner-yes : (n : Node) → leb 2 (n .level) ≡ true → innerOf (n ∷ []) ≡ n .entries
+pub innerOf-yes : (n : Node) → leb 2 (n .level) ≡ true → innerOf (n ∷ []) ≡ n .entries
 unfolding innerOf those joined
-inner-yes n h = rw h (append-nil (n .entries))
+innerOf-yes n h = rw h (append-nil (n .entries))
 
-pub inner-no : (n : Node) → leb 2 (n .level) ≡ false → innerOf (n ∷ []) ≡ []
+pub innerOf-no : (n : Node) → leb 2 (n .level) ≡ false → innerOf (n ∷ []) ≡ []
 unfolding innerOf those joined
-inner-no n h = rw h
+innerOf-no n h = rw h
 
 pub inner-more : (ns : List Node) (k : ℕ) → k < length ns → innerOf (take k ns) ++ innerOf (getD ns k freeNode ∷ []) ≡ innerOf (take (suc k) ns)
 inner-more ns k h = sym (ap innerOf (take-suc ns k freeNode h) ∙ inner-append (take k ns) (getD ns k freeNode ∷ []))

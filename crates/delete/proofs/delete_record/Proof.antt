@@ -6,7 +6,7 @@ use mathlib.Core.List.{List}
 use lib.IntN.{ℤ}
 use Rattle.rules.specs.Pool.{putRecords}
 use Rattle.rules.specs.Layout.{read}
-use Rattle.delete.proofs.Deleted.{Asked, CountedOff, counted-off, some-record, records-fit, down-way, down-known, back-waits, back-few, back-high, back-known, delete-refused, made-fit, made-stands, made-known, delete-made}
+use Rattle.delete.proofs.Deleted.{ToDelete, CountedOff, counted-off, some-record, records-small, down-way, down-known, back-waits, asides-few, back-high, back-known, deleted-refused, made-fit, made-stands, made-known, deleted-made}
 use borrow.Author.Needs.{needs}
 use Rattle.delete.proofs.delete_record.Statement.{statement}
 use Rattle.delete.proofs.delete_record.Tie as tie
@@ -19,7 +19,7 @@ use Rattle.delete.proofs.condense.Reads as condense-reads
 use Rattle.delete.proofs.reinsert.Reads as reinsert-reads
 use Rattle.delete.proofs.shorten.Reads as shorten-reads
 
-asked : (s : tie.Start) → Asked (s .args .pool .now) (s .args .r) (s .args .way)
+asked : (s : tie.Start) → ToDelete (s .args .pool .now) (s .args .r) (s .args .way)
 asked s = record { fit = s .pre .0; whole = s .pre .1 .0; found = s .pre .1 .1 .1 .0; shows = s .pre .1 .1 .1 .1 }
 
 off : (s : tie.Start) (n : ℕ) → n ≡ read (s .args .pool .now) .records → (h : ℕ) → h ≡ read (s .args .pool .now) .height → (w : List ℤ)
@@ -40,7 +40,7 @@ sub-put-records c = omega (arith, c .before .before .before .records-of .ensures
 
 -- src/lib.rt:277:5
 put-records-requires : tie.Need-put-records-requires
-put-records-requires c κs = (c .before .before .before .before .before .pre .0, omega (arith, c .before .before .before .records-of .ensures, records-fit (asked (c .before .before .before .before .before))))
+put-records-requires c κs = (c .before .before .before .before .before .pre .0, omega (arith, c .before .before .before .records-of .ensures, records-small (asked (c .before .before .before .before .before))))
 
 -- src/lib.rt:278:9
 condense-requires : tie.Need-condense-requires
@@ -51,7 +51,7 @@ condense-requires c κs = let s = c .before .before .before .before .before .bef
 reinsert-requires : tie.Need-reinsert-requires
 reinsert-requires c κs = let s = c .before .before .before .before .before .before .before .before .before .before .before in let u = off s (c .before .before .before .before .before .before .before .before .before .records-of .result) (c .before .before .before .before .before .before .before .before .before .records-of .ensures) (c .before .before .before .before .before .before .before .height-of .result) (c .before .before .before .before .before .before .before .height-of .ensures) (c .before .before .before .before .before .put-records .last .0) (c .before .before .before .before .before .put-records .ensures .0) in
     let d = c .before .before .condense .ensures in
-    (d .pool .fit, (back-waits (asked s) u d, (back-known (asked s) u d, (d .roomy, (back-few (asked s) u d, back-high (asked s) u d)))))
+    (d .pool .fit, (back-waits (asked s) u d, (back-known (asked s) u d, (d .roomy, (asides-few (asked s) u d, back-high (asked s) u d)))))
 
 -- src/lib.rt:279:23
 enum-known-after : tie.Need-enum-known-after
@@ -68,7 +68,7 @@ same-length c = search needs
 -- src/lib.rt:280:9
 returns : tie.Need-returns
 returns c = let s = c .before .before .before .before .before .before .before .before .before .before .before .before .before .before .before in let u = off s (c .before .before .before .before .before .before .before .before .before .before .before .before .before .records-of .result) (c .before .before .before .before .before .before .before .before .before .before .before .before .before .records-of .ensures) (c .before .before .before .before .before .before .before .before .before .before .before .height-of .result) (c .before .before .before .before .before .before .before .before .before .before .before .height-of .ensures) (c .before .before .before .before .before .before .before .before .before .put-records .last .0) (c .before .before .before .before .before .before .before .before .before .put-records .ensures .0) in
-    delete-refused (asked s) u (c .before .before .before .before .before .before .condense .ensures) (c .before .before .before .reinsert .result) (c .before .before .before .reinsert .last .0) (c .before .before .before .reinsert .ensures .0) (c .enum-told .given .1) (search needs)
+    deleted-refused (asked s) u (c .before .before .before .before .before .before .condense .ensures) (c .before .before .before .reinsert .result) (c .before .before .before .reinsert .last .0) (c .before .before .before .reinsert .ensures .0) (c .enum-told .given .1) (search needs)
 
 -- src/lib.rt:282:19
 shorten-requires : tie.Need-shorten-requires
@@ -88,7 +88,7 @@ same-length-2 c = search needs
 -- src/lib.rt:267:1
 returns-2 : tie.Need-returns-2
 returns-2 c = let s = c .before .before .before .before .before .before .before .before .before .before .before .before .before .before .before .before .before .before .before in let u = off s (c .before .before .before .before .before .before .before .before .before .before .before .before .before .before .before .before .before .records-of .result) (c .before .before .before .before .before .before .before .before .before .before .before .before .before .before .before .before .before .records-of .ensures) (c .before .before .before .before .before .before .before .before .before .before .before .before .before .before .before .height-of .result) (c .before .before .before .before .before .before .before .before .before .before .before .before .before .before .before .height-of .ensures) (c .before .before .before .before .before .before .before .before .before .before .before .before .before .put-records .last .0) (c .before .before .before .before .before .before .before .before .before .before .before .before .before .put-records .ensures .0) in
-    delete-made (asked s) u (c .before .before .before .before .before .before .before .before .before .before .condense .ensures) (c .before .before .before .before .before .before .before .reinsert .result) (c .before .before .before .before .before .before .before .reinsert .last .0) (c .before .before .before .before .before .before .before .reinsert .ensures .0) (c .before .before .before .before .after .given .0 .0) (c .before .before .before .before .after .given .1) (c .before .shorten .result) (c .before .shorten .last .0) (c .before .shorten .ensures)
+    deleted-made (asked s) u (c .before .before .before .before .before .before .before .before .before .before .condense .ensures) (c .before .before .before .before .before .before .before .reinsert .result) (c .before .before .before .before .before .before .before .reinsert .last .0) (c .before .before .before .before .before .before .before .reinsert .ensures .0) (c .before .before .before .before .after .given .0 .0) (c .before .before .before .before .after .given .1) (c .before .shorten .result) (c .before .shorten .last .0) (c .before .shorten .ensures)
 
 pub delete-record-spec : {M : Type 1} → statement M
 delete-record-spec =

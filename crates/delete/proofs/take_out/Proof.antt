@@ -1,7 +1,7 @@
 -- `removing::take_out` meets its contract: the node is written again with the entries closed up; each was there before, so each can be written.
 use mathlib.Core.Path.{_∙_}
 use native.Mathlib.Omega.{arith}
-use Rattle.delete.proofs.Nodes.{in-pool, rest-small, rest-kind, out-is}
+use Rattle.delete.proofs.Nodes.{in-pool, rest-small, rest-kind, taken-out}
 use borrow.Author.Needs.{needs}
 use Rattle.delete.proofs.take_out.Statement.{statement}
 use Rattle.delete.proofs.take_out.Tie as tie
@@ -60,7 +60,7 @@ same-length c = search needs
 -- src/lib.rt:72:1
 returns : tie.Need-returns
 returns c = let s = c .before .before .before .before .before .before .before .before .before .before in let f = s .pre .0 in let g = s .pre .1 .0 in
-    (c .before .put-node .ensures .0 ∙ out-is f g (s .args .i) (c .before .before .before .before .before .before .count-of .result) (c .before .before .before .before .entries-of .result) (c .before .before .before .close-up .result) (s .pre .1 .1) (c .before .before .before .before .before .before .count-of .ensures .0) (c .before .before .before .before .entries-of .ensures) (c .before .before .before .close-up .ensures) (c .before .before .before .before .before .before .before .before .level-of .result) (c .before .before .before .before .before .before .before .before .level-of .ensures), c .before .put-node .ensures .1)
+    (c .before .put-node .ensures .0 ∙ taken-out f g (s .args .i) (c .before .before .before .before .before .before .count-of .result) (c .before .before .before .before .entries-of .result) (c .before .before .before .close-up .result) (s .pre .1 .1) (c .before .before .before .before .before .before .count-of .ensures .0) (c .before .before .before .before .entries-of .ensures) (c .before .before .before .close-up .ensures) (c .before .before .before .before .before .before .before .before .level-of .result) (c .before .before .before .before .before .before .before .before .level-of .ensures), c .before .put-node .ensures .1)
 
 pub take-out-spec : {M : Type 1} → statement M
 take-out-spec =

@@ -10,7 +10,7 @@ use borrow.Author.Needs.{needs}
 use Rattle.rules.specs.declared.Record.{Record}
 use Rattle.found_items.specs.Items.{itemsFrom}
 use Rattle.rules.specs.Pool.{noRecord}
-use Rattle.dustmap.proofs.Calls.{found-none, found-more}
+use Rattle.dustmap.proofs.Calls.{empties-none, empties-more}
 use native.Mathlib.Omega.{arith}
 use Rattle.dustmap.proofs.found_list.Statement.{statement}
 use Rattle.dustmap.proofs.found_list.Tie as tie
@@ -35,7 +35,7 @@ least-requires : tie.Need-least-requires Inv-loop μ-loop
 least-requires c κs = search needs
 
 loop-holds : tie.Need-loop-holds Inv-loop μ-loop
-loop-holds c = record { most = omega arith; few = c .least .ensures; size = search needs; filled = rw (c .before .no-record .ensures) (found-none (c .before .before .args .pool .now) (c .before .before .args .work .now)) }
+loop-holds c = record { most = omega arith; few = c .least .ensures; size = search needs; filled = rw (c .before .no-record .ensures) (empties-none (c .before .before .args .pool .now) (c .before .before .args .work .now)) }
 
 item-requires : tie.Need-item-requires Inv-loop μ-loop
 item-requires c κs = let m = min-le-left (c .before .before .before .before .args .listed) 64 in let n = min-le-right (c .before .before .before .before .args .listed) 64 in let t = c .before .loop .inv in (omega arith, c .before .before .before .before .pre .1 .1 .inside (c .before .loop .k) (omega arith) (omega arith))
@@ -53,7 +53,7 @@ loop-less : tie.Need-loop-less Inv-loop μ-loop
 loop-less c = omega arith
 
 loop-again : tie.Need-loop-again Inv-loop μ-loop
-loop-again c = let t = c .before .before .loop .inv in record { most = omega arith; few = t .few; size = simp length-set (t .size); filled = rw (c .item .ensures, t .filled) (found-more (c .before .before .before .before .before .args .pool .now) (c .before .before .before .before .before .args .work .now) (c .before .before .loop .k)) }
+loop-again c = let t = c .before .before .loop .inv in record { most = omega arith; few = t .few; size = simp length-set (t .size); filled = rw (c .item .ensures, t .filled) (empties-more (c .before .before .before .before .before .args .pool .now) (c .before .before .before .before .before .args .work .now) (c .before .before .loop .k)) }
 
 returns : tie.Need-returns Inv-loop μ-loop
 returns c = let t = c .before .loop .inv in let e : c .before .loop .k ≡ min (c .before .before .before .before .args .listed) 64 = omega arith in t .filled ∙ ap (λ (k : ℕ). sets (replicate 64 noRecord) 0 (itemsFrom (c .before .before .before .before .args .pool .now) (c .before .before .before .before .args .work .now) 0 k)) e

@@ -5,7 +5,7 @@ use mathlib.Core.List.{[], _∷_}
 use Prim.Native.Nat.{suc}
 use native.Mathlib.Numerals.{add-one}
 use Rattle.rules.specs.Frames.{natShown, line}
-use Rattle.frames.proofs.Lines.{four, answer-is}
+use Rattle.frames.proofs.Lines.{line-of-four, answer-is}
 use Rattle.frames.proofs.Texts.{wrote-then, wrote-as}
 use borrow.Author.Needs.{needs}
 use Rattle.frames.proofs.answer_line.Statement.{statement}
@@ -49,7 +49,7 @@ returns c =
     let three = c .before .before .before .before .before .before .before .put-field3 .ensures in
     let last = c .before .before .put-field4 .ensures in (
       wrote-as
-          (four _ _ _ _
+          (line-of-four _ _ _ _
           ∙ (λ i. line (natShown (add-one (s .before) i) ∷ natShown (number i) ∷ natShown (found i) ∷ natShown (opened i) ∷ []))
           ∙ answer-is (suc (s .before)) (s .answer))
           (wrote-then (wrote-then (wrote-then (one .0) (two .0)) (three .0)) (last .0)),

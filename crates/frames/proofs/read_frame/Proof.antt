@@ -7,7 +7,7 @@ use Rattle.rules.specs.declared.Request.{Request}
 use Rattle.frames.specs.declared.Framed.the-variants.{Asks}
 use Rattle.frames.specs.Reading.{kindLength, someLength}
 use Rattle.frames.specs.Places.{requestFrom}
-use Rattle.frames.proofs.Framing.{waits-few, bad-length, waits-kind, bad-kind, waits-words, asks-all}
+use Rattle.frames.proofs.Framing.{waits-few, bad-field, waits-kind, bad-kind, waits-words, asks-all}
 use Rattle.frames.proofs.Requests.{some-least}
 use borrow.Author.Needs.{needs}
 use Rattle.frames.proofs.read_frame.Statement.{statement}
@@ -23,7 +23,7 @@ is-length-requires : tie.Need-is-length-requires
 is-length-requires c κs = search needs
 
 returns-2 : tie.Need-returns-2
-returns-2 c = sym (bad-length (c .before .before .before .before .before .args .bytes .now) (c .before .before .before .if1 .left) (ap someLength (sym (c .before .before .pair-at .ensures .0)) ∙ sym (c .before .is-length .ensures) ∙ not-true _ (c .if2 .taken)))
+returns-2 c = sym (bad-field (c .before .before .before .before .before .args .bytes .now) (c .before .before .before .if1 .left) (ap someLength (sym (c .before .before .pair-at .ensures .0)) ∙ sym (c .before .is-length .ensures) ∙ not-true _ (c .if2 .taken)))
 
 returns-3 : tie.Need-returns-3
 returns-3 c = sym (waits-kind (c .before .before .before .before .before .before .args .bytes .now) (c .before .before .before .before .if1 .left) (c .if3 .taken) (ap someLength (sym (c .before .before .before .pair-at .ensures .0)) ∙ sym (c .before .before .is-length .ensures) ∙ not-false _ (c .before .if2 .left)))

@@ -3,7 +3,7 @@ use mathlib.Core.List.{[], _∷_}
 use Rattle.rules.specs.Frames.{intShown, line}
 use mathlib.Core.Path.{_∙_}
 use native.Mathlib.Omega.{arith}
-use Rattle.frames.proofs.Lines.{five, record-is}
+use Rattle.frames.proofs.Lines.{line-of-five, record-line}
 use Rattle.frames.proofs.Words.{word-kept}
 use Rattle.frames.proofs.Texts.{wrote-then, wrote-as}
 use borrow.Author.Needs.{needs}
@@ -53,7 +53,7 @@ returns c =
     let four = c .before .before .before .before .before .before .before .put-signed4 .ensures in
     let last = c .before .before .put-signed5 .ensures in (
       wrote-as
-          (five _ _ _ _ _ ∙ (λ i. line (intShown (n i) ∷ intShown (lowX i) ∷ intShown (lowY i) ∷ intShown (highX i) ∷ intShown (highY i) ∷ [])) ∙ record-is r)
+          (line-of-five _ _ _ _ _ ∙ (λ i. line (intShown (n i) ∷ intShown (lowX i) ∷ intShown (lowY i) ∷ intShown (highX i) ∷ intShown (highY i) ∷ [])) ∙ record-line r)
           (wrote-then (wrote-then (wrote-then (wrote-then (one .0) (two .0)) (three .0)) (four .0)) (last .0)),
       omega (arith, one .1, two .1, three .1, four .1, last .1),
     )

@@ -3,8 +3,7 @@ use borrow.Author.Needs.{needs}
 use mathlib.Core.Path.{sym, _∙_}
 use native.Mathlib.Omega.{arith}
 use Rattle.rules.specs.Layout.{read}
-use Rattle.free_slots.proofs.LowestSlot.{at-some}
-use Rattle.insert_laws.proofs.Free.{lowest-slot}
+use Rattle.sound_laws.proofs.Free.{at-some, lowest-slot}
 use Rattle.nodes.proofs.Slots.{most-slots}
 use Rattle.insert.proofs.Fitted.{slot-in}
 use Rattle.insert.proofs.Divided.{here-node, here-stored, room-grows, split-grows, none-grows}

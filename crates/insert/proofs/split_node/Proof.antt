@@ -3,7 +3,7 @@
 use borrow.Author.Needs.{needs}
 use native.Mathlib.Omega.{arith}
 use Rattle.rules.specs.Layout.{read}
-use Rattle.insert_laws.proofs.Free.{lowest-slot}
+use Rattle.sound_laws.proofs.Free.{lowest-slot}
 use Rattle.nodes.proofs.Slots.{most-slots}
 use Rattle.insert.proofs.Fitted.{slot-in}
 use Rattle.insert.proofs.Divided.{here-node, here-level, nine-length, nine-small, nine-kind, nine-valid, slot-kept, Parts, split-made}

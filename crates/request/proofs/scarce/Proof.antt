@@ -3,7 +3,7 @@ use Prim.Native.Nat.{_≤_}
 use native.Mathlib.Omega.{arith}
 use lib.Dec.{ltb}
 use Rattle.request.specs.Serving.{enoughFor}
-use Rattle.request.proofs.Turns.{enough-is, back-few}
+use Rattle.request.proofs.Turns.{enough-is, back-small}
 use borrow.Author.Needs.{needs}
 use Rattle.request.proofs.scarce.Statement.{statement}
 use Rattle.request.proofs.scarce.Tie as tie
@@ -26,7 +26,7 @@ add-result c = search needs
 
 -- src/lib.rt:162:18
 mul-result : tie.Need-mul-result
-mul-result c = let few = back-few (c .most-back .result) (c .before .height-of .result) (c .most-back .ensures .1) (rw (c .before .height-of .ensures) (c .before .before .pre .1)) in let low : c .before .height-of .result ≤ 8 = rw (c .before .height-of .ensures) (c .before .before .pre .1) in let n = c .most-back .ensures .1 in record { fits = omega (arith, few) }
+mul-result c = let few = back-small (c .most-back .result) (c .before .height-of .result) (c .most-back .ensures .1) (rw (c .before .height-of .ensures) (c .before .before .pre .1)) in let low : c .before .height-of .result ≤ 8 = rw (c .before .height-of .ensures) (c .before .before .pre .1) in let n = c .most-back .ensures .1 in record { fits = omega (arith, few) }
 
 -- src/lib.rt:162:33
 add-result-2 : tie.Need-add-result-2
@@ -38,7 +38,7 @@ add-result-3 c = search needs
 
 -- src/lib.rt:162:18
 add-result-4 : tie.Need-add-result-4
-add-result-4 c = let few = back-few (c .most-back .result) (c .before .height-of .result) (c .most-back .ensures .1) (rw (c .before .height-of .ensures) (c .before .before .pre .1)) in let low : c .before .height-of .result ≤ 8 = rw (c .before .height-of .ensures) (c .before .before .pre .1) in let n = c .most-back .ensures .1 in record { fits = omega (arith, few, low, n) }
+add-result-4 c = let few = back-small (c .most-back .result) (c .before .height-of .result) (c .most-back .ensures .1) (rw (c .before .height-of .ensures) (c .before .before .pre .1)) in let low : c .before .height-of .result ≤ 8 = rw (c .before .height-of .ensures) (c .before .before .pre .1) in let n = c .most-back .ensures .1 in record { fits = omega (arith, few, low, n) }
 
 -- src/lib.rt:155:1
 returns : tie.Need-returns

@@ -2,9 +2,8 @@ use mathlib.Core.Path.{refl, sym, _∙_}
 use Rattle.rules_laws.proofs.Bools.{not-true, not-false}
 use Rattle.rules.specs.declared.Asked.the-variants.{Update}
 use Rattle.rules.specs.declared.Reply.the-variants.{BadRectangle, BadNumber, NotHeld, Held}
-use Rattle.find_leaf.proofs.Held.{shows-held}
-use Rattle.request.proofs.Turns.{ready-fit, ready-whole, off, update-made}
-use Rattle.request.proofs.Sounds.{low-tree}
+use Rattle.find_leaf.proofs.Held.{shows-held, low-enough}
+use Rattle.request.proofs.Turns.{ready-fit, ready-whole, row-applies, update-changes}
 use Rattle.request.proofs.Rows.{update-old, update-new, update-4, update-5, update-6}
 use borrow.Author.Needs.{needs}
 use Rattle.request.proofs.update.Statement.{statement}
@@ -32,7 +31,7 @@ told-requires c κs = search needs
 
 -- src/lib.rt:251:9
 returns : tie.Need-returns
-returns c = rw (c .told .ensures) (off (c .before .before .before .before .before .args .pool .now) (c .before .before .before .before .before .args .free) (c .before .before .before .before .before .pre .0) (Update (c .before .before .before .before .before .args .old) (c .before .before .before .before .before .args .new)) BadRectangle (λ filled room. update-old _ filled room (c .before .before .before .before .before .args .old) (c .before .before .before .before .before .args .new) (sym (c .before .before .valid .ensures) ∙ not-true _ (c .before .if1 .taken))), refl)
+returns c = rw (c .told .ensures) (row-applies (c .before .before .before .before .before .args .pool .now) (c .before .before .before .before .before .args .free) (c .before .before .before .before .before .pre .0) (Update (c .before .before .before .before .before .args .old) (c .before .before .before .before .before .args .new)) BadRectangle (λ filled room. update-old _ filled room (c .before .before .before .before .before .args .old) (c .before .before .before .before .before .args .new) (sym (c .before .before .valid .ensures) ∙ not-true _ (c .before .if1 .taken))), refl)
 
 -- src/lib.rt:253:9
 valid-requires-2 : tie.Need-valid-requires-2
@@ -44,7 +43,7 @@ told-requires-2 c κs = search needs
 
 -- src/lib.rt:254:9
 returns-2 : tie.Need-returns-2
-returns-2 c = rw (c .told2 .ensures) (off (c .before .before .before .before .before .before .before .args .pool .now) (c .before .before .before .before .before .before .before .args .free) (c .before .before .before .before .before .before .before .pre .0) (Update (c .before .before .before .before .before .before .before .args .old) (c .before .before .before .before .before .before .before .args .new)) BadRectangle (λ filled room. update-new _ filled room (c .before .before .before .before .before .before .before .args .old) (c .before .before .before .before .before .before .before .args .new) (sym (c .before .before .before .before .valid .ensures) ∙ not-false _ (c .before .before .before .if1 .left)) (sym (c .before .before .valid2 .ensures) ∙ not-true _ (c .before .if2 .taken))), refl)
+returns-2 c = rw (c .told2 .ensures) (row-applies (c .before .before .before .before .before .before .before .args .pool .now) (c .before .before .before .before .before .before .before .args .free) (c .before .before .before .before .before .before .before .pre .0) (Update (c .before .before .before .before .before .before .before .args .old) (c .before .before .before .before .before .before .before .args .new)) BadRectangle (λ filled room. update-new _ filled room (c .before .before .before .before .before .before .before .args .old) (c .before .before .before .before .before .before .before .args .new) (sym (c .before .before .before .before .valid .ensures) ∙ not-false _ (c .before .before .before .if1 .left)) (sym (c .before .before .valid2 .ensures) ∙ not-true _ (c .before .if2 .taken))), refl)
 
 -- src/lib.rt:256:9
 good-number-requires : tie.Need-good-number-requires
@@ -56,11 +55,11 @@ told-requires-3 c κs = search needs
 
 -- src/lib.rt:257:9
 returns-3 : tie.Need-returns-3
-returns-3 c = rw (c .told3 .ensures) (off (c .before .before .before .before .before .before .before .before .before .args .pool .now) (c .before .before .before .before .before .before .before .before .before .args .free) (c .before .before .before .before .before .before .before .before .before .pre .0) (Update (c .before .before .before .before .before .before .before .before .before .args .old) (c .before .before .before .before .before .before .before .before .before .args .new)) BadNumber (λ filled room. update-4 _ filled room (c .before .before .before .before .before .before .before .before .before .args .old) (c .before .before .before .before .before .before .before .before .before .args .new) (sym (c .before .before .before .before .before .before .valid .ensures) ∙ not-false _ (c .before .before .before .before .before .if1 .left)) (sym (c .before .before .before .before .valid2 .ensures) ∙ not-false _ (c .before .before .before .if2 .left)) (sym (c .before .before .good-number .ensures) ∙ not-true _ (c .before .if3 .taken))), refl)
+returns-3 c = rw (c .told3 .ensures) (row-applies (c .before .before .before .before .before .before .before .before .before .args .pool .now) (c .before .before .before .before .before .before .before .before .before .args .free) (c .before .before .before .before .before .before .before .before .before .pre .0) (Update (c .before .before .before .before .before .before .before .before .before .args .old) (c .before .before .before .before .before .before .before .before .before .args .new)) BadNumber (λ filled room. update-4 _ filled room (c .before .before .before .before .before .before .before .before .before .args .old) (c .before .before .before .before .before .before .before .before .before .args .new) (sym (c .before .before .before .before .before .before .valid .ensures) ∙ not-false _ (c .before .before .before .before .before .if1 .left)) (sym (c .before .before .before .before .valid2 .ensures) ∙ not-false _ (c .before .before .before .if2 .left)) (sym (c .before .before .good-number .ensures) ∙ not-true _ (c .before .if3 .taken))), refl)
 
 -- src/lib.rt:259:9
 find-leaf-requires : tie.Need-find-leaf-requires
-find-leaf-requires c κs = ((c .before .before .before .before .before .before .before .before .before .pre .0) .right, (low-tree (c .before .before .before .before .before .before .before .before .before .args .pool .now) ((c .before .before .before .before .before .before .before .before .before .pre .0) .right) (ready-whole (c .before .before .before .before .before .before .before .before .before .args .pool .now) (c .before .before .before .before .before .before .before .before .before .args .free) (c .before .before .before .before .before .before .before .before .before .pre .0))))
+find-leaf-requires c κs = ((c .before .before .before .before .before .before .before .before .before .pre .0) .right, (low-enough (c .before .before .before .before .before .before .before .before .before .args .pool .now) ((c .before .before .before .before .before .before .before .before .before .pre .0) .right) (ready-whole (c .before .before .before .before .before .before .before .before .before .args .pool .now) (c .before .before .before .before .before .before .before .before .before .args .free) (c .before .before .before .before .before .before .before .before .before .pre .0))))
 
 -- src/lib.rt:261:9
 told-requires-4 : tie.Need-told-requires-4
@@ -72,7 +71,7 @@ same-length c = search needs
 
 -- src/lib.rt:261:9
 returns-4 : tie.Need-returns-4
-returns-4 c = rw (c .told4 .ensures) (off (c .before .before .before .before .before .before .before .before .before .before .before .before .before .args .pool .now) (c .before .before .before .before .before .before .before .before .before .before .before .before .before .args .free) (c .before .before .before .before .before .before .before .before .before .before .before .before .before .pre .0) (Update (c .before .before .before .before .before .before .before .before .before .before .before .before .before .args .old) (c .before .before .before .before .before .before .before .before .before .before .before .before .before .args .new)) NotHeld (λ filled room. update-5 _ filled room (c .before .before .before .before .before .before .before .before .before .before .before .before .before .args .old) (c .before .before .before .before .before .before .before .before .before .before .before .before .before .args .new) (sym (c .before .before .before .before .before .before .before .before .before .before .valid .ensures) ∙ not-false _ (c .before .before .before .before .before .before .before .before .before .if1 .left)) (sym (c .before .before .before .before .before .before .before .before .valid2 .ensures) ∙ not-false _ (c .before .before .before .before .before .before .before .if2 .left)) (sym (c .before .before .before .before .before .before .good-number .ensures) ∙ not-false _ (c .before .before .before .before .before .if3 .left)) (sym (shows-held _ (c .before .before .before .before .before .before .before .before .before .before .before .before .before .args .old) (c .before .before .before .find-leaf .result) (ready-whole (c .before .before .before .before .before .before .before .before .before .before .before .before .before .args .pool .now) (c .before .before .before .before .before .before .before .before .before .before .before .before .before .args .free) (c .before .before .before .before .before .before .before .before .before .before .before .before .before .pre .0)) (c .before .before .before .find-leaf .ensures)) ∙ not-true _ (c .before .if4 .taken))), refl)
+returns-4 c = rw (c .told4 .ensures) (row-applies (c .before .before .before .before .before .before .before .before .before .before .before .before .before .args .pool .now) (c .before .before .before .before .before .before .before .before .before .before .before .before .before .args .free) (c .before .before .before .before .before .before .before .before .before .before .before .before .before .pre .0) (Update (c .before .before .before .before .before .before .before .before .before .before .before .before .before .args .old) (c .before .before .before .before .before .before .before .before .before .before .before .before .before .args .new)) NotHeld (λ filled room. update-5 _ filled room (c .before .before .before .before .before .before .before .before .before .before .before .before .before .args .old) (c .before .before .before .before .before .before .before .before .before .before .before .before .before .args .new) (sym (c .before .before .before .before .before .before .before .before .before .before .valid .ensures) ∙ not-false _ (c .before .before .before .before .before .before .before .before .before .if1 .left)) (sym (c .before .before .before .before .before .before .before .before .valid2 .ensures) ∙ not-false _ (c .before .before .before .before .before .before .before .if2 .left)) (sym (c .before .before .before .before .before .before .good-number .ensures) ∙ not-false _ (c .before .before .before .before .before .if3 .left)) (sym (shows-held _ (c .before .before .before .before .before .before .before .before .before .before .before .before .before .args .old) (c .before .before .before .find-leaf .result) (ready-whole (c .before .before .before .before .before .before .before .before .before .before .before .before .before .args .pool .now) (c .before .before .before .before .before .before .before .before .before .before .before .before .before .args .free) (c .before .before .before .before .before .before .before .before .before .before .before .before .before .pre .0)) (c .before .before .before .find-leaf .ensures)) ∙ not-true _ (c .before .if4 .taken))), refl)
 
 -- src/lib.rt:263:8
 other-held-requires : tie.Need-other-held-requires
@@ -88,11 +87,11 @@ same-length-2 c = search needs
 
 -- src/lib.rt:264:9
 returns-5 : tie.Need-returns-5
-returns-5 c = rw (c .told5 .ensures) (off (c .before .before .before .before .before .before .before .before .before .before .before .before .before .before .before .before .args .pool .now) (c .before .before .before .before .before .before .before .before .before .before .before .before .before .before .before .before .args .free) (c .before .before .before .before .before .before .before .before .before .before .before .before .before .before .before .before .pre .0) (Update (c .before .before .before .before .before .before .before .before .before .before .before .before .before .before .before .before .args .old) (c .before .before .before .before .before .before .before .before .before .before .before .before .before .before .before .before .args .new)) Held (λ filled room. update-6 _ filled room (c .before .before .before .before .before .before .before .before .before .before .before .before .before .before .before .before .args .old) (c .before .before .before .before .before .before .before .before .before .before .before .before .before .before .before .before .args .new) (sym (c .before .before .before .before .before .before .before .before .before .before .before .before .before .valid .ensures) ∙ not-false _ (c .before .before .before .before .before .before .before .before .before .before .before .before .if1 .left)) (sym (c .before .before .before .before .before .before .before .before .before .before .before .valid2 .ensures) ∙ not-false _ (c .before .before .before .before .before .before .before .before .before .before .if2 .left)) (sym (c .before .before .before .before .before .before .before .before .before .good-number .ensures) ∙ not-false _ (c .before .before .before .before .before .before .before .before .if3 .left)) (sym (shows-held _ (c .before .before .before .before .before .before .before .before .before .before .before .before .before .before .before .before .args .old) (c .before .before .before .before .before .before .find-leaf .result) (ready-whole (c .before .before .before .before .before .before .before .before .before .before .before .before .before .before .before .before .args .pool .now) (c .before .before .before .before .before .before .before .before .before .before .before .before .before .before .before .before .args .free) (c .before .before .before .before .before .before .before .before .before .before .before .before .before .before .before .before .pre .0)) (c .before .before .before .before .before .before .find-leaf .ensures)) ∙ not-false _ (c .before .before .before .before .if4 .left)) (sym (c .before .before .other-held .ensures) ∙ c .before .if5 .taken)), refl)
+returns-5 c = rw (c .told5 .ensures) (row-applies (c .before .before .before .before .before .before .before .before .before .before .before .before .before .before .before .before .args .pool .now) (c .before .before .before .before .before .before .before .before .before .before .before .before .before .before .before .before .args .free) (c .before .before .before .before .before .before .before .before .before .before .before .before .before .before .before .before .pre .0) (Update (c .before .before .before .before .before .before .before .before .before .before .before .before .before .before .before .before .args .old) (c .before .before .before .before .before .before .before .before .before .before .before .before .before .before .before .before .args .new)) Held (λ filled room. update-6 _ filled room (c .before .before .before .before .before .before .before .before .before .before .before .before .before .before .before .before .args .old) (c .before .before .before .before .before .before .before .before .before .before .before .before .before .before .before .before .args .new) (sym (c .before .before .before .before .before .before .before .before .before .before .before .before .before .valid .ensures) ∙ not-false _ (c .before .before .before .before .before .before .before .before .before .before .before .before .if1 .left)) (sym (c .before .before .before .before .before .before .before .before .before .before .before .valid2 .ensures) ∙ not-false _ (c .before .before .before .before .before .before .before .before .before .before .if2 .left)) (sym (c .before .before .before .before .before .before .before .before .before .good-number .ensures) ∙ not-false _ (c .before .before .before .before .before .before .before .before .if3 .left)) (sym (shows-held _ (c .before .before .before .before .before .before .before .before .before .before .before .before .before .before .before .before .args .old) (c .before .before .before .before .before .before .find-leaf .result) (ready-whole (c .before .before .before .before .before .before .before .before .before .before .before .before .before .before .before .before .args .pool .now) (c .before .before .before .before .before .before .before .before .before .before .before .before .before .before .before .before .args .free) (c .before .before .before .before .before .before .before .before .before .before .before .before .before .before .before .before .pre .0)) (c .before .before .before .before .before .before .find-leaf .ensures)) ∙ not-false _ (c .before .before .before .before .if4 .left)) (sym (c .before .before .other-held .ensures) ∙ c .before .if5 .taken)), refl)
 
 -- src/lib.rt:266:22
 scarce-requires : tie.Need-scarce-requires
-scarce-requires c κs = ((c .before .before .before .before .before .before .before .before .before .before .before .before .before .before .before .before .before .pre .0) .right, (low-tree (c .before .before .before .before .before .before .before .before .before .before .before .before .before .before .before .before .before .args .pool .now) ((c .before .before .before .before .before .before .before .before .before .before .before .before .before .before .before .before .before .pre .0) .right) (ready-whole (c .before .before .before .before .before .before .before .before .before .before .before .before .before .before .before .before .before .args .pool .now) (c .before .before .before .before .before .before .before .before .before .before .before .before .before .before .before .before .before .args .free) (c .before .before .before .before .before .before .before .before .before .before .before .before .before .before .before .before .before .pre .0))))
+scarce-requires c κs = ((c .before .before .before .before .before .before .before .before .before .before .before .before .before .before .before .before .before .pre .0) .right, (low-enough (c .before .before .before .before .before .before .before .before .before .before .before .before .before .before .before .before .before .args .pool .now) ((c .before .before .before .before .before .before .before .before .before .before .before .before .before .before .before .before .before .pre .0) .right) (ready-whole (c .before .before .before .before .before .before .before .before .before .before .before .before .before .before .before .before .before .args .pool .now) (c .before .before .before .before .before .before .before .before .before .before .before .before .before .before .before .before .before .args .free) (c .before .before .before .before .before .before .before .before .before .before .before .before .before .before .before .before .before .pre .0))))
 
 -- src/lib.rt:266:5
 keep-requires : tie.Need-keep-requires
@@ -120,7 +119,7 @@ same-length-4 c = search needs
 
 -- src/lib.rt:242:1
 returns-6 : tie.Need-returns-6
-returns-6 c = rw (c .came-to .ensures) (update-made (c .before .before .before .before .before .before .before .before .before .before .before .before .before .before .before .before .before .before .before .before .before .before .before .before .before .before .before .before .args .pool .now) (c .before .before .before .before .before .before .before .before .before .before .before .before .before .before .before .before .before .before .before .before .before .before .before .before .before .before .before .before .args .free) (c .before .before .before .before .before .before .before .before .before .before .before .before .before .before .before .before .before .before .before .before .before .before .before .before .before .before .before .before .pre .0) (c .before .before .before .before .before .before .before .before .before .before .before .before .before .before .before .before .before .before .before .before .before .before .before .before .before .before .before .before .args .old) (sym (c .before .before .before .before .before .before .before .before .before .before .before .before .before .before .before .before .before .before .before .before .before .before .before .before .before .valid .ensures) ∙ not-false _ (c .before .before .before .before .before .before .before .before .before .before .before .before .before .before .before .before .before .before .before .before .before .before .before .before .if1 .left)) (sym (c .before .before .before .before .before .before .before .before .before .before .before .before .before .before .before .before .before .before .before .before .before .good-number .ensures) ∙ not-false _ (c .before .before .before .before .before .before .before .before .before .before .before .before .before .before .before .before .before .before .before .before .if3 .left)) (sym (shows-held _ (c .before .before .before .before .before .before .before .before .before .before .before .before .before .before .before .before .before .before .before .before .before .before .before .before .before .before .before .before .args .old) (c .before .before .before .before .before .before .before .before .before .before .before .before .before .before .before .before .before .before .find-leaf .result) (ready-whole (c .before .before .before .before .before .before .before .before .before .before .before .before .before .before .before .before .before .before .before .before .before .before .before .before .before .before .before .before .args .pool .now) (c .before .before .before .before .before .before .before .before .before .before .before .before .before .before .before .before .before .before .before .before .before .before .before .before .before .before .before .before .args .free) (c .before .before .before .before .before .before .before .before .before .before .before .before .before .before .before .before .before .before .before .before .before .before .before .before .before .before .before .before .pre .0)) (c .before .before .before .before .before .before .before .before .before .before .before .before .before .before .before .before .before .before .find-leaf .ensures)) ∙ not-false _ (c .before .before .before .before .before .before .before .before .before .before .before .before .before .before .before .before .if4 .left)) _ (λ e. c .before .before .before .before .before .before .before .before .before .keep .ensures .1 (c .before .before .before .before .before .before .before .before .before .before .scarce .ensures ∙ e)) (c .before .before .before .before .before .before .before .before .before .before .before .before .before .before .before .before .before .before .before .before .before .before .before .before .before .before .before .before .args .new) (sym (c .before .before .before .before .before .before .before .before .before .before .before .before .before .before .before .before .before .before .before .before .before .before .before .valid2 .ensures) ∙ not-false _ (c .before .before .before .before .before .before .before .before .before .before .before .before .before .before .before .before .before .before .before .before .before .before .if2 .left)) (sym (c .before .before .before .before .before .before .before .before .before .before .before .before .before .before .other-held .ensures) ∙ c .before .before .before .before .before .before .before .before .before .before .before .before .before .if5 .left) _ _ (c .before .before .before .before .before .before .replace .ensures) _ (search needs) (c .before .before .take-back .ensures), c .before .before .before .before .before .before .before .before .before .keep .ensures .0)
+returns-6 c = rw (c .came-to .ensures) (update-changes (c .before .before .before .before .before .before .before .before .before .before .before .before .before .before .before .before .before .before .before .before .before .before .before .before .before .before .before .before .args .pool .now) (c .before .before .before .before .before .before .before .before .before .before .before .before .before .before .before .before .before .before .before .before .before .before .before .before .before .before .before .before .args .free) (c .before .before .before .before .before .before .before .before .before .before .before .before .before .before .before .before .before .before .before .before .before .before .before .before .before .before .before .before .pre .0) (c .before .before .before .before .before .before .before .before .before .before .before .before .before .before .before .before .before .before .before .before .before .before .before .before .before .before .before .before .args .old) (sym (c .before .before .before .before .before .before .before .before .before .before .before .before .before .before .before .before .before .before .before .before .before .before .before .before .before .valid .ensures) ∙ not-false _ (c .before .before .before .before .before .before .before .before .before .before .before .before .before .before .before .before .before .before .before .before .before .before .before .before .if1 .left)) (sym (c .before .before .before .before .before .before .before .before .before .before .before .before .before .before .before .before .before .before .before .before .before .good-number .ensures) ∙ not-false _ (c .before .before .before .before .before .before .before .before .before .before .before .before .before .before .before .before .before .before .before .before .if3 .left)) (sym (shows-held _ (c .before .before .before .before .before .before .before .before .before .before .before .before .before .before .before .before .before .before .before .before .before .before .before .before .before .before .before .before .args .old) (c .before .before .before .before .before .before .before .before .before .before .before .before .before .before .before .before .before .before .find-leaf .result) (ready-whole (c .before .before .before .before .before .before .before .before .before .before .before .before .before .before .before .before .before .before .before .before .before .before .before .before .before .before .before .before .args .pool .now) (c .before .before .before .before .before .before .before .before .before .before .before .before .before .before .before .before .before .before .before .before .before .before .before .before .before .before .before .before .args .free) (c .before .before .before .before .before .before .before .before .before .before .before .before .before .before .before .before .before .before .before .before .before .before .before .before .before .before .before .before .pre .0)) (c .before .before .before .before .before .before .before .before .before .before .before .before .before .before .before .before .before .before .find-leaf .ensures)) ∙ not-false _ (c .before .before .before .before .before .before .before .before .before .before .before .before .before .before .before .before .if4 .left)) _ (λ e. c .before .before .before .before .before .before .before .before .before .keep .ensures .1 (c .before .before .before .before .before .before .before .before .before .before .scarce .ensures ∙ e)) (c .before .before .before .before .before .before .before .before .before .before .before .before .before .before .before .before .before .before .before .before .before .before .before .before .before .before .before .before .args .new) (sym (c .before .before .before .before .before .before .before .before .before .before .before .before .before .before .before .before .before .before .before .before .before .before .before .valid2 .ensures) ∙ not-false _ (c .before .before .before .before .before .before .before .before .before .before .before .before .before .before .before .before .before .before .before .before .before .before .if2 .left)) (sym (c .before .before .before .before .before .before .before .before .before .before .before .before .before .before .other-held .ensures) ∙ c .before .before .before .before .before .before .before .before .before .before .before .before .before .if5 .left) _ _ (c .before .before .before .before .before .before .replace .ensures) _ (search needs) (c .before .before .take-back .ensures), c .before .before .before .before .before .before .before .before .before .keep .ensures .0)
 
 pub update-spec : {M : Type 1} → statement M
 update-spec =

@@ -10,7 +10,7 @@ use Rattle.rules.specs.Layout.{read}
 use Rattle.pool.proofs.Parts.{few-slots}
 use Rattle.pool.proofs.Written.{read-slots}
 use Rattle.sound_shape.specs.Shapes.{innerOf, Counting}
-use Rattle.sound_shape.proofs.Counts.{counting-none, counting-more, inner-none, inner-more, inner-all}
+use Rattle.sound_shape.proofs.Counts.{counting-none, counting-more, innerOf-none, inner-more, inner-all}
 use Rattle.sound_shape.proofs.count_parents.Statement.{statement}
 use Rattle.sound_shape.proofs.count_parents.Tie as tie
 use Rattle.sound_shape.proofs.count_parents.Reads as reads
@@ -47,7 +47,7 @@ slot-count-requires c κs = tt
 
 -- src/lib.rt:254:5
 loop-holds : tie.Need-loop-holds Inv-loop μ-loop
-loop-holds c = record { size = c .slot-count .ensures ∙ sym (read-slots (c .before .args .pool .now)); low = omega arith; most = omega arith; counted = rw inner-none (counting-none (c .before .args .counts .now)) }
+loop-holds c = record { size = c .slot-count .ensures ∙ sym (read-slots (c .before .args .pool .now)); low = omega arith; most = omega arith; counted = rw innerOf-none (counting-none (c .before .args .counts .now)) }
 
 -- src/lib.rt:255:9
 count-slot-requires : tie.Need-count-slot-requires Inv-loop μ-loop

@@ -2,7 +2,7 @@ use native.Mathlib.Omega.{arith}
 use borrow.Author.Tests.{le-leb, lt-leb, ne-eqb}
 use Rattle.rules.specs.Pool.{nodeAt, entriesAt, isLeaf}
 use Rattle.rules.specs.Layout.{read}
-use Rattle.sound_shape.proofs.Counts.{counting-none, inner-yes, inner-no}
+use Rattle.sound_shape.proofs.Counts.{counting-none, innerOf-yes, innerOf-no}
 use borrow.Author.Needs.{needs}
 use Rattle.sound_shape.proofs.count_slot.Statement.{statement}
 use Rattle.sound_shape.proofs.count_slot.Tie as tie
@@ -17,7 +17,7 @@ level-of-requires c κs = search needs
 
 -- src/lib.rt:241:9
 returns : tie.Need-returns
-returns c = rw (inner-no (nodeAt (read (c .before .before .args .pool .now)) (c .before .before .args .s)) (lt-leb 2 ((nodeAt (read (c .before .before .args .pool .now)) (c .before .before .args .s)) .level) (omega (arith, c .before .level-of .ensures, c .if1 .taken)))) (counting-none (c .before .before .args .counts .now))
+returns c = rw (innerOf-no (nodeAt (read (c .before .before .args .pool .now)) (c .before .before .args .s)) (lt-leb 2 ((nodeAt (read (c .before .before .args .pool .now)) (c .before .before .args .s)) .level) (omega (arith, c .before .level-of .ensures, c .if1 .taken)))) (counting-none (c .before .before .args .counts .now))
 
 -- src/lib.rt:243:5
 count-children-requires : tie.Need-count-children-requires
@@ -27,7 +27,7 @@ count-children-requires c κs = (c .before .before .before .pre .0, (ne-eqb ((no
 -- src/lib.rt:235:1
 returns-2 : tie.Need-returns-2
 unfolding entriesAt
-returns-2 c = rw (inner-yes (nodeAt (read (c .before .before .before .before .args .pool .now)) (c .before .before .before .before .args .s)) (le-leb 2 ((nodeAt (read (c .before .before .before .before .args .pool .now)) (c .before .before .before .before .args .s)) .level) (omega (arith, c .before .before .before .level-of .ensures, c .before .before .if1 .left)))) (c .count-children .ensures)
+returns-2 c = rw (innerOf-yes (nodeAt (read (c .before .before .before .before .args .pool .now)) (c .before .before .before .before .args .s)) (le-leb 2 ((nodeAt (read (c .before .before .before .before .args .pool .now)) (c .before .before .before .before .args .s)) .level) (omega (arith, c .before .before .before .level-of .ensures, c .before .before .if1 .left)))) (c .count-children .ensures)
 
 pub count-slot-spec : {M : Type 1} → statement M
 count-slot-spec = tie.close (tie.spec level-of-requires returns count-children-requires returns-2)

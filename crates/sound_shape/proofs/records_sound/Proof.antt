@@ -1,7 +1,7 @@
 use mathlib.Core.Path.{ap₂, _∙_}
 use lib.Dec.{eqb}
 use Rattle.rules.specs.Layout.{read}
-use Rattle.sound_shape.proofs.Asked.{records-are}
+use Rattle.sound_shape.proofs.Asked.{record-counts-are}
 use borrow.Author.Needs.{needs}
 use Rattle.sound_shape.proofs.records_sound.Statement.{statement}
 use Rattle.sound_shape.proofs.records_sound.Tie as tie
@@ -20,7 +20,7 @@ records-of-requires c κs = search needs
 
 -- src/lib.rt:419:1
 returns : tie.Need-returns
-returns c = ap₂ eqb (c .before .leaf-records .ensures) (c .records-of .ensures) ∙ records-are (read (c .before .before .args .pool .now))
+returns c = ap₂ eqb (c .before .leaf-records .ensures) (c .records-of .ensures) ∙ record-counts-are (read (c .before .before .args .pool .now))
 
 pub records-sound-spec : {M : Type 1} → statement M
 records-sound-spec = tie.close (tie.spec leaf-records-requires records-of-requires returns)
