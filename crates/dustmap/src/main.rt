@@ -21,7 +21,7 @@ use rules::Rect;
 use rules::Request;
 
 // "a 128-slot pool (5,384 words)"
-const WORDS: usize = 5384;
+const WORDS: usize = pool::HEAD_SIZE + pool::SLOT_SIZE * 128;
 
 // The lines of one frame take no more bytes of the output than this.
 const ROOM: usize = 7124;
@@ -268,7 +268,7 @@ fn main() {
     let mut work = [0i32; WORDS];
     let mut input = io::large_buffer();
     let mut out = io::large_buffer();
-    free_slots::blank(&mut pool);
+    pool::blank::blank(&mut pool);
     let free = free_slots::free_slots(&pool);
     let mut run = Run {
         before: 0,

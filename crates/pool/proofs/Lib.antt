@@ -5,3 +5,7 @@ pub mod Runs
 pub mod Written
 pub mod Fronts
 pub mod Stores
+pub mod Lengths
+pub mod Blanks
+pub mod Stand
+pub mod Tidied

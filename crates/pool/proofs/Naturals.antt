@@ -11,6 +11,7 @@ use mir.Val.{SFits, Fits}
 use Rattle.rules.specs.declared.SlotNumber.{SlotNumber}
 use Rattle.rules.specs.declared.Pointer.{Pointer}
 use Rattle.rules.specs.declared.Pointer.the-variants.{Child}
+use Rattle.rules.specs.Numbers.{mostSlots}
 use Rattle.rules.specs.Layout.{natural}
 use Rattle.pool.specs.Slots.{Small}
 
@@ -33,7 +34,7 @@ natural-down (negsuc n) e = refl
 
 -- a slot number that a word holds
 pub small-fits : (p : Pointer) (s : SlotNumber) → p ≡ Child s → Small p → SFits w32 (pos (s .0))
-small-fits p s e h = let k : s .0 ≤ 4096 = subst Small e h in record { sfits = omega arith }
+small-fits p s e h = let k : s .0 ≤ mostSlots = subst Small e h in record { sfits = omega arith }
 
 pub small-below : (p : Pointer) (s : SlotNumber) → p ≡ Child s → Small p → s .0 < 2147483648
-small-below p s e h = let k : s .0 ≤ 4096 = subst Small e h in omega arith
+small-below p s e h = let k : s .0 ≤ mostSlots = subst Small e h in omega arith

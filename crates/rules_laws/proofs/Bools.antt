@@ -12,6 +12,13 @@ and-both false q e = (e, ap (λ (b : Bool). cond b true q) e)
 pub both-and : (p q : Bool) → p ≡ true → q ≡ true → (p && q) ≡ true
 both-and p q e f = rw (e, f)
 
+-- two questions asked in turn
+pub go-on : (p q : Bool) → p ≡ true → (p && q) ≡ q
+go-on p q e = rw e
+
+pub stop : (p q : Bool) → p ≡ false → (p && q) ≡ false
+stop p q e = rw e
+
 pub not-true : (b : Bool) → not b ≡ true → b ≡ false
 not-true true e = sym e
 not-true false e = refl

@@ -15,7 +15,7 @@ use Rattle.rules.specs.Pool.{Node, Pool, slot, freeNode, slotNumbers, nodeAt, e
 use Rattle.rules.specs.Sound.{isSlot, inUse, isRoot, heightSound, rootSound, levelsSound, fewest, countSound, parents, oneParent, freeEmpty, recordsSound, shapeSound}
 use Rattle.rules_laws.proofs.Turns.{up-more, up-none}
 use Rattle.sound_shape.specs.Shapes.{slotShaped, recordCount, recordCounts}
-use Rattle.tidy.proofs.Stand.{go-on, stop}
+use Rattle.rules_laws.proofs.Bools.{go-on, stop}
 
 -- ---- every
 

@@ -11,15 +11,12 @@ use Rattle.pool.proofs.number_at.Lts as lts
 use Rattle.pool.proofs.natural.Reads as natural-reads
 use Rattle.pool.proofs.word.Reads as word-reads
 
--- src/lib.rt:35:13
 word-requires : tie.Need-word-requires
 word-requires c κs = search needs
 
--- src/lib.rt:35:5
 natural-requires : tie.Need-natural-requires
 natural-requires c κs = search needs
 
--- src/lib.rt:31:1
 returns : tie.Need-returns
 returns c = c .natural .ensures ∙ ap natural (toZ-ofZ {w = w32} {z = c .before .word .result} (sfits-of (c .before .word .ok)) ∙ c .before .word .ensures)
 
