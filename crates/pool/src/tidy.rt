@@ -30,6 +30,7 @@ use crate::level_of;
 use crate::pointer_place;
 use crate::slot_count;
 use crate::slot_start;
+use crate::word;
 use rules::MOST;
 use rules::SlotNumber;
 
@@ -43,23 +44,15 @@ fn at_least(pool: &[i32], at: usize, x: i32) -> bool
     requires { ⌜ at < length (now pool) ⌝ }
     ensures { λ r. ⌜ r ≡ leZ x (L.wordAt (now (pool .entry)) at) ⌝ }
 {
-    geometry::le(x, pool[at])
+    geometry::le(x, word(pool, at))
 }
 
-// .. or less.
-fn at_most(pool: &[i32], at: usize, x: i32) -> bool
-    requires { ⌜ at < length (now pool) ⌝ }
-    ensures { λ r. ⌜ r ≡ leZ (L.wordAt (now (pool .entry)) at) x ⌝ }
-{
-    geometry::le(pool[at], x)
-}
-
-// .. or x itself.
+// .. is x itself.
 fn is_word(pool: &[i32], at: usize, x: i32) -> bool
     requires { ⌜ at < length (now pool) ⌝ }
     ensures { λ r. ⌜ r ≡ Li.same x (L.wordAt (now (pool .entry)) at) ⌝ }
 {
-    geometry::and(at_least(pool, at, x), at_most(pool, at, x))
+    geometry::same(x, word(pool, at))
 }
 
 // All words from one place to another are zero.
@@ -149,7 +142,7 @@ fn tidy_count(pool: &[i32], at: usize) -> bool
     requires { ⌜ at < length (now pool) ⌝ }
     ensures { λ r. ⌜ r ≡ Li.same (pos (min (L.natural (L.wordAt (now (pool .entry)) at)) most)) (L.wordAt (now (pool .entry)) at) ⌝ }
 {
-    geometry::and(at_least(pool, at, 0), at_most(pool, at, MOST_WORD))
+    geometry::and(at_least(pool, at, 0), geometry::le(word(pool, at), MOST_WORD))
 }
 
 // "level, count, then 8 entries"

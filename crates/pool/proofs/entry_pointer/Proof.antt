@@ -1,7 +1,6 @@
 use native.Mathlib.Omega.{arith}
 use mathlib.Core.Path.{sym}
-use mir.Syntax.{w32}
-use mir.Facts.{toZ-ofZ}
+use Rattle.pool.proofs.Naturals.{word-read}
 use borrow.Author.Needs.{sfits-of}
 use Rattle.pool.proofs.Parts.{few, room, slot-few, slot-pointer}
 use borrow.Author.Needs.{needs}
@@ -32,10 +31,9 @@ returns : tie.Need-returns
 returns c =
     let s = c .before .before .before .before in
     let w = c .before .word in
-    let z = toZ-ofZ {w = w32} {z = w .result} (sfits-of (w .ok)) in
     let level = c .before .before .before .level-of .ensures in
     let at = c .before .before .pointer-place .ensures in
-    rw (c .pointer-of .ensures, z, w .ensures, level, at) (sym (slot-pointer (s .pre .0) (s .args .i) (s .pre .1)))
+    rw (c .pointer-of .ensures, word-read (sfits-of (w .ok)) (w .ensures), level, at) (sym (slot-pointer (s .pre .0) (s .args .i) (s .pre .1)))
 
 pub entry-pointer-spec : {M : Type 1} → statement M
 entry-pointer-spec =

@@ -5,7 +5,7 @@ use lib.ListN.{length-set}
 use lib.Seq.{sets}
 use mir.Syntax.{w32}
 use mir.Val.{toZ, ofZ}
-use mir.Facts.{toZ-ofZ}
+use Rattle.pool.proofs.Naturals.{word-read}
 use borrow.Author.Needs.{sfits-of}
 use Rattle.rules.specs.Layout.{entryWords}
 use Rattle.pool.proofs.Runs.{five}
@@ -76,7 +76,7 @@ returns c =
     let a2 : toZ w32 (ofZ w32 (r .highX)) ≡ r .highX = search needs in
     let a3 : toZ w32 (ofZ w32 (r .highY)) ≡ r .highY = search needs in
     let p = c .pointer-word in
-    let k = toZ-ofZ {w = w32} {z = p .result} (sfits-of (p .ok)) ∙ p .ensures in
+    let k = word-read (sfits-of (p .ok)) (p .ensures) in
     five w at _ _ _ _ _ ∙ (λ i. sets w at (a0 i ∷ a1 i ∷ a2 i ∷ a3 i ∷ k i ∷ []))
 
 pub put-entry-spec : {M : Type 1} → statement M

@@ -1,5 +1,4 @@
-use mir.Syntax.{w32}
-use mir.Facts.{toZ-ofZ}
+use Rattle.pool.proofs.Naturals.{word-read}
 use borrow.Author.Needs.{sfits-of}
 use Rattle.pool.proofs.Stores.{rect-words}
 use borrow.Author.Needs.{needs}
@@ -33,15 +32,13 @@ word-requires-4 c κs = search needs
 returns : tie.Need-returns
 returns c =
     let s = c .before .before .before .before in
-    let w1 = c .before .before .before .word in
-    let w2 = c .before .before .word2 in
-    let w3 = c .before .word3 in
-    let w4 = c .word4 in
-    let e1 = toZ-ofZ {w = w32} {z = w1 .result} (sfits-of (w1 .ok)) in
-    let e2 = toZ-ofZ {w = w32} {z = w2 .result} (sfits-of (w2 .ok)) in
-    let e3 = toZ-ofZ {w = w32} {z = w3 .result} (sfits-of (w3 .ok)) in
-    let e4 = toZ-ofZ {w = w32} {z = w4 .result} (sfits-of (w4 .ok)) in
-    rw (e1, w1 .ensures, e2, w2 .ensures, e3, w3 .ensures, e4, w4 .ensures) (rect-words (s .args .pool .now) (s .args .at))
+    let a = c .before .before .before .word in
+    let b = c .before .before .word2 in
+    let d = c .before .word3 in
+    let e = c .word4 in
+    rw (word-read (sfits-of (a .ok)) (a .ensures), word-read (sfits-of (b .ok)) (b .ensures),
+    word-read (sfits-of (d .ok)) (d .ensures), word-read (sfits-of (e .ok)) (e .ensures))
+    (rect-words (s .args .pool .now) (s .args .at))
 
 pub rect-at-spec : {M : Type 1} → statement M
 rect-at-spec =
