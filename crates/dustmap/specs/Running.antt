@@ -1,10 +1,11 @@
 -- What holds from step to step of the program.
 use mathlib.Core.Path.{_≡_}
 use mathlib.Core.List.{List, _++_}
-use Prim.Native.Nat.{ℕ, _+_, _-_, _≤_}
+use Prim.Native.Nat.{ℕ, _+_, _*_, _-_, _≤_}
 use lib.ListN.{length, take, drop}
 use lib.IntN.{ℤ}
 use Rattle.rules.specs.declared.Request.{Request}
+use Rattle.rules.specs.Layout.{headSize, slotSize}
 use Rattle.rules.specs.Frames.{frameCall, dustmap}
 use Rattle.free_slots.specs.declared.FreeSlots.{FreeSlots}
 use Rattle.frames.specs.Writing.{Wrote}
@@ -15,6 +16,10 @@ use Rattle.request.specs.Serving.{Ready}
 use Rattle.dustmap.specs.declared.Run.{Run}
 use Rattle.dustmap.specs.declared.Then.{Then}
 use Rattle.dustmap.specs.declared.Then.the-variants.{Goes, Waits, Full, Ends}
+
+-- "a 128-slot pool (5,384 words)"
+abbrev pub poolSize : ℕ
+poolSize = headSize + slotSize * 128
 
 -- the bytes that have arrived and are not done
 abbrev pub heldIn : List ℕ → Run → List ℕ
@@ -47,7 +52,7 @@ Onward before input out r pool now (Ends s) =
     × ((arrived printed : List ℕ) → Claims before input out r arrived printed
     → (later : List ℕ) → dustmap (arrived ++ later) ≡ printed ++ take (s .filled) now)
 
--- what the call of a frame leaves: the pool, the lines behind the first `at` bytes of the output, and what is known of the free slots
+-- what the call of a frame leaves: the pool, the lines after the first `at` bytes of the output, and what is known of the free slots
 pub record Replies (pool : List ℤ) (q : Request) (before : ℕ) (out : List ℕ) (at : ℕ) (left : List ℤ) (now : List ℕ) (free : FreeSlots) (filled : ℕ) : Type 0 where
   pub ready : Ready left free
   pub map : left ≡ frameCall pool q .pool

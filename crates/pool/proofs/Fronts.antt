@@ -16,7 +16,7 @@ use Rattle.rules.specs.Pool.{node, noEntry}
 use Rattle.rules.specs.Numbers.{most}
 use Rattle.rules.specs.Layout.{entrySize, slotHead, entryWords, pointerWord, nodeWords}
 use Rattle.pool.specs.Slots.{Small, SmallAll, usedAt}
-use Rattle.pool.proofs.Runs.{zeros, sets-more}
+use Rattle.pool.proofs.Runs.{zeros, joined-snoc, sets-more}
 use Rattle.pool.proofs.Written.{entry-size, placeWords, unused, padded-is}
 
 -- the words of the first i places
@@ -46,11 +46,6 @@ module _ (es : List Entry) (n : ℕ) where
   front-none w a = refl
 
 -- ---- all of them
-
-pub joined-snoc : (ls : List (List ℤ)) (l : List ℤ) → joined (ls ++ l ∷ []) ≡ joined ls ++ l
-unfolding joined
-joined-snoc [] l = append-nil l
-joined-snoc (x ∷ ls) l = ap (λ (r : List ℤ). x ++ r) (joined-snoc ls l) ∙ sym (append-assoc x (joined ls) l)
 
 no-words : entryWords noEntry ≡ zeros entrySize
 unfolding entryWords pointerWord

@@ -2,6 +2,7 @@
 pub mod Parts
 pub mod Naturals
 pub mod Runs
+pub mod Padded
 pub mod Written
 pub mod Fronts
 pub mod Stores

@@ -1,7 +1,7 @@
 -- Lists of a width, one after another, over any width: read apart again, and a store in one of them. Over any list: a run of stores, and
 -- zeros.
 use mathlib.Core.Path.{_≡_, refl, sym, ap, ap₂, _∙_}
-use mathlib.Core.List.{List, [], _∷_, _++_, map, append-assoc}
+use mathlib.Core.List.{List, [], _∷_, _++_, map, append-assoc, append-nil}
 use Prim.Native.Nat.{ℕ, zero, suc, _+_, _*_, _≤_, _<_}
 use native.Mathlib.Nat.{add-zero, add-suc, suc-add, mul-zero, mul-suc}
 use native.Mathlib.Numerals.{towards-suc}
@@ -122,6 +122,16 @@ module _ {A : Type 0} (k : ℕ) (f : A → List ℤ) (wide : (x : A) → length 
 
   pub length-parts : (xs : List A) → length (joined (map f xs)) ≡ k * length xs
   length-parts xs = length-joined k (map f xs) (map-wide xs) ∙ ap (λ (n : ℕ). k * n) (length-map xs f)
+
+pub map-set : {A B : Type 0} (f : A → B) (xs : List A) (i : ℕ) (y : A) → set (map f xs) i (f y) ≡ map f (set xs i y)
+map-set f [] i y = refl
+map-set f (x ∷ xs) zero y = refl
+map-set {B = B} f (x ∷ xs) (suc i) y = ap (λ (l : List B). f x ∷ l) (map-set f xs i y)
+
+pub joined-snoc : (ls : List (List ℤ)) (l : List ℤ) → joined (ls ++ l ∷ []) ≡ joined ls ++ l
+unfolding joined
+joined-snoc [] l = append-nil l
+joined-snoc (x ∷ ls) l = ap (λ (r : List ℤ). x ++ r) (joined-snoc ls l) ∙ sym (append-assoc x (joined ls) l)
 
 -- five stores, one after the other
 pub five : {A : Type 0} (w : List A) (p : ℕ) (a b c d e : A) → set (set (set (set (set w p a) (p + 1) b) (p + 2) c) (p + 3) d) (p + 4) e ≡ sets w p (a ∷ b ∷ c ∷ d ∷ e ∷ [])

@@ -1,7 +1,7 @@
 -- A few words of a slot stored in place, and no other word of the pool: an entry's words over those of another, or after the last
 -- entry's, with the count one more. What a slot then holds are the words of a node, so the node is put into the pool.
 use mathlib.Core.Path.{_≡_, sym, ap, ap₂, subst, _∙_}
-use mathlib.Core.List.{List, [], _∷_, _++_, map, map-append, append-assoc}
+use mathlib.Core.List.{List, [], _∷_, _++_, map}
 use Prim.Native.Nat.{ℕ, _+_, _*_, _-_, _≤_, _<_}
 use native.Mathlib.Omega.{arith}
 use lib.ListN.{length, getD, set, drop, length-append, length-set, length-map}
@@ -17,10 +17,10 @@ use Rattle.rules.specs.Layout.{entrySize, slotHead, slotSize, slotStart, countP
 use Rattle.rules_laws.proofs.Places.{each-append}
 use Rattle.pool.specs.Slots.{InPool, Fit}
 use Rattle.pool.proofs.Parts.{room, slotWords, slot-node, slot-rect, rect-entry}
-use Rattle.pool.proofs.Runs.{zeros, over-zeros, wide-at, wide-set, sets-right, sets-left, sets-all, sets-joined}
-use Rattle.pool.proofs.Written.{Kind, Fine, entry-size, entry-wide, placeWords, unused, node-wide, size, padded-is, node-size}
-use Rattle.pool.proofs.Written.{head-size, same-head, map-set, each-set, node-fine, read-slots, put-is, put-read, put-fit}
-use Rattle.pool.proofs.Fronts.{joined-snoc}
+use Rattle.pool.proofs.Runs.{wide-set, map-set, sets-right, sets-joined}
+use Rattle.pool.proofs.Padded.{placed-again, placed-more}
+use Rattle.pool.proofs.Written.{Kind, Fine, entry-size, placeWords, node-wide, node-size, head-size, same-head}
+use Rattle.pool.proofs.Written.{each-set, node-fine, read-slots, put-is, put-read, put-fit}
 
 -- ---- where an entry's words are
 
@@ -80,49 +80,13 @@ module _ (p : Pool) (s : SlotNumber) where
 
 -- ---- the words of one node
 
-entries-again : (es : List Entry) (i : ℕ) (e : Entry) → i < length es → length es ≤ most
-    → sets (placeWords es) (entrySize * i) (entryWords e) ≡ placeWords (set es i e)
-entries-again es i e h few =
-    let ls = map entryWords es in
-    let vs = entryWords e in
-    let at = entrySize * i in
-    let long = length-map es entryWords in
-    let after = zeros (unused es) in
-    let same : length vs ≡ length (getD ls i []) = entry-size e ∙ sym (wide-at entrySize ls i (entry-wide es) (omega arith)) in
-    let here : at ≡ at + 0 = omega arith in
-    ap (λ (r : List ℤ). sets r at vs) (padded-is es few)
-    ∙ sets-left vs (joined ls) after at (omega (arith, size es, entry-size e))
-    ∙ ap (λ (r : List ℤ). r ++ after)
-    (ap (λ (k : ℕ). sets (joined ls) k vs) here
-    ∙ sets-joined entrySize ls (entry-wide es) i 0 vs (omega arith) (omega (arith, entry-size e))
-    ∙ ap (λ (x : List ℤ). joined (set ls i x)) (sets-all (getD ls i []) vs same)
-    ∙ ap joined (map-set entryWords es i e))
-    ∙ ap (λ (n : ℕ). joined (map entryWords (set es i e)) ++ zeros (most * entrySize - entrySize * n)) (sym (length-set es i e))
-    ∙ sym (padded-is (set es i e) (omega (arith, length-set es i e)))
-
-entries-more : (es : List Entry) (e : Entry) → length es < most
-    → sets (placeWords es) (entrySize * length es) (entryWords e) ≡ placeWords (es ++ e ∷ [])
-entries-more es e h =
-    let cs = joined (map entryWords es) in
-    let vs = entryWords e in
-    let k = unused (es ++ e ∷ []) in
-    let long : length (es ++ e ∷ []) ≡ length es + 1 = length-append es (e ∷ []) in
-    let more : unused es ≡ length vs + k = omega (arith, entry-size e) in
-    let here : entrySize * length es ≡ length cs + 0 = omega (arith, size es) in
-    ap₂ (λ (r : List ℤ) (a : ℕ). sets r a vs) (padded-is es (omega arith) ∙ ap (λ (n : ℕ). cs ++ zeros n) more) here
-    ∙ sets-right vs cs (zeros (length vs + k)) 0
-    ∙ ap (λ (r : List ℤ). cs ++ r) (over-zeros vs k)
-    ∙ sym (append-assoc cs vs (zeros k))
-    ∙ ap (λ (r : List ℤ). r ++ zeros k) (sym (joined-snoc (map entryWords es) vs) ∙ ap joined (sym (map-append entryWords es (e ∷ []))))
-    ∙ sym (padded-is (es ++ e ∷ []) (omega arith))
-
 module _ (l : ℕ) (es : List Entry) (e : Entry) where
   node-again : (i : ℕ) → i < length es → length es ≤ most
       → sets (nodeWords (node l es)) (slotHead + entrySize * i) (entryWords e) ≡ nodeWords (node l (set es i e))
   unfolding nodeWords
   node-again i h few =
       sets-right (entryWords e) (pos l ∷ pos (length es) ∷ []) (placeWords es) (entrySize * i)
-      ∙ ap₂ (λ (n : ℕ) (r : List ℤ). pos l ∷ pos n ∷ r) (sym (length-set es i e)) (entries-again es i e h few)
+      ∙ ap₂ (λ (n : ℕ) (r : List ℤ). pos l ∷ pos n ∷ r) (sym (length-set es i e)) (placed-again entrySize most entryWords entry-size es i e h few)
 
   node-more : length es < most
       → set (sets (nodeWords (node l es)) (slotHead + entrySize * length es) (entryWords e)) 1 (pos (length es + 1)) ≡ nodeWords (node l (es ++ e ∷ []))
@@ -130,7 +94,7 @@ module _ (l : ℕ) (es : List Entry) (e : Entry) where
   node-more h =
       ap (λ (r : List ℤ). set r 1 (pos (length es + 1)))
       (sets-right (entryWords e) (pos l ∷ pos (length es) ∷ []) (placeWords es) (entrySize * length es))
-      ∙ ap₂ (λ (n : ℕ) (r : List ℤ). pos l ∷ pos n ∷ r) (sym (length-append es (e ∷ []))) (entries-more es e h)
+      ∙ ap₂ (λ (n : ℕ) (r : List ℤ). pos l ∷ pos n ∷ r) (sym (length-append es (e ∷ []))) (placed-more entrySize most entryWords entry-size es e h)
 
 -- ---- the pool
 

@@ -22,10 +22,10 @@ use Rattle.rules.specs.Choose.{rectFrom}
 use Rattle.rules.specs.Sound.{nothingElse}
 use Rattle.pool.specs.Slots.{InPool}
 use Rattle.pool.proofs.Parts.{right-size, room, slot-level, slot-count, slot-few, slot-rect, slot-entry}
-use Rattle.pool.proofs.Written.{placeWords, unused, size, padded-is, head-size, words-size, read-slots, pointer-number, pointer-child}
+use Rattle.pool.proofs.Written.{placeWords, unused, padded-is, head-size, read-slots, pointer-number, pointer-child, entry-size, words-size}
 use Rattle.pool.specs.Standing.{stand}
 use Rattle.pool.proofs.Stand.{stand-none, stand-cons, stand-append, stand-all, same-self, natural-same}
-use Rattle.pool.proofs.Runs.{zeros}
+use Rattle.pool.proofs.Runs.{zeros, length-parts}
 
 -- ---- the head
 
@@ -110,9 +110,10 @@ pub places-stand : (es : List Entry) (w : List ℤ) (at : ℕ) → length es ≤
     → stand (placeWords es) w at ≡ (stand (joined (map entryWords es)) w at && stand (zeros (unused es)) w (at + entrySize * length es))
 places-stand es w at few fits =
     let j = joined (map entryWords es) in
+    let long = length-parts entrySize entryWords entry-size es in
     ap (λ (vs : List ℤ). stand vs w at) (padded-is es few)
-    ∙ stand-append j (zeros (unused es)) w at (omega (arith, size es))
-    ∙ ap (λ (k : ℕ). stand j w at && stand (zeros (unused es)) w (at + k)) (size es)
+    ∙ stand-append j (zeros (unused es)) w at (omega (arith, long))
+    ∙ ap (λ (k : ℕ). stand j w at && stand (zeros (unused es)) w (at + k)) long
 
 pub node-stands : (n : Node) (w : List ℤ) (at : ℕ) → at + slotHead ≤ length w
     → stand (nodeWords n) w at

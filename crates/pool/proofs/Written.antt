@@ -5,8 +5,8 @@ use mathlib.Core.Bool.{Bool, true, false}
 use mathlib.Core.List.{List, [], _∷_, _++_, map, append-nil}
 use Prim.Native.Nat.{ℕ, zero, suc, _+_, _*_, _-_, _≤_, _<_}
 use native.Mathlib.Omega.{arith}
-use lib.ListN.{length, getD, set, take, drop, length-append, length-take, length-map, length-set, length-replicate}
-use lib.Seq.{sets, length-sets, take-append-add, drop-at}
+use lib.ListN.{length, getD, set, take, drop, length-append, length-take, length-map, length-set}
+use lib.Seq.{sets, length-sets, drop-at}
 use lib.Dec.{eqb}
 use lib.IntN.{ℤ, pos}
 use Rattle.rules.specs.declared.SlotNumber.{SlotNumber}
@@ -21,7 +21,8 @@ use Rattle.rules.specs.Layout.{padded, nodeWords, headWords, words, natural, wo
 use Rattle.rules_laws.proofs.Places.{Each}
 use Rattle.pool.specs.Slots.{InPool, Fit, KindAll}
 use Rattle.pool.proofs.Parts.{node-count, length-runs}
-use Rattle.pool.proofs.Runs.{zeros, take-zeros, Wide, wide-at, map-wide, length-parts, runs-joined, take-runs, sets-right, sets-all, sets-joined}
+use Rattle.pool.proofs.Runs.{zeros, Wide, wide-at, map-wide, map-set, length-parts, runs-joined, sets-right, sets-all, sets-joined}
+use Rattle.pool.proofs.Padded.{placed, unplaced, placed-size, placed-is, placed-back}
 
 -- ---- a node
 
@@ -51,32 +52,18 @@ entry-wide = map-wide entrySize entryWords entry-size
 
 -- the words of a node's places: those of its entries, and zeros after them
 abbrev pub placeWords : List Entry → List ℤ
-placeWords es = padded (most * entrySize) (joined (map entryWords es))
+placeWords es = placed entrySize most entryWords entry-size es
 
--- how many places no entry has, in words
+-- how many words the places have that no entry is in
 abbrev pub unused : List Entry → ℕ
-unused es = most * entrySize - entrySize * length es
+unused es = unplaced entrySize most entryWords entry-size es
 
-module _ (es : List Entry) where
-  pub size : length (joined (map entryWords es)) ≡ entrySize * length es
-  size = length-parts entrySize entryWords entry-size es
-
-  pub padded-is : length es ≤ most → placeWords es ≡ joined (map entryWords es) ++ zeros (unused es)
-  unfolding padded
-  padded-is h =
-      let ws = joined (map entryWords es) in
-      let all = most * entrySize in
-      let e : all ≡ length ws + unused es = omega (arith, size) in
-      ap (λ (n : ℕ). take n (ws ++ zeros all)) e
-      ∙ take-append-add ws (zeros all) (unused es)
-      ∙ ap (λ (r : List ℤ). ws ++ r) (take-zeros (unused es) all (omega arith))
+pub padded-is : (es : List Entry) → length es ≤ most → placeWords es ≡ joined (map entryWords es) ++ zeros (unused es)
+padded-is = placed-is entrySize most entryWords entry-size
 
 pub node-size : (n : Node) → length (nodeWords n) ≡ slotSize
-unfolding nodeWords padded
-node-size n =
-    let all = most * entrySize in
-    let w = joined (map entryWords (n .entries)) in
-    omega (arith, length-take all (w ++ zeros all), length-append w (zeros all), length-replicate all (pos 0))
+unfolding nodeWords
+node-size n = omega (arith, placed-size entrySize most entryWords entry-size (n .entries))
 
 pub node-back : {n : Node} → Fine n → nodeOf (nodeWords n) ≡ n
 unfolding nodeOf nodeWords natural wordAt
@@ -84,14 +71,8 @@ node-back {n} f = λ i. record { level = n .level; entries = same i }
   where
     same : map (entryOf (n .level)) (take (length (n .entries)) (runs entrySize most (placeWords (n .entries)))) ≡ n .entries
     same =
-        let es = n .entries in
-        let ls = map entryWords es in
-        ap (map (entryOf (n .level)))
-        (take-runs entrySize (length es) most (placeWords es) (f .few)
-        ∙ ap (runs entrySize (length es)) (padded-is es (f .few))
-        ∙ ap (λ (k : ℕ). runs entrySize k (joined ls ++ zeros (unused es))) (sym (length-map es entryWords))
-        ∙ runs-joined entrySize ls (entry-wide es) (zeros (unused es)))
-        ∙ entries-back (n .level) es (f .kinds)
+        ap (map (entryOf (n .level))) (placed-back entrySize most entryWords entry-size (n .entries) (f .few))
+        ∙ entries-back (n .level) (n .entries) (f .kinds)
 
 -- ---- a pool
 
@@ -141,11 +122,6 @@ module _ (p : Pool) where
   read-words f = λ i. record { root = p .root; height = p .height; records = p .records; slots = slots-back f i }
 
 -- ---- a node written into its slot
-
-pub map-set : {A B : Type 0} (f : A → B) (xs : List A) (i : ℕ) (y : A) → set (map f xs) i (f y) ≡ map f (set xs i y)
-map-set f [] i y = refl
-map-set f (x ∷ xs) zero y = refl
-map-set {B = B} f (x ∷ xs) (suc i) y = ap (λ (l : List B). f x ∷ l) (map-set f xs i y)
 
 pub same-head : (p : Pool) (s : SlotNumber) (n : Node) → headWords p ≡ headWords (putNode p s n)
 unfolding putNode headWords

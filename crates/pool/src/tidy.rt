@@ -142,7 +142,10 @@ fn tidy_count(pool: &[i32], at: usize) -> bool
     requires { ⌜ at < length (now pool) ⌝ }
     ensures { λ r. ⌜ r ≡ Li.same (pos (min (L.natural (L.wordAt (now (pool .entry)) at)) most)) (L.wordAt (now (pool .entry)) at) ⌝ }
 {
-    geometry::and(at_least(pool, at, 0), geometry::le(word(pool, at), MOST_WORD))
+    geometry::and(
+        at_least(pool, at, 0),
+        geometry::le(word(pool, at), MOST_WORD),
+    )
 }
 
 // "level, count, then 8 entries"

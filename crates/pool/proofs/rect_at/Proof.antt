@@ -36,8 +36,12 @@ returns c =
     let b = c .before .before .word2 in
     let d = c .before .word3 in
     let e = c .word4 in
-    rw (word-read (sfits-of (a .ok)) (a .ensures), word-read (sfits-of (b .ok)) (b .ensures),
-    word-read (sfits-of (d .ok)) (d .ensures), word-read (sfits-of (e .ok)) (e .ensures))
+    rw (
+      word-read (sfits-of (a .ok)) (a .ensures),
+      word-read (sfits-of (b .ok)) (b .ensures),
+      word-read (sfits-of (d .ok)) (d .ensures),
+      word-read (sfits-of (e .ok)) (e .ensures),
+    )
     (rect-words (s .args .pool .now) (s .args .at))
 
 pub rect-at-spec : {M : Type 1} → statement M
