@@ -1,10 +1,11 @@
 -- What holds from step to step of the program.
 use mathlib.Core.Path.{_≡_}
 use mathlib.Core.List.{List, _++_}
-use Prim.Native.Nat.{ℕ, _+_, _-_, _≤_}
+use Prim.Native.Nat.{ℕ, _+_, _*_, _-_, _≤_}
 use lib.ListN.{length, take, drop}
 use lib.IntN.{ℤ}
 use Rattle.rules.specs.declared.Request.{Request}
+use Rattle.rules.specs.Layout.{headSize, slotSize}
 use Rattle.rules.specs.Frames.{frameCall, dustmap}
 use Rattle.free_slots.specs.declared.FreeSlots.{FreeSlots}
 use Rattle.frames.specs.Writing.{Wrote}
@@ -15,6 +16,10 @@ use Rattle.request.specs.Serving.{Ready}
 use Rattle.dustmap.specs.declared.Run.{Run}
 use Rattle.dustmap.specs.declared.Then.{Then}
 use Rattle.dustmap.specs.declared.Then.the-variants.{Goes, Waits, Full, Ends}
+
+-- "a 128-slot pool (5,384 words)"
+abbrev pub poolSize : ℕ
+poolSize = headSize + slotSize * 128
 
 -- the bytes that have arrived and are not done
 abbrev pub heldIn : List ℕ → Run → List ℕ

@@ -10,7 +10,7 @@ ghost use Rattle.rules.specs.Call.{isRequest};
 ghost use Rattle.rules.specs.Frames as F;
 ghost use Rattle.found_items.specs.Items.{itemsFrom, Pointing};
 ghost use Rattle.request.specs.Serving.{Ready};
-ghost use Rattle.dustmap.specs.Running.{Stands, Onward, Replies, Flushed, runOf, Came, Waited, Rounds};
+ghost use Rattle.dustmap.specs.Running.{poolSize, Stands, Onward, Replies, Flushed, runOf, Came, Waited, Rounds};
 use frames::Framed;
 use free_slots::FreeSlots;
 use libc::STDIN_FILENO;
@@ -21,7 +21,7 @@ use rules::Rect;
 use rules::Request;
 
 // "a 128-slot pool (5,384 words)"
-const WORDS: usize = 5384;
+const WORDS: usize = pool::HEAD_SIZE + pool::SLOT_SIZE * 128;
 
 // The lines of one frame take no more bytes of the output than this.
 const ROOM: usize = 7124;
@@ -75,8 +75,8 @@ fn least(a: usize, b: usize) -> usize
 
 // "a found list of 64", filled with what the request listed.
 fn found_list(pool: &[i32], work: &[i32], listed: usize) -> [Record; 64]
-    requires { ⌜ length (now pool) ≡ 5384 ⌝ }
-    requires { ⌜ length (now work) ≡ 5384 ⌝ }
+    requires { ⌜ length (now pool) ≡ poolSize ⌝ }
+    requires { ⌜ length (now work) ≡ poolSize ⌝ }
     requires { ⌜ Pointing (now pool) (now work) 0 listed ⌝ }
     ensures { λ r. ⌜ r ≡ sets (replicate 64 noRecord) 0 (itemsFrom (now (pool .entry)) (now (work .entry)) 0 (min listed 64)) ⌝ }
 {
@@ -102,8 +102,8 @@ fn answer(
     at: usize,
 ) -> Answered
     requires ready { ⌜ Ready (now pool) free ⌝ }
-    requires words { ⌜ length (now pool) ≡ 5384 ⌝ }
-    requires space { ⌜ length (now work) ≡ 5384 ⌝ }
+    requires words { ⌜ length (now pool) ≡ poolSize ⌝ }
+    requires space { ⌜ length (now work) ≡ poolSize ⌝ }
     requires asks { ⌜ isRequest q ≡ true ⌝ }
     requires room { ⌜ at + 7124 ≤ length (now out) ⌝ }
     requires counted { ⌜ before < 18446744073709551615 ⌝ }
@@ -120,8 +120,8 @@ fn answer(
 // The frame that the bytes begin, if it is here.
 fn turn(pool: &mut [i32], work: &mut [i32], input: &[u8], run: Run, out: &mut [u8]) -> Then
     requires stands { ⌜ Stands (now pool) (now input) (now out) run ⌝ }
-    requires words { ⌜ length (now pool) ≡ 5384 ⌝ }
-    requires space { ⌜ length (now work) ≡ 5384 ⌝ }
+    requires words { ⌜ length (now pool) ≡ poolSize ⌝ }
+    requires space { ⌜ length (now work) ≡ poolSize ⌝ }
     ensures { λ r. ⌜ Onward (now (pool .entry)) (now (input .entry)) (now (out .entry)) run (now (pool .exit)) (now (out .exit)) r ⌝ }
 {
     let at = run.at;
@@ -249,8 +249,8 @@ fn wait(input: &mut [u8], out: &mut [u8], run: Run) -> Then
 // One frame, and what it takes to get to the next.
 fn round(pool: &mut [i32], work: &mut [i32], input: &mut [u8], out: &mut [u8], run: Run) -> Then
     requires stands { ⌜ Stands (now pool) (now input) (now out) run ⌝ }
-    requires words { ⌜ length (now pool) ≡ 5384 ⌝ }
-    requires space { ⌜ length (now work) ≡ 5384 ⌝ }
+    requires words { ⌜ length (now pool) ≡ poolSize ⌝ }
+    requires space { ⌜ length (now work) ≡ poolSize ⌝ }
     requires room { ⌜ 7124 ≤ length (now out) ⌝ }
     ensures { λ r. ⌜ Rounds (now (pool .exit)) (now (input .exit)) (now (out .exit)) r ⌝ }
 {
@@ -268,7 +268,7 @@ fn main() {
     let mut work = [0i32; WORDS];
     let mut input = io::large_buffer();
     let mut out = io::large_buffer();
-    free_slots::blank(&mut pool);
+    pool::blank::blank(&mut pool);
     let free = free_slots::free_slots(&pool);
     let mut run = Run {
         before: 0,

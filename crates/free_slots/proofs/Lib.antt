@@ -1,6 +1,4 @@
--- Laws that the proofs of `slots` and of the crates above it cite.
+-- Laws that the proofs of `free_slots` and of the crates above it cite.
 pub mod Frees
 pub mod LowestSlot
 pub mod Known
-pub mod Lengths
-pub mod Blanks

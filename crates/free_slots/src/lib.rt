@@ -1,10 +1,10 @@
-// The slots of a pool, one after the other: the free slots, and blanking.
+// The free slots of a pool: the lowest, how many there are, and what a batch knows of them.
 ghost use mathlib.Core.Path.{_≡_};
 ghost use mathlib.Core.Bool.{true, cond};
 ghost use lib.Dec.{eqb};
 ghost use Prim.Native.Nat.{_-_, _<_, _≤_};
-ghost use lib.ListN.{length, drop, replicate};
-ghost use lib.IntN.{pos};
+ghost use lib.ListN.{drop};
+ghost use Rattle.rules.specs.Numbers.{mostSlots};
 ghost use Rattle.rules.specs.Layout as L;
 ghost use Rattle.rules.specs.Pool as P;
 ghost use Rattle.pool.specs.Slots.{InPool};
@@ -88,10 +88,10 @@ pub fn lowest(pool: &[i32], free: FreeSlots) -> FreeSlot
     lowest_free_from(pool, first)
 }
 
-// What is known once the lowest free slot, t, is taken: the next search starts behind it.
+// What is known once the lowest free slot, t, is taken: the next search starts after it.
 pub fn less_slot(free: FreeSlots, t: SlotNumber) -> FreeSlots
     requires { ⌜ 0 < free .count ⌝ }
-    requires { ⌜ t .0 ≤ 4096 ⌝ }
+    requires { ⌜ t .0 ≤ mostSlots ⌝ }
     ensures { λ r. ⌜ r ≡ lessSlot free t ⌝ }
 {
     FreeSlots {
@@ -102,7 +102,7 @@ pub fn less_slot(free: FreeSlots, t: SlotNumber) -> FreeSlots
 
 // What is known once slot s has become free: "its slot is zeroed and free at once".
 pub fn more_slot(free: FreeSlots, s: SlotNumber) -> FreeSlots
-    requires { ⌜ free .count ≤ 4096 ⌝ }
+    requires { ⌜ free .count ≤ mostSlots ⌝ }
     ensures { λ r. ⌜ r ≡ moreSlot free s ⌝ }
 {
     let count = free.count + 1;
@@ -111,46 +111,4 @@ pub fn more_slot(free: FreeSlots, s: SlotNumber) -> FreeSlots
     }
     let low = free.low;
     FreeSlots { count, low }
-}
-
-// "A pool is 8 + 42N signed 32-bit words", N from 1 to 4,096.
-pub fn valid_length(pool: &[i32]) -> bool
-    ensures { λ r. ⌜ r ≡ L.validLength (now (pool .entry)) ⌝ }
-{
-    let n = pool::slot_count(pool);
-    if n < 1 {
-        return false;
-    }
-    if 4096 < n {
-        return false;
-    }
-    pool.len() == 8 + 42 * n
-}
-
-// "all else zero": every word is zeroed, and blanking writes the others after that.
-fn zero_all(pool: &mut [i32])
-    ensures { λ _. ⌜ now (pool .exit) ≡ replicate (length (now (pool .entry))) (pos 0) ⌝ }
-{
-    let mut i: usize = 0;
-    while i < pool.len() {
-        pool[i] = 0;
-        i += 1;
-    }
-}
-
-// "Blanking writes edition 1, root 1, height 1, records 0, slot 1 as an empty leaf, all else zero." It "knows only 1, for the pool's
-// length", and then writes nothing.
-pub fn blank(pool: &mut [i32]) -> i32
-    ensures number { λ r. ⌜ r ≡ pos (L.blank (now (pool .entry)) .number) ⌝ }
-    ensures words { λ _. ⌜ now (pool .exit) ≡ L.blank (now (pool .entry)) .pool ⌝ }
-{
-    if valid_length(pool) {
-        zero_all(pool);
-        pool[0] = 1;
-        pool[1] = 1;
-        pool[2] = 1;
-        pool[8] = 1;
-        return 0;
-    }
-    1
 }

@@ -17,6 +17,7 @@ ghost use Rattle.map.specs.Batching.{refusalOf, Begun, stepOf, batchOf, 
 use free_slots::FreeSlots;
 use request::Served;
 use rules::Answer;
+use rules::MOST_REQUESTS;
 use rules::Record;
 use rules::Request;
 
@@ -42,7 +43,7 @@ pub extern "C" fn dustmap_blank(pool: &mut [i32]) -> i32
     ensures number { λ r. ⌜ r ≡ pos (L.blank (now (pool .entry)) .number) ⌝ }
     ensures words { λ _. ⌜ now (pool .exit) ≡ L.blank (now (pool .entry)) .pool ⌝ }
 {
-    free_slots::blank(pool)
+    pool::blank::blank(pool)
 }
 
 // What a call would return that asks nothing: 1 for a wrong length, 2 for a pool that is not sound, else 0. Nothing is written.
@@ -58,7 +59,7 @@ pub extern "C" fn dustmap_check(pool: &[i32]) -> i32
 fn lists_fit(requests: usize, answers: usize) -> bool
     ensures { λ r. ⌜ not r ≡ (ltb mostRequests requests || not (eqb answers requests)) ⌝ }
 {
-    if 1024 < requests {
+    if MOST_REQUESTS < requests {
         return false;
     }
     answers == requests
@@ -68,7 +69,7 @@ fn lists_fit(requests: usize, answers: usize) -> bool
 fn lengths_fit(pool: &[i32], workspace: usize) -> bool
     ensures { λ r. ⌜ not r ≡ (not (L.validLength (now (pool .entry))) || not (eqb workspace (length (now (pool .entry))))) ⌝ }
 {
-    if !free_slots::valid_length(pool) {
+    if !pool::valid_length(pool) {
         return false;
     }
     workspace == pool.len()
@@ -152,7 +153,7 @@ fn begun(pool: &[i32]) -> Progress
 
 // "its answer goes to the same place in the answer list"; "Accepted searches fill the found list one after another".
 fn step(at: Progress, s: Served) -> Stepped
-    requires { ⌜ (at .done ≤ 1024) × (at .filled ≤ 33554432) × (s .listed ≤ 32768) ⌝ }
+    requires { ⌜ (at .done ≤ mostRequests) × (at .filled ≤ 33554432) × (s .listed ≤ 32768) ⌝ }
     ensures { λ r. ⌜ r ≡ stepOf at s ⌝ }
 {
     let answer = s.answer;

@@ -1,11 +1,11 @@
--- A node's 42 words, written one entry after the other: the entries in use, then five zeros for each that is not.
+-- A node's words, written one entry after the other: the entries in use, then zeros for each that is not.
 use mathlib.Core.Path.{_≡_, refl, sym, ap, ap₂, _∙_}
 use mathlib.Core.Bool.{Bool, true, false, cond}
 use mathlib.Core.List.{List, [], _∷_, _++_, map, map-append, append-assoc, append-nil}
 use Prim.Native.Nat.{ℕ, zero, suc, _+_, _*_, _-_, _≤_}
 use native.Mathlib.Numerals.{add-one}
 use native.Mathlib.Omega.{arith}
-use lib.ListN.{length, getD, set, take, replicate, length-append, replicate-append-replicate}
+use lib.ListN.{length, getD, set, take, length-append, replicate-append-replicate}
 use lib.Seq.{sets, take-suc, length-take-le}
 use lib.Dec.{ltb}
 use lib.IntN.{ℤ, pos}
@@ -13,22 +13,19 @@ use borrow.Author.Tests.{lt-ltb, le-ltb, ltb-true}
 use Rattle.rules.specs.declared.Entry.{Entry}
 use Rattle.rules.specs.Lists.{joined}
 use Rattle.rules.specs.Pool.{node, noEntry}
-use Rattle.rules.specs.Layout.{entryWords, pointerWord, padded, nodeWords}
+use Rattle.rules.specs.Numbers.{most}
+use Rattle.rules.specs.Layout.{entrySize, slotHead, entryWords, pointerWord, nodeWords}
 use Rattle.pool.specs.Slots.{Small, SmallAll, usedAt}
-use Rattle.pool.proofs.Runs.{sets-more}
-use Rattle.pool.proofs.Written.{padded-is}
+use Rattle.pool.proofs.Runs.{zeros, joined-snoc, sets-more}
+use Rattle.pool.proofs.Written.{entry-size, placeWords, unused, padded-is}
 
 -- the words of the first i places
 pub front : List Entry → ℕ → ℕ → List ℤ
 front es n zero = []
 front es n (suc i) = front es n i ++ entryWords (usedAt es n i)
 
-pub entry-size : (e : Entry) → length (entryWords e) ≡ 5
-unfolding entryWords
-entry-size e = refl
-
 module _ (es : List Entry) (n : ℕ) where
-  front-size : (i : ℕ) → length (front es n i) ≡ 5 * i
+  front-size : (i : ℕ) → length (front es n i) ≡ entrySize * i
   unfolding front
   front-size zero = refl
   front-size (suc i) = omega (arith, length-append (front es n i) (entryWords (usedAt es n i)), front-size i, entry-size (usedAt es n i))
@@ -38,7 +35,7 @@ module _ (es : List Entry) (n : ℕ) where
   front-suc i = refl
 
   -- one entry more
-  pub front-more : (w : List ℤ) (a i : ℕ) → sets (sets w a (front es n i)) (a + 5 * i) (entryWords (usedAt es n i)) ≡ sets w a (front es n (i + 1))
+  pub front-more : (w : List ℤ) (a i : ℕ) → sets (sets w a (front es n i)) (a + entrySize * i) (entryWords (usedAt es n i)) ≡ sets w a (front es n (i + 1))
   front-more w a i =
       ap (λ (k : ℕ). sets (sets w a (front es n i)) (a + k) (entryWords (usedAt es n i))) (sym (front-size i))
       ∙ sets-more (front es n i) (entryWords (usedAt es n i)) w a
@@ -48,19 +45,9 @@ module _ (es : List Entry) (n : ℕ) where
   unfolding front
   front-none w a = refl
 
--- ---- all eight
+-- ---- all of them
 
-pub joined-snoc : (ls : List (List ℤ)) (l : List ℤ) → joined (ls ++ l ∷ []) ≡ joined ls ++ l
-unfolding joined
-joined-snoc [] l = append-nil l
-joined-snoc (x ∷ ls) l = ap (λ (r : List ℤ). x ++ r) (joined-snoc ls l) ∙ sym (append-assoc x (joined ls) l)
-
-pub take-zeros : (m n : ℕ) → m ≤ n → take m (replicate n (pos 0)) ≡ replicate m (pos 0)
-take-zeros zero n h = refl
-take-zeros (suc m) zero h = absurd (omega arith)
-take-zeros (suc m) (suc n) h = ap (λ (r : List ℤ). pos 0 ∷ r) (take-zeros m n (omega arith))
-
-no-words : entryWords noEntry ≡ replicate 5 (pos 0)
+no-words : entryWords noEntry ≡ zeros entrySize
 unfolding entryWords pointerWord
 no-words = refl
 
@@ -74,40 +61,39 @@ module _ (es : List Entry) (n : ℕ) (h : n ≤ length es) where
       ∙ sym (joined-snoc (map entryWords (take i es)) (entryWords (getD es i noEntry)))
       ∙ ap joined (sym (map-append entryWords (take i es) (getD es i noEntry ∷ [])) ∙ ap (map entryWords) (sym t))
 
-  behind : (k : ℕ) → front es n (n + k) ≡ joined (map entryWords (take n es)) ++ replicate (5 * k) (pos 0)
-  behind zero = ap (front es n) (omega arith) ∙ inUse n (omega arith) ∙ sym (append-nil (joined (map entryWords (take n es))))
-  behind (suc k) =
+  after : (k : ℕ) → front es n (n + k) ≡ joined (map entryWords (take n es)) ++ zeros (entrySize * k)
+  after zero = ap (front es n) (omega arith) ∙ inUse n (omega arith) ∙ sym (append-nil (joined (map entryWords (take n es))))
+  after (suc k) =
       let j = joined (map entryWords (take n es)) in
-      let five : 5 * k + 5 ≡ 5 * suc k = omega arith in
-      ap (front es n) (more n k) ∙ front-suc es n (n + k)
-      ∙ ap₂ _++_ (behind k) (ap (λ (b : Bool). entryWords (cond b (getD es (n + k) noEntry) noEntry)) (le-ltb (n + k) n (omega arith)) ∙ no-words)
-      ∙ append-assoc j (replicate (5 * k) (pos 0)) (replicate 5 (pos 0))
-      ∙ ap (λ (r : List ℤ). j ++ r) (replicate-append-replicate (5 * k) 5 (pos 0) ∙ ap (λ (m : ℕ). replicate m (pos 0)) five)
+      let more : entrySize * k + entrySize ≡ entrySize * suc k = omega arith in
+      ap (front es n) (next n k) ∙ front-suc es n (n + k)
+      ∙ ap₂ _++_ (after k) (ap (λ (b : Bool). entryWords (cond b (getD es (n + k) noEntry) noEntry)) (le-ltb (n + k) n (omega arith)) ∙ no-words)
+      ∙ append-assoc j (zeros (entrySize * k)) (zeros entrySize)
+      ∙ ap (λ (r : List ℤ). j ++ r) (replicate-append-replicate (entrySize * k) entrySize (pos 0) ∙ ap zeros more)
     where
-      more : (a b : ℕ) → a + suc b ≡ suc (a + b)
-      more a b = omega arith
+      next : (a b : ℕ) → a + suc b ≡ suc (a + b)
+      next a b = omega arith
 
-  pub front-all : n ≤ 8 → front es n 8 ≡ padded 40 (joined (map entryWords (take n es)))
+  front-all : n ≤ most → front es n most ≡ placeWords (take n es)
   front-all l =
       let size = length-take-le n es h in
-      let last : 5 * (8 - n) ≡ 40 - 5 * length (take n es) = omega arith in
-      let eight : 8 ≡ n + (8 - n) = omega arith in
-      let few : length (take n es) ≤ 8 = omega arith in
-      ap (front es n) eight ∙ behind (8 - n)
-      ∙ ap (λ (r : List ℤ). joined (map entryWords (take n es)) ++ r)
-      (ap (λ (m : ℕ). replicate m (pos 0)) last ∙ sym (take-zeros (40 - 5 * length (take n es)) 40 (omega arith)))
+      let last : entrySize * (most - n) ≡ unused (take n es) = omega arith in
+      let all : most ≡ n + (most - n) = omega arith in
+      let few : length (take n es) ≤ most = omega arith in
+      ap (front es n) all ∙ after (most - n)
+      ∙ ap (λ (m : ℕ). joined (map entryWords (take n es)) ++ zeros m) last
       ∙ sym (padded-is (take n es) few)
 
-  -- .. behind the level and the count
-  pub whole : (w : List ℤ) (a level : ℕ) → n ≤ 8
-      → sets (set (set w a (pos level)) (a + 1) (pos n)) (a + 2) (front es n 8) ≡ sets w a (nodeWords (node level (take n es)))
+  -- .. after the level and the count
+  pub whole : (w : List ℤ) (a level : ℕ) → n ≤ most
+      → sets (set (set w a (pos level)) (a + 1) (pos n)) (a + slotHead) (front es n most) ≡ sets w a (nodeWords (node level (take n es)))
   unfolding nodeWords
   whole w a level l =
-      ap (sets (set (set w a (pos level)) (a + 1) (pos n)) (a + 2)) (front-all l)
-      ∙ ap₂ (λ (x y : ℕ). sets (set (set w a (pos level)) x (pos n)) y (padded 40 (joined (map entryWords (take n es))))) (add-one a) (two a)
-      ∙ ap (λ (c : ℕ). sets w a (pos level ∷ pos c ∷ padded 40 (joined (map entryWords (take n es))))) (sym (length-take-le n es h))
+      ap (sets (set (set w a (pos level)) (a + 1) (pos n)) (a + slotHead)) (front-all l)
+      ∙ ap₂ (λ (x y : ℕ). sets (set (set w a (pos level)) x (pos n)) y (placeWords (take n es))) (add-one a) (two a)
+      ∙ ap (λ (c : ℕ). sets w a (pos level ∷ pos c ∷ placeWords (take n es))) (sym (length-take-le n es h))
     where
-      two : (b : ℕ) → b + 2 ≡ suc (suc b)
+      two : (b : ℕ) → b + slotHead ≡ suc (suc b)
       two b = omega arith
 
 -- an entry that is not in use has a small pointer, slot 0

@@ -2,6 +2,11 @@
 pub mod Parts
 pub mod Naturals
 pub mod Runs
+pub mod Padded
 pub mod Written
 pub mod Fronts
 pub mod Stores
+pub mod Lengths
+pub mod Blanks
+pub mod Stand
+pub mod Tidied

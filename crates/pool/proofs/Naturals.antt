@@ -7,12 +7,18 @@ use lib.Dec.{T, leb·zero}
 use lib.IntN.{ℤ, pos, negsuc, natAbs}
 use lib.Signed.{leZ, nonNeg}
 use mir.Syntax.{w32, w64}
-use mir.Val.{SFits, Fits}
+use mir.Val.{SFits, Fits, toZ, ofZ}
+use mir.Facts.{toZ-ofZ}
 use Rattle.rules.specs.declared.SlotNumber.{SlotNumber}
 use Rattle.rules.specs.declared.Pointer.{Pointer}
 use Rattle.rules.specs.declared.Pointer.the-variants.{Child}
+use Rattle.rules.specs.Numbers.{mostSlots}
 use Rattle.rules.specs.Layout.{natural}
 use Rattle.pool.specs.Slots.{Small}
+
+-- a word that one function reads and another takes
+pub word-read : {z x : ℤ} → SFits w32 z → z ≡ x → toZ w32 (ofZ w32 z) ≡ x
+word-read {z} f e = toZ-ofZ {w = w32} {z = z} f ∙ e
 
 wrong : {X : Type 0} → false ≡ true → X
 wrong e = absurd (omega (arith, ap (λ (b : Bool). cond {A = ℕ} b 1 0) e))
@@ -33,7 +39,7 @@ natural-down (negsuc n) e = refl
 
 -- a slot number that a word holds
 pub small-fits : (p : Pointer) (s : SlotNumber) → p ≡ Child s → Small p → SFits w32 (pos (s .0))
-small-fits p s e h = let k : s .0 ≤ 4096 = subst Small e h in record { sfits = omega arith }
+small-fits p s e h = let k : s .0 ≤ mostSlots = subst Small e h in record { sfits = omega arith }
 
 pub small-below : (p : Pointer) (s : SlotNumber) → p ≡ Child s → Small p → s .0 < 2147483648
-small-below p s e h = let k : s .0 ≤ 4096 = subst Small e h in omega arith
+small-below p s e h = let k : s .0 ≤ mostSlots = subst Small e h in omega arith

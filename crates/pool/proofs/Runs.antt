@@ -1,13 +1,14 @@
--- Lists of a width one behind the other, over any width: read apart again, and a store in one of them. Over any list: a run of stores.
+-- Lists of a width, one after another, over any width: read apart again, and a store in one of them. Over any list: a run of stores, and
+-- zeros.
 use mathlib.Core.Path.{_≡_, refl, sym, ap, ap₂, _∙_}
-use mathlib.Core.List.{List, [], _∷_, _++_, append-assoc}
+use mathlib.Core.List.{List, [], _∷_, _++_, map, append-assoc, append-nil}
 use Prim.Native.Nat.{ℕ, zero, suc, _+_, _*_, _≤_, _<_}
 use native.Mathlib.Nat.{add-zero, add-suc, suc-add, mul-zero, mul-suc}
 use native.Mathlib.Numerals.{towards-suc}
 use native.Mathlib.Omega.{arith}
-use lib.ListN.{length, getD, set, take, drop, length-append}
+use lib.ListN.{length, getD, set, take, drop, replicate, length-append, length-map, length-replicate, replicate-append-replicate}
 use lib.Seq.{sets, length-sets, set-append-left, take-at, drop-at}
-use lib.IntN.{ℤ}
+use lib.IntN.{ℤ, pos}
 use Rattle.rules.specs.Lists.{joined}
 use Rattle.rules.specs.Layout.{runs}
 
@@ -38,10 +39,29 @@ module _ {A : Type 0} where
   sets-all (x ∷ xs) [] e = absurd (omega arith)
   sets-all (x ∷ xs) (v ∷ vs) e = sets-right vs (v ∷ []) xs 0 ∙ ap (λ (l : List A). v ∷ l) (sets-all xs vs (omega arith))
 
-  -- one run behind the other
+  -- one run after the other
   pub sets-more : (vs us l : List A) (i : ℕ) → sets (sets l i vs) (i + length vs) us ≡ sets l i (vs ++ us)
   sets-more [] us l i = ap (λ (n : ℕ). sets l n us) (add-zero i)
   sets-more (v ∷ vs) us l i = ap (λ (n : ℕ). sets (sets (set l i v) (suc i) vs) n us) (omega arith) ∙ sets-more vs us (set l i v) (suc i)
+
+-- ---- zeros
+
+-- n words of zero
+abbrev pub zeros : ℕ → List ℤ
+zeros n = replicate n (pos 0)
+
+pub take-zeros : (m n : ℕ) → m ≤ n → take m (zeros n) ≡ zeros m
+take-zeros zero n h = refl
+take-zeros (suc m) zero h = absurd (omega arith)
+take-zeros (suc m) (suc n) h = ap (λ (r : List ℤ). pos 0 ∷ r) (take-zeros m n (omega arith))
+
+-- words over the first of the zeros
+pub over-zeros : (vs : List ℤ) (k : ℕ) → sets (zeros (length vs + k)) 0 vs ≡ vs ++ zeros k
+over-zeros vs k =
+    let n = length vs in
+    ap (λ (r : List ℤ). sets r 0 vs) (sym (replicate-append-replicate n k (pos 0)))
+    ∙ sets-left vs (zeros n) (zeros k) 0 (omega (arith, length-replicate n (pos 0)))
+    ∙ ap (λ (r : List ℤ). r ++ zeros k) (sets-all (zeros n) vs (sym (length-replicate n (pos 0))))
 
 -- ---- lists of one width
 
@@ -49,13 +69,24 @@ abbrev pub Wide : ℕ → List (List ℤ) → Type 0
 Wide k [] = Unit {0}
 Wide k (l ∷ ls) = (length l ≡ k) × Wide k ls
 
+-- the widths of its members
+pub wide-at : (k : ℕ) (ls : List (List ℤ)) (m : ℕ) → Wide k ls → m < length ls → length (getD ls m []) ≡ k
+wide-at k [] m w h = absurd (omega arith)
+wide-at k (l ∷ ls) zero w h = w .0
+wide-at k (l ∷ ls) (suc m) w h = wide-at k ls m (w .1) (omega arith)
+
+pub wide-set : (k : ℕ) (ls : List (List ℤ)) (m : ℕ) (x : List ℤ) → Wide k ls → length x ≡ k → Wide k (set ls m x)
+wide-set k [] m x w e = tt
+wide-set k (l ∷ ls) zero x w e = (e, w .1)
+wide-set k (l ∷ ls) (suc m) x w e = (w .0, wide-set k ls m x (w .1) e)
+
 module _ (k : ℕ) where
   pub length-joined : (ls : List (List ℤ)) → Wide k ls → length (joined ls) ≡ k * length ls
   unfolding joined
   length-joined [] w = sym (mul-zero k)
   length-joined (l ∷ ls) w = omega (arith, length-append l (joined ls), length-joined ls (w .1), w .0, mul-suc k (length ls))
 
-  -- read apart again, whatever stands behind
+  -- read apart again, whatever follows
   pub runs-joined : (ls : List (List ℤ)) → Wide k ls → (zs : List ℤ) → runs k (length ls) (joined ls ++ zs) ≡ ls
   unfolding runs joined
   runs-joined [] w zs = refl
@@ -83,6 +114,25 @@ module _ (k : ℕ) where
       ∙ sets-right vs x (joined ls) (k * m + j)
       ∙ ap (λ (r : List ℤ). x ++ r) (sets-joined ls (w .1) m j vs (omega arith) l)
 
--- five stores one behind the other
+-- things written as lists of one width
+module _ {A : Type 0} (k : ℕ) (f : A → List ℤ) (wide : (x : A) → length (f x) ≡ k) where
+  pub map-wide : (xs : List A) → Wide k (map f xs)
+  map-wide [] = tt
+  map-wide (x ∷ xs) = (wide x, map-wide xs)
+
+  pub length-parts : (xs : List A) → length (joined (map f xs)) ≡ k * length xs
+  length-parts xs = length-joined k (map f xs) (map-wide xs) ∙ ap (λ (n : ℕ). k * n) (length-map xs f)
+
+pub map-set : {A B : Type 0} (f : A → B) (xs : List A) (i : ℕ) (y : A) → set (map f xs) i (f y) ≡ map f (set xs i y)
+map-set f [] i y = refl
+map-set f (x ∷ xs) zero y = refl
+map-set {B = B} f (x ∷ xs) (suc i) y = ap (λ (l : List B). f x ∷ l) (map-set f xs i y)
+
+pub joined-snoc : (ls : List (List ℤ)) (l : List ℤ) → joined (ls ++ l ∷ []) ≡ joined ls ++ l
+unfolding joined
+joined-snoc [] l = append-nil l
+joined-snoc (x ∷ ls) l = ap (λ (r : List ℤ). x ++ r) (joined-snoc ls l) ∙ sym (append-assoc x (joined ls) l)
+
+-- five stores, one after the other
 pub five : {A : Type 0} (w : List A) (p : ℕ) (a b c d e : A) → set (set (set (set (set w p a) (p + 1) b) (p + 2) c) (p + 3) d) (p + 4) e ≡ sets w p (a ∷ b ∷ c ∷ d ∷ e ∷ [])
 five w p a b c d e = simp towards-suc

@@ -1,10 +1,10 @@
--- A few words of a slot stored in place, and no other word of the pool: an entry's five words over those of another, or behind the last
+-- A few words of a slot stored in place, and no other word of the pool: an entry's words over those of another, or after the last
 -- entry's, with the count one more. What a slot then holds are the words of a node, so the node is put into the pool.
 use mathlib.Core.Path.{_≡_, sym, ap, ap₂, subst, _∙_}
-use mathlib.Core.List.{List, [], _∷_, _++_, map, map-append, append-assoc}
-use Prim.Native.Nat.{ℕ, zero, suc, _+_, _*_, _-_, _≤_, _<_}
+use mathlib.Core.List.{List, [], _∷_, _++_, map}
+use Prim.Native.Nat.{ℕ, _+_, _*_, _-_, _≤_, _<_}
 use native.Mathlib.Omega.{arith}
-use lib.ListN.{length, getD, set, take, drop, replicate, length-append, length-set, length-map, length-replicate, replicate-append-replicate}
+use lib.ListN.{length, getD, set, drop, length-append, length-set, length-map}
 use lib.Seq.{sets, length-sets, getD-set-same, set-set, set-getD, getD-drop}
 use lib.IntN.{ℤ, pos}
 use Rattle.rules.specs.declared.SlotNumber.{SlotNumber}
@@ -12,17 +12,19 @@ use Rattle.rules.specs.declared.Entry.{Entry}
 use Rattle.rules.specs.Lists.{joined}
 use Rattle.rules.specs.Choose.{rectFrom}
 use Rattle.rules.specs.Pool.{Node, Pool, node, rectangle, rects, freeNode, nodeAt, entriesAt, entryFrom, entryAt, putNode, putEntries}
-use Rattle.rules.specs.Layout.{entryWords, padded, nodeWords, headWords, words, wordAt, rectOf, read}
+use Rattle.rules.specs.Numbers.{most}
+use Rattle.rules.specs.Layout.{entrySize, slotHead, slotSize, slotStart, countPlace, entryPlace, entryWords, nodeWords, headWords, words, wordAt, rectOf, read}
 use Rattle.rules_laws.proofs.Places.{each-append}
-use Rattle.pool.specs.Slots.{InPool, Fit, spotOf}
-use Rattle.pool.proofs.Parts.{startOf, room, slotWords, slot-node, slot-rect, rect-entry}
-use Rattle.pool.proofs.Runs.{Wide, sets-right, sets-left, sets-all, sets-joined}
-use Rattle.pool.proofs.Written.{Kind, Fine, entry-wide, node-wide, size, padded-is, node-size, head-size, same-head, wide-at, map-set, each-set, node-fine, read-slots, put-is, put-read, put-fit}
-use Rattle.pool.proofs.Fronts.{entry-size, joined-snoc, take-zeros}
+use Rattle.pool.specs.Slots.{InPool, Fit}
+use Rattle.pool.proofs.Parts.{room, slotWords, slot-node, slot-rect, rect-entry}
+use Rattle.pool.proofs.Runs.{wide-set, map-set, sets-right, sets-joined}
+use Rattle.pool.proofs.Padded.{placed-again, placed-more}
+use Rattle.pool.proofs.Written.{Kind, Fine, entry-size, placeWords, node-wide, node-size, head-size, same-head}
+use Rattle.pool.proofs.Written.{each-set, node-fine, read-slots, put-is, put-read, put-fit}
 
 -- ---- where an entry's words are
 
-pub spot-inside : {w : List ℤ} {s : SlotNumber} → InPool w s → (i : ℕ) → i < 8 → spotOf s i + 5 ≤ length w
+pub spot-inside : {w : List ℤ} {s : SlotNumber} → InPool w s → (i : ℕ) → i < most → entryPlace s i + entrySize ≤ length w
 spot-inside p i h = omega (arith, room p)
 
 -- the rectangle at a place, word by word
@@ -34,24 +36,15 @@ rect-words w at =
     λ j. rectangle (sym first j) (sym (getD-drop at w 1 (pos 0)) j) (sym (getD-drop at w 2 (pos 0)) j) (sym (getD-drop at w 3 (pos 0)) j)
 
 pub spot-rect : {w : List ℤ} {s : SlotNumber} → InPool w s → (i : ℕ) → i < length (entriesAt (read w) s)
-    → rectOf (drop (spotOf s i) w) ≡ rectFrom (rects (entriesAt (read w) s)) i
-spot-rect {w} {s} p i h =
-    let e : startOf s + 2 + 5 * i ≡ spotOf s i = omega arith in
-    sym (slot-rect p i h
-    ∙ ap (λ (k : ℕ). rectangle (wordAt w k) (wordAt w (k + 1)) (wordAt w (k + 2)) (wordAt w (k + 3))) e
-    ∙ rect-words w (spotOf s i))
+    → rectOf (drop (entryPlace s i) w) ≡ rectFrom (rects (entriesAt (read w) s)) i
+spot-rect {w} {s} p i h = sym (slot-rect p i h ∙ rect-words w (entryPlace s i))
 
 pub spot-entry : {w : List ℤ} {s : SlotNumber} → InPool w s → (i : ℕ) → i < length (entriesAt (read w) s)
-    → rectOf (drop (spotOf s i) w) ≡ entryAt (read w) s i .rect
+    → rectOf (drop (entryPlace s i) w) ≡ entryAt (read w) s i .rect
 unfolding entryAt entryFrom
 spot-entry {w} {s} p i h = spot-rect p i h ∙ rect-entry (entriesAt (read w) s) i
 
 -- ---- the words of one slot
-
-wide-set : (k : ℕ) (ls : List (List ℤ)) (m : ℕ) (x : List ℤ) → Wide k ls → length x ≡ k → Wide k (set ls m x)
-wide-set k [] m x w e = tt
-wide-set k (l ∷ ls) zero x w e = (e, w .1)
-wide-set k (l ∷ ls) (suc m) x w e = (w .0, wide-set k ls m x (w .1) e)
 
 module _ (p : Pool) (s : SlotNumber) where
   -- the pool's words, with others in the slot
@@ -70,86 +63,38 @@ module _ (p : Pool) (s : SlotNumber) where
       ap (λ (ls : List (List ℤ)). headWords p ++ joined ls) (map-set nodeWords (p .slots) (s .0 - 1) n)
       ∙ ap (λ (h : List ℤ). h ++ joined (map nodeWords (set (p .slots) (s .0 - 1) n))) (same-head p s n)
 
-  swap-sets : 1 ≤ s .0 → s .0 ≤ length (p .slots) → (x : List ℤ) → length x ≡ 42 → (j : ℕ) (vs : List ℤ) → j + length vs ≤ 42
-      → sets (swapped x) (startOf s + j) vs ≡ swapped (sets x j vs)
+  swap-sets : 1 ≤ s .0 → s .0 ≤ length (p .slots) → (x : List ℤ) → length x ≡ slotSize → (j : ℕ) (vs : List ℤ) → j + length vs ≤ slotSize
+      → sets (swapped x) (slotStart s + j) vs ≡ swapped (sets x j vs)
   swap-sets low high x e j vs h =
       let ls = map nodeWords (p .slots) in
       let m = s .0 - 1 in
       let inside : m < length ls = omega (arith, length-map (p .slots) nodeWords) in
       let still : m < length (set ls m x) = omega (arith, length-set ls m x) in
-      let here : startOf s + j ≡ length (headWords p) + (42 * m + j) = omega (arith, head-size p) in
+      let here : slotStart s + j ≡ length (headWords p) + (slotSize * m + j) = omega (arith, head-size p) in
       ap (λ (k : ℕ). sets (swapped x) k vs) here
-      ∙ sets-right vs (headWords p) (joined (set ls m x)) (42 * m + j)
+      ∙ sets-right vs (headWords p) (joined (set ls m x)) (slotSize * m + j)
       ∙ ap (λ (l : List ℤ). headWords p ++ l)
-      (sets-joined 42 (set ls m x) (wide-set 42 ls m x (node-wide (p .slots)) e) m j vs still h
+      (sets-joined slotSize (set ls m x) (wide-set slotSize ls m x (node-wide (p .slots)) e) m j vs still h
       ∙ ap (λ (y : List ℤ). joined (set (set ls m x) m (sets y j vs))) (getD-set-same ls m x [] inside)
       ∙ ap joined (set-set ls m x (sets x j vs)))
 
 -- ---- the words of one node
 
-abbrev zeros : ℕ → List ℤ
-zeros n = replicate n (pos 0)
-
-entries-anew : (es : List Entry) (i : ℕ) (e : Entry) → i < length es → length es ≤ 8
-    → sets (padded 40 (joined (map entryWords es))) (5 * i) (entryWords e) ≡ padded 40 (joined (map entryWords (set es i e)))
-entries-anew es i e h few =
-    let ls = map entryWords es in
-    let vs = entryWords e in
-    let long = length-map es entryWords in
-    let behind = take (40 - 5 * length es) (zeros 40) in
-    let same : length vs ≡ length (getD ls i []) = entry-size e ∙ sym (wide-at 5 ls i (entry-wide es) (omega arith)) in
-    let here : 5 * i ≡ 5 * i + 0 = omega arith in
-    ap (λ (r : List ℤ). sets r (5 * i) vs) (padded-is es few)
-    ∙ sets-left vs (joined ls) behind (5 * i) (omega (arith, size es, entry-size e))
-    ∙ ap (λ (r : List ℤ). r ++ behind)
-    (ap (λ (k : ℕ). sets (joined ls) k vs) here
-    ∙ sets-joined 5 ls (entry-wide es) i 0 vs (omega arith) (omega (arith, entry-size e))
-    ∙ ap (λ (x : List ℤ). joined (set ls i x)) (sets-all (getD ls i []) vs same)
-    ∙ ap joined (map-set entryWords es i e))
-    ∙ ap (λ (n : ℕ). joined (map entryWords (set es i e)) ++ take (40 - 5 * n) (zeros 40)) (sym (length-set es i e))
-    ∙ sym (padded-is (set es i e) (omega (arith, length-set es i e)))
-
--- five words over the first of the zeros
-over-zeros : (vs : List ℤ) (k : ℕ) → length vs ≡ 5 → sets (zeros (5 + k)) 0 vs ≡ vs ++ zeros k
-over-zeros vs k e =
-    ap (λ (r : List ℤ). sets r 0 vs) (sym (replicate-append-replicate 5 k (pos 0)))
-    ∙ sets-left vs (zeros 5) (zeros k) 0 (omega (arith, length-replicate 5 (pos 0)))
-    ∙ ap (λ (r : List ℤ). r ++ zeros k) (sets-all (zeros 5) vs (e ∙ sym (length-replicate 5 (pos 0))))
-
-entries-more : (es : List Entry) (e : Entry) → length es < 8
-    → sets (padded 40 (joined (map entryWords es))) (5 * length es) (entryWords e) ≡ padded 40 (joined (map entryWords (es ++ e ∷ [])))
-entries-more es e h =
-    let cs = joined (map entryWords es) in
-    let vs = entryWords e in
-    let k = 35 - 5 * length es in
-    let long : length (es ++ e ∷ []) ≡ length es + 1 = length-append es (e ∷ []) in
-    let more : 40 - 5 * length es ≡ 5 + k = omega arith in
-    let less : 40 - 5 * length (es ++ e ∷ []) ≡ k = omega arith in
-    let here : 5 * length es ≡ length cs + 0 = omega (arith, size es) in
-    let all = joined (map entryWords (es ++ e ∷ [])) in
-    ap₂ (λ (r : List ℤ) (a : ℕ). sets r a vs)
-    (padded-is es (omega arith) ∙ ap (λ (r : List ℤ). cs ++ r) (take-zeros (40 - 5 * length es) 40 (omega arith) ∙ ap zeros more)) here
-    ∙ sets-right vs cs (zeros (5 + k)) 0
-    ∙ ap (λ (r : List ℤ). cs ++ r) (over-zeros vs k (entry-size e))
-    ∙ sym (append-assoc cs vs (zeros k))
-    ∙ ap (λ (r : List ℤ). r ++ zeros k) (sym (joined-snoc (map entryWords es) vs) ∙ ap joined (sym (map-append entryWords es (e ∷ []))))
-    ∙ ap (λ (r : List ℤ). all ++ r) (ap zeros (sym less) ∙ sym (take-zeros (40 - 5 * length (es ++ e ∷ [])) 40 (omega arith)))
-    ∙ sym (padded-is (es ++ e ∷ []) (omega arith))
-
 module _ (l : ℕ) (es : List Entry) (e : Entry) where
-  node-anew : (i : ℕ) → i < length es → length es ≤ 8 → sets (nodeWords (node l es)) (2 + 5 * i) (entryWords e) ≡ nodeWords (node l (set es i e))
+  node-again : (i : ℕ) → i < length es → length es ≤ most
+      → sets (nodeWords (node l es)) (slotHead + entrySize * i) (entryWords e) ≡ nodeWords (node l (set es i e))
   unfolding nodeWords
-  node-anew i h few =
-      sets-right (entryWords e) (pos l ∷ pos (length es) ∷ []) (padded 40 (joined (map entryWords es))) (5 * i)
-      ∙ ap₂ (λ (n : ℕ) (r : List ℤ). pos l ∷ pos n ∷ r) (sym (length-set es i e)) (entries-anew es i e h few)
+  node-again i h few =
+      sets-right (entryWords e) (pos l ∷ pos (length es) ∷ []) (placeWords es) (entrySize * i)
+      ∙ ap₂ (λ (n : ℕ) (r : List ℤ). pos l ∷ pos n ∷ r) (sym (length-set es i e)) (placed-again entrySize most entryWords entry-size es i e h few)
 
-  node-more : length es < 8
-      → set (sets (nodeWords (node l es)) (2 + 5 * length es) (entryWords e)) 1 (pos (length es + 1)) ≡ nodeWords (node l (es ++ e ∷ []))
+  node-more : length es < most
+      → set (sets (nodeWords (node l es)) (slotHead + entrySize * length es) (entryWords e)) 1 (pos (length es + 1)) ≡ nodeWords (node l (es ++ e ∷ []))
   unfolding nodeWords
   node-more h =
       ap (λ (r : List ℤ). set r 1 (pos (length es + 1)))
-      (sets-right (entryWords e) (pos l ∷ pos (length es) ∷ []) (padded 40 (joined (map entryWords es))) (5 * length es))
-      ∙ ap₂ (λ (n : ℕ) (r : List ℤ). pos l ∷ pos n ∷ r) (sym (length-append es (e ∷ []))) (entries-more es e h)
+      (sets-right (entryWords e) (pos l ∷ pos (length es) ∷ []) (placeWords es) (entrySize * length es))
+      ∙ ap₂ (λ (n : ℕ) (r : List ℤ). pos l ∷ pos n ∷ r) (sym (length-append es (e ∷ []))) (placed-more entrySize most entryWords entry-size es e h)
 
 -- ---- the pool
 
@@ -165,38 +110,38 @@ module _ {w : List ℤ} {s : SlotNumber} (f : Fit w) (i : InPool w s) where
 
   stored : (v : List ℤ) (n : Node) → Fine n → v ≡ swapped (read w) s (nodeWords n) → (read v ≡ putNode (read w) s n) × Fit v
   stored v n g e =
-      let q : v ≡ sets w (startOf s) (nodeWords n) = e ∙ swap-put (read w) s n ∙ sym (put-is f i g) in
+      let q : v ≡ sets w (slotStart s) (nodeWords n) = e ∙ swap-put (read w) s n ∙ sym (put-is f i g) in
       (ap read q ∙ put-read f i g, subst Fit (sym q) (put-fit f i g))
 
   -- an entry's words in the slot
-  swap-entry : (k : ℕ) (e : Entry) → k < 8
-      → sets w (spotOf s k) (entryWords e) ≡ swapped (read w) s (sets (nodeWords here) (2 + 5 * k) (entryWords e))
+  swap-entry : (k : ℕ) (e : Entry) → k < most
+      → sets w (entryPlace s k) (entryWords e) ≡ swapped (read w) s (sets (nodeWords here) (slotHead + entrySize * k) (entryWords e))
   swap-entry k e h =
-      let a : spotOf s k ≡ startOf s + (2 + 5 * k) = omega arith in
+      let a : entryPlace s k ≡ slotStart s + (slotHead + entrySize * k) = omega arith in
       ap₂ (λ (x : List ℤ) (n : ℕ). sets x n (entryWords e)) (sym (f .same) ∙ swap-none (read w) s) a
-      ∙ swap-sets (read w) s (i .low) there (nodeWords here) (node-size here) (2 + 5 * k) (entryWords e) (omega (arith, entry-size e))
+      ∙ swap-sets (read w) s (i .low) there (nodeWords here) (node-size here) (slotHead + entrySize * k) (entryWords e) (omega (arith, entry-size e))
 
-  pub anew-stored : (k : ℕ) (e : Entry) → k < length (entriesAt (read w) s) → Kind (here .level) e
-      → (read (sets w (spotOf s k) (entryWords e)) ≡ putEntries (read w) s (set (entriesAt (read w) s) k e)) × Fit (sets w (spotOf s k) (entryWords e))
+  pub again-stored : (k : ℕ) (e : Entry) → k < length (entriesAt (read w) s) → Kind (here .level) e
+      → (read (sets w (entryPlace s k) (entryWords e)) ≡ putEntries (read w) s (set (entriesAt (read w) s) k e)) × Fit (sets w (entryPlace s k) (entryWords e))
   unfolding entriesAt putEntries
-  anew-stored k e h kind =
+  again-stored k e h kind =
       let es = here .entries in
-      stored (sets w (spotOf s k) (entryWords e)) (node (here .level) (set es k e))
+      stored (sets w (entryPlace s k) (entryWords e)) (node (here .level) (set es k e))
       (record { few = omega (arith, length-set es k e, is-fine .few); kinds = each-set (Kind (here .level)) es k e (is-fine .kinds) kind })
       (swap-entry k e (omega (arith, is-fine .few))
-      ∙ ap (swapped (read w) s) (node-anew (here .level) es e k h (is-fine .few)))
+      ∙ ap (swapped (read w) s) (node-again (here .level) es e k h (is-fine .few)))
 
-  pub more-stored : (e : Entry) → length (entriesAt (read w) s) < 8 → Kind (here .level) e → (v : List ℤ)
-      → v ≡ set (sets w (spotOf s (length (entriesAt (read w) s))) (entryWords e)) (startOf s + 1) (pos (length (entriesAt (read w) s) + 1))
+  pub more-stored : (e : Entry) → length (entriesAt (read w) s) < most → Kind (here .level) e → (v : List ℤ)
+      → v ≡ set (sets w (entryPlace s (length (entriesAt (read w) s))) (entryWords e)) (countPlace s) (pos (length (entriesAt (read w) s) + 1))
       → (read v ≡ putEntries (read w) s (entriesAt (read w) s ++ e ∷ [])) × Fit v
   unfolding entriesAt putEntries
   more-stored e h kind v q =
       let es = here .entries in
       let n = length es in
-      let x = sets (nodeWords here) (2 + 5 * n) (entryWords e) in
+      let x = sets (nodeWords here) (slotHead + entrySize * n) (entryWords e) in
       stored v (node (here .level) (es ++ e ∷ []))
       (record { few = omega (arith, length-append es (e ∷ [])); kinds = each-append (Kind (here .level)) es (e ∷ []) (is-fine .kinds) (kind, tt) })
       (q
-      ∙ ap (λ (y : List ℤ). set y (startOf s + 1) (pos (n + 1))) (swap-entry n e h)
-      ∙ swap-sets (read w) s (i .low) there x (length-sets (nodeWords here) (2 + 5 * n) (entryWords e) ∙ node-size here) 1 (pos (n + 1) ∷ []) (omega arith)
+      ∙ ap (λ (y : List ℤ). set y (countPlace s) (pos (n + 1))) (swap-entry n e h)
+      ∙ swap-sets (read w) s (i .low) there x (length-sets (nodeWords here) (slotHead + entrySize * n) (entryWords e) ∙ node-size here) 1 (pos (n + 1) ∷ []) (omega arith)
       ∙ ap (swapped (read w) s) (node-more (here .level) es e h))

@@ -1,12 +1,12 @@
--- What is written is read back: a node from its 42 words, a pool from all of them. And a node written into its slot is the node put into
+-- What is written is read back: a node from its words, a pool from all of them. And a node written into its slot is the node put into
 -- the pool.
 use mathlib.Core.Path.{_≡_, refl, sym, ap, ap₂, subst, _∙_}
 use mathlib.Core.Bool.{Bool, true, false}
 use mathlib.Core.List.{List, [], _∷_, _++_, map, append-nil}
 use Prim.Native.Nat.{ℕ, zero, suc, _+_, _*_, _-_, _≤_, _<_}
 use native.Mathlib.Omega.{arith}
-use lib.ListN.{length, getD, set, take, drop, replicate, length-append, length-take, length-map, length-set, length-replicate}
-use lib.Seq.{sets, length-sets, take-append-add, drop-at}
+use lib.ListN.{length, getD, set, take, drop, length-append, length-take, length-map, length-set}
+use lib.Seq.{sets, length-sets, drop-at}
 use lib.Dec.{eqb}
 use lib.IntN.{ℤ, pos}
 use Rattle.rules.specs.declared.SlotNumber.{SlotNumber}
@@ -15,11 +15,14 @@ use Rattle.rules.specs.declared.Pointer.the-variants.{Number, Child}
 use Rattle.rules.specs.declared.Entry.{Entry}
 use Rattle.rules.specs.Lists.{joined}
 use Rattle.rules.specs.Pool.{Node, Pool, slot, number, node, noEntry, childOf, isLeaf, putNode, putRoot, putRecords}
-use Rattle.rules.specs.Layout.{slotCount, validLength, pointerWord, entryWords, padded, nodeWords, headWords, words, natural, wordAt, runs, rectOf, pointerOf, entryOf, nodeOf, read}
+use Rattle.rules.specs.Numbers.{most}
+use Rattle.rules.specs.Layout.{headSize, rootPlace, heightPlace, recordsPlace, rectSize, entrySize, slotHead, slotSize, slotStart, slotCount, validLength, pointerWord, entryWords}
+use Rattle.rules.specs.Layout.{padded, nodeWords, headWords, words, natural, wordAt, runs, rectOf, pointerOf, entryOf, nodeOf, read}
 use Rattle.rules_laws.proofs.Places.{Each}
 use Rattle.pool.specs.Slots.{InPool, Fit, KindAll}
-use Rattle.pool.proofs.Parts.{startOf, node-count, length-runs}
-use Rattle.pool.proofs.Runs.{Wide, length-joined, runs-joined, take-runs, sets-right, sets-all, sets-joined}
+use Rattle.pool.proofs.Parts.{node-count, length-runs}
+use Rattle.pool.proofs.Runs.{zeros, Wide, wide-at, map-wide, map-set, length-parts, runs-joined, sets-right, sets-all, sets-joined}
+use Rattle.pool.proofs.Padded.{placed, unplaced, placed-size, placed-is, placed-back}
 
 -- ---- a node
 
@@ -29,7 +32,7 @@ Kind l e = pointerOf l (pointerWord (e .pointer)) ≡ e .pointer
 
 -- a node that a slot can hold
 pub record Fine (n : Node) : Type 0 where
-  pub few : length (n .entries) ≤ 8
+  pub few : length (n .entries) ≤ most
   pub kinds : Each (Kind (n .level)) (n .entries)
 
 entry-back : (l : ℕ) (e : Entry) → Kind l e → entryOf l (entryWords e) ≡ e
@@ -40,41 +43,35 @@ entries-back : (l : ℕ) (es : List Entry) → Each (Kind l) es → map (entryOf
 entries-back l [] k = refl
 entries-back l (e ∷ es) k = ap₂ (λ (a : Entry) (b : List Entry). a ∷ b) (entry-back l e (k .0)) (entries-back l es (k .1))
 
-pub entry-wide : (es : List Entry) → Wide 5 (map entryWords es)
+pub entry-size : (e : Entry) → length (entryWords e) ≡ entrySize
 unfolding entryWords
-entry-wide [] = tt
-entry-wide (e ∷ es) = (refl, entry-wide es)
+entry-size e = refl
 
-module _ (es : List Entry) where
-  pub size : length (joined (map entryWords es)) ≡ 5 * length es
-  size = length-joined 5 (map entryWords es) (entry-wide es) ∙ ap (λ (n : ℕ). 5 * n) (length-map es entryWords)
+pub entry-wide : (es : List Entry) → Wide entrySize (map entryWords es)
+entry-wide = map-wide entrySize entryWords entry-size
 
-  -- the words of the entries, and zeros behind them
-  pub padded-is : length es ≤ 8 → padded 40 (joined (map entryWords es)) ≡ joined (map entryWords es) ++ take (40 - 5 * length es) (replicate 40 (pos 0))
-  unfolding padded
-  padded-is h =
-      let e : 40 ≡ length (joined (map entryWords es)) + (40 - 5 * length es) = omega (arith, size) in
-      ap (λ (n : ℕ). take n (joined (map entryWords es) ++ replicate 40 (pos 0))) e
-      ∙ take-append-add (joined (map entryWords es)) (replicate 40 (pos 0)) (40 - 5 * length es)
+-- the words of a node's places: those of its entries, and zeros after them
+abbrev pub placeWords : List Entry → List ℤ
+placeWords es = placed entrySize most entryWords entry-size es
 
-pub node-size : (n : Node) → length (nodeWords n) ≡ 42
-unfolding nodeWords padded
-node-size n =
-    let w = joined (map entryWords (n .entries)) in
-    omega (arith, length-take 40 (w ++ replicate 40 (pos 0)), length-append w (replicate 40 (pos 0)), length-replicate 40 (pos 0))
+-- how many words the places have that no entry is in
+abbrev pub unused : List Entry → ℕ
+unused es = unplaced entrySize most entryWords entry-size es
+
+pub padded-is : (es : List Entry) → length es ≤ most → placeWords es ≡ joined (map entryWords es) ++ zeros (unused es)
+padded-is = placed-is entrySize most entryWords entry-size
+
+pub node-size : (n : Node) → length (nodeWords n) ≡ slotSize
+unfolding nodeWords
+node-size n = omega (arith, placed-size entrySize most entryWords entry-size (n .entries))
 
 pub node-back : {n : Node} → Fine n → nodeOf (nodeWords n) ≡ n
 unfolding nodeOf nodeWords natural wordAt
 node-back {n} f = λ i. record { level = n .level; entries = same i }
   where
-    same : map (entryOf (n .level)) (take (length (n .entries)) (runs 5 8 (padded 40 (joined (map entryWords (n .entries)))))) ≡ n .entries
+    same : map (entryOf (n .level)) (take (length (n .entries)) (runs entrySize most (placeWords (n .entries)))) ≡ n .entries
     same =
-        let ls = map entryWords (n .entries) in
-        ap (map (entryOf (n .level)))
-        (take-runs 5 (length (n .entries)) 8 (padded 40 (joined ls)) (f .few)
-        ∙ ap (runs 5 (length (n .entries))) (padded-is (n .entries) (f .few))
-        ∙ ap (λ (k : ℕ). runs 5 k (joined ls ++ take (40 - 5 * length (n .entries)) (replicate 40 (pos 0)))) (sym (length-map (n .entries) entryWords))
-        ∙ runs-joined 5 ls (entry-wide (n .entries)) (take (40 - 5 * length (n .entries)) (replicate 40 (pos 0))))
+        ap (map (entryOf (n .level))) (placed-back entrySize most entryWords entry-size (n .entries) (f .few))
         ∙ entries-back (n .level) (n .entries) (f .kinds)
 
 -- ---- a pool
@@ -83,21 +80,20 @@ node-back {n} f = λ i. record { level = n .level; entries = same i }
 abbrev pub AllFine : Pool → Type 0
 AllFine p = Each Fine (p .slots)
 
-pub node-wide : (ns : List Node) → Wide 42 (map nodeWords ns)
-node-wide [] = tt
-node-wide (n ∷ ns) = (node-size n, node-wide ns)
+pub node-wide : (ns : List Node) → Wide slotSize (map nodeWords ns)
+node-wide = map-wide slotSize nodeWords node-size
 
 nodes-back : (ns : List Node) → Each Fine ns → map nodeOf (map nodeWords ns) ≡ ns
 nodes-back [] f = refl
 nodes-back (n ∷ ns) f = ap₂ (λ (a : Node) (b : List Node). a ∷ b) (node-back (f .0)) (nodes-back ns (f .1))
 
-pub head-size : (p : Pool) → length (headWords p) ≡ 8
+pub head-size : (p : Pool) → length (headWords p) ≡ headSize
 unfolding headWords padded
 head-size p = refl
 
-behind : (p : Pool) → drop 8 (words p) ≡ joined (map nodeWords (p .slots))
+after : (p : Pool) → drop headSize (words p) ≡ joined (map nodeWords (p .slots))
 unfolding words
-behind p = drop-at (headWords p) (joined (map nodeWords (p .slots))) 8 (head-size p)
+after p = drop-at (headWords p) (joined (map nodeWords (p .slots))) headSize (head-size p)
 
 module _ (p : Pool) where
   abbrev slotLists : List (List ℤ)
@@ -106,17 +102,19 @@ module _ (p : Pool) where
   lists : length slotLists ≡ length (p .slots)
   lists = length-map (p .slots) nodeWords
 
-  pub words-size : length (words p) ≡ 8 + 42 * length (p .slots)
+  pub words-size : length (words p) ≡ headSize + slotSize * length (p .slots)
   unfolding words
-  words-size = omega (arith, length-append (headWords p) (joined slotLists), head-size p, length-joined 42 slotLists (node-wide (p .slots)), lists)
+  words-size = omega (arith, length-append (headWords p) (joined slotLists), head-size p, length-parts slotSize nodeWords node-size (p .slots))
 
   pub words-slots : slotCount (words p) ≡ length (p .slots)
   unfolding slotCount
   words-slots = omega (arith, words-size)
 
-  slots-back : AllFine p → map nodeOf (runs 42 (slotCount (words p)) (drop 8 (words p))) ≡ p .slots
+  slots-back : AllFine p → map nodeOf (runs slotSize (slotCount (words p)) (drop headSize (words p))) ≡ p .slots
   slots-back f =
-      ap (map nodeOf) (ap₂ (runs 42) (words-slots ∙ sym lists) (behind p ∙ sym (append-nil (joined slotLists))) ∙ runs-joined 42 slotLists (node-wide (p .slots)) [])
+      ap (map nodeOf)
+      (ap₂ (runs slotSize) (words-slots ∙ sym lists) (after p ∙ sym (append-nil (joined slotLists)))
+      ∙ runs-joined slotSize slotLists (node-wide (p .slots)) [])
       ∙ nodes-back (p .slots) f
 
   pub read-words : AllFine p → read (words p) ≡ p
@@ -125,34 +123,23 @@ module _ (p : Pool) where
 
 -- ---- a node written into its slot
 
-pub map-set : {A B : Type 0} (f : A → B) (xs : List A) (i : ℕ) (y : A) → set (map f xs) i (f y) ≡ map f (set xs i y)
-map-set f [] i y = refl
-map-set f (x ∷ xs) zero y = refl
-map-set {B = B} f (x ∷ xs) (suc i) y = ap (λ (l : List B). f x ∷ l) (map-set f xs i y)
-
--- the widths of a list's members
-pub wide-at : (k : ℕ) (ls : List (List ℤ)) (m : ℕ) → Wide k ls → m < length ls → length (getD ls m []) ≡ k
-wide-at k [] m w h = absurd (omega arith)
-wide-at k (l ∷ ls) zero w h = w .0
-wide-at k (l ∷ ls) (suc m) w h = wide-at k ls m (w .1) (omega arith)
-
 pub same-head : (p : Pool) (s : SlotNumber) (n : Node) → headWords p ≡ headWords (putNode p s n)
 unfolding putNode headWords
 same-head p s n = refl
 
-pub words-put : (p : Pool) (s : SlotNumber) (n : Node) → 1 ≤ s .0 → s .0 ≤ length (p .slots) → sets (words p) (8 + 42 * (s .0 - 1)) (nodeWords n) ≡ words (putNode p s n)
+pub words-put : (p : Pool) (s : SlotNumber) (n : Node) → 1 ≤ s .0 → s .0 ≤ length (p .slots) → sets (words p) (slotStart s) (nodeWords n) ≡ words (putNode p s n)
 unfolding words putNode
 words-put p s n low high =
     let ls = map nodeWords (p .slots) in
     let m = s .0 - 1 in
     let inside : m < length ls = omega (arith, length-map (p .slots) nodeWords) in
-    let here : 8 + 42 * (s .0 - 1) ≡ length (headWords p) + (42 * m + 0) = omega (arith, head-size p) in
-    let fits : 0 + length (nodeWords n) ≤ 42 = omega (arith, node-size n) in
-    let whole : length (nodeWords n) ≡ length (getD ls m []) = node-size n ∙ sym (wide-at 42 ls m (node-wide (p .slots)) inside) in
+    let here : slotStart s ≡ length (headWords p) + (slotSize * m + 0) = omega (arith, head-size p) in
+    let fits : 0 + length (nodeWords n) ≤ slotSize = omega (arith, node-size n) in
+    let whole : length (nodeWords n) ≡ length (getD ls m []) = node-size n ∙ sym (wide-at slotSize ls m (node-wide (p .slots)) inside) in
     ap (λ (k : ℕ). sets (headWords p ++ joined ls) k (nodeWords n)) here
-    ∙ sets-right (nodeWords n) (headWords p) (joined ls) (42 * m + 0)
+    ∙ sets-right (nodeWords n) (headWords p) (joined ls) (slotSize * m + 0)
     ∙ ap (λ (l : List ℤ). headWords p ++ l)
-    (sets-joined 42 ls (node-wide (p .slots)) m 0 (nodeWords n) inside fits
+    (sets-joined slotSize ls (node-wide (p .slots)) m 0 (nodeWords n) inside fits
     ∙ ap joined (ap (set ls m) (sets-all (getD ls m []) (nodeWords n) whole) ∙ map-set nodeWords (p .slots) m n))
     ∙ ap (λ (h : List ℤ). h ++ joined (map nodeWords (set (p .slots) m n))) (same-head p s n)
 
@@ -166,7 +153,7 @@ child-word : (z : ℤ) → Child (slot (natural (pointerWord (Child (slot (natur
 unfolding pointerWord natural
 child-word z = refl
 
--- the length alone decides whether it is right
+-- the length alone decides whether it is valid
 pub right-same : (v w : List ℤ) → length v ≡ length w → validLength w ≡ true → validLength v ≡ true
 unfolding validLength slotCount
 right-same v w e r = rw e r
@@ -185,16 +172,18 @@ pointer-kind l z = go (eqb l 1) refl
   where
     go : (t : Bool) → eqb l 1 ≡ t → pointerOf l (pointerWord (pointerOf l z)) ≡ pointerOf l z
     go true e = ap (pointerOf l) (ap pointerWord (pointer-number l z e) ∙ number-word z)
-    go false e = ap (λ q. pointerOf l (pointerWord q)) (pointer-child l z e) ∙ pointer-child l (pointerWord (Child (slot (natural z)))) e ∙ child-word z ∙ sym (pointer-child l z e)
+    go false e =
+        ap (λ q. pointerOf l (pointerWord q)) (pointer-child l z e) ∙ pointer-child l (pointerWord (Child (slot (natural z)))) e
+        ∙ child-word z ∙ sym (pointer-child l z e)
 
 entry-kinds : (l : ℕ) (xs : List (List ℤ)) → Each (Kind l) (map (entryOf l) xs)
 unfolding entryOf
 entry-kinds l [] = tt
-entry-kinds l (x ∷ xs) = (pointer-kind l (wordAt x 4), entry-kinds l xs)
+entry-kinds l (x ∷ xs) = (pointer-kind l (wordAt x rectSize), entry-kinds l xs)
 
 read-kinds : (ws : List ℤ) → Each (Kind (nodeOf ws .level)) (nodeOf ws .entries)
 unfolding nodeOf
-read-kinds ws = entry-kinds (natural (wordAt ws 0)) (take (natural (wordAt ws 1)) (runs 5 8 (drop 2 ws)))
+read-kinds ws = entry-kinds (natural (wordAt ws 0)) (take (natural (wordAt ws 1)) (runs entrySize most (drop slotHead ws)))
 
 pub node-fine : (ws : List ℤ) → Fine (nodeOf ws)
 node-fine ws = record { few = omega (arith, node-count ws); kinds = read-kinds ws }
@@ -205,11 +194,11 @@ nodes-fine (l ∷ ls) = (node-fine l, nodes-fine ls)
 
 pub read-fine : (w : List ℤ) → AllFine (read w)
 unfolding read
-read-fine w = nodes-fine (runs 42 (slotCount w) (drop 8 w))
+read-fine w = nodes-fine (runs slotSize (slotCount w) (drop headSize w))
 
 pub read-slots : (w : List ℤ) → length (read w .slots) ≡ slotCount w
 unfolding read
-read-slots w = length-map (runs 42 (slotCount w) (drop 8 w)) nodeOf ∙ length-runs 42 (slotCount w) (drop 8 w)
+read-slots w = length-map (runs slotSize (slotCount w) (drop headSize w)) nodeOf ∙ length-runs slotSize (slotCount w) (drop headSize w)
 
 pub each-set : {A : Type 0} (P : A → Type 0) (xs : List A) (i : ℕ) (y : A) → Each P xs → P y → Each P (set xs i y)
 each-set P [] i y a f = tt
@@ -222,25 +211,25 @@ kinds-taken l es zero k = tt
 kinds-taken l [] (suc n) k = tt
 kinds-taken l (e ∷ es) (suc n) k = (k 0 (omega arith), kinds-taken l es n (λ i h. k (suc i) (omega arith)))
 
-pub fine-node : (l : ℕ) (es : List Entry) (n : ℕ) → n ≤ 8 → KindAll l es n → Fine (node l (take n es))
+pub fine-node : (l : ℕ) (es : List Entry) (n : ℕ) → n ≤ most → KindAll l es n → Fine (node l (take n es))
 fine-node l es n h k = record { few = omega (arith, length-take n es); kinds = kinds-taken l es n (k .kind) }
 
 -- ---- a pool's words stay a pool's words
 
 module _ {w : List ℤ} {s : SlotNumber} (f : Fit w) (i : InPool w s) {n : Node} (g : Fine n) where
-  pub put-is : sets w (startOf s) (nodeWords n) ≡ words (putNode (read w) s n)
-  put-is = ap (λ (x : List ℤ). sets x (startOf s) (nodeWords n)) (sym (f .same)) ∙ words-put (read w) s n (i .low) (omega (arith, i .high, read-slots w))
+  pub put-is : sets w (slotStart s) (nodeWords n) ≡ words (putNode (read w) s n)
+  put-is = ap (λ (x : List ℤ). sets x (slotStart s) (nodeWords n)) (sym (f .same)) ∙ words-put (read w) s n (i .low) (omega (arith, i .high, read-slots w))
 
   put-fine : AllFine (putNode (read w) s n)
   unfolding putNode
   put-fine = each-set Fine (read w .slots) (s .0 - 1) n (read-fine w) g
 
-  pub put-read : read (sets w (startOf s) (nodeWords n)) ≡ putNode (read w) s n
+  pub put-read : read (sets w (slotStart s) (nodeWords n)) ≡ putNode (read w) s n
   put-read = ap read put-is ∙ read-words (putNode (read w) s n) put-fine
 
-  pub put-fit : Fit (sets w (startOf s) (nodeWords n))
+  pub put-fit : Fit (sets w (slotStart s) (nodeWords n))
   put-fit = record {
-    right = right-same (sets w (startOf s) (nodeWords n)) w (length-sets w (startOf s) (nodeWords n)) (f .right);
+    right = right-same (sets w (slotStart s) (nodeWords n)) w (length-sets w (slotStart s) (nodeWords n)) (f .right);
     same = ap words put-read ∙ sym put-is;
   }
 
@@ -259,11 +248,11 @@ leaf-not n e = e
 
 -- ---- the head
 
-root-words : (p : Pool) (s : SlotNumber) (h : ℕ) → set (set (words p) 1 (pos (s .0))) 2 (pos h) ≡ words (putRoot p s h)
+root-words : (p : Pool) (s : SlotNumber) (h : ℕ) → set (set (words p) rootPlace (pos (s .0))) heightPlace (pos h) ≡ words (putRoot p s h)
 unfolding words headWords padded putRoot
 root-words p s h = refl
 
-records-words : (p : Pool) (n : ℕ) → set (words p) 3 (pos n) ≡ words (putRecords p n)
+records-words : (p : Pool) (n : ℕ) → set (words p) recordsPlace (pos n) ≡ words (putRecords p n)
 unfolding words headWords padded putRecords
 records-words p n = refl
 
@@ -284,24 +273,27 @@ module _ {w v : List ℤ} (f : Fit w) (q : Pool) (size : length v ≡ length w) 
   head-fit = record { right = right-same v w size (f .right); same = ap words head-read ∙ sym is }
 
 module _ {w : List ℤ} (f : Fit w) (s : SlotNumber) (h : ℕ) where
-  root-is : set (set w 1 (pos (s .0))) 2 (pos h) ≡ words (putRoot (read w) s h)
-  root-is = ap (λ (x : List ℤ). set (set x 1 (pos (s .0))) 2 (pos h)) (sym (f .same)) ∙ root-words (read w) s h
+  abbrev headSet : List ℤ → List ℤ
+  headSet x = set (set x rootPlace (pos (s .0))) heightPlace (pos h)
 
-  root-size : length (set (set w 1 (pos (s .0))) 2 (pos h)) ≡ length w
-  root-size = length-set (set w 1 (pos (s .0))) 2 (pos h) ∙ length-set w 1 (pos (s .0))
+  root-is : headSet w ≡ words (putRoot (read w) s h)
+  root-is = ap (λ (x : List ℤ). headSet x) (sym (f .same)) ∙ root-words (read w) s h
 
-  pub root-read : read (set (set w 1 (pos (s .0))) 2 (pos h)) ≡ putRoot (read w) s h
+  root-size : length (headSet w) ≡ length w
+  root-size = length-set (set w rootPlace (pos (s .0))) heightPlace (pos h) ∙ length-set w rootPlace (pos (s .0))
+
+  pub root-read : read (headSet w) ≡ putRoot (read w) s h
   root-read = head-read f (putRoot (read w) s h) root-size root-is (root-slots (read w) s h)
 
-  pub root-fit : Fit (set (set w 1 (pos (s .0))) 2 (pos h))
+  pub root-fit : Fit (headSet w)
   root-fit = head-fit f (putRoot (read w) s h) root-size root-is (root-slots (read w) s h)
 
 module _ {w : List ℤ} (f : Fit w) (n : ℕ) where
-  records-is : set w 3 (pos n) ≡ words (putRecords (read w) n)
-  records-is = ap (λ (x : List ℤ). set x 3 (pos n)) (sym (f .same)) ∙ records-words (read w) n
+  records-is : set w recordsPlace (pos n) ≡ words (putRecords (read w) n)
+  records-is = ap (λ (x : List ℤ). set x recordsPlace (pos n)) (sym (f .same)) ∙ records-words (read w) n
 
-  pub records-read : read (set w 3 (pos n)) ≡ putRecords (read w) n
-  records-read = head-read f (putRecords (read w) n) (length-set w 3 (pos n)) records-is (records-slots (read w) n)
+  pub records-read : read (set w recordsPlace (pos n)) ≡ putRecords (read w) n
+  records-read = head-read f (putRecords (read w) n) (length-set w recordsPlace (pos n)) records-is (records-slots (read w) n)
 
-  pub records-fit : Fit (set w 3 (pos n))
-  records-fit = head-fit f (putRecords (read w) n) (length-set w 3 (pos n)) records-is (records-slots (read w) n)
+  pub records-fit : Fit (set w recordsPlace (pos n))
+  records-fit = head-fit f (putRecords (read w) n) (length-set w recordsPlace (pos n)) records-is (records-slots (read w) n)

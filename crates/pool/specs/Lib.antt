@@ -1,2 +1,3 @@
 -- What the functions of `pool` ask of a pool's words.
 pub mod Slots
+pub mod Standing

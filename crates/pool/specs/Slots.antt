@@ -2,7 +2,7 @@
 use mathlib.Core.Path.{_≡_}
 use mathlib.Core.Bool.{true, cond}
 use mathlib.Core.List.{List}
-use Prim.Native.Nat.{ℕ, _+_, _*_, _-_, _≤_, _<_}
+use Prim.Native.Nat.{ℕ, _≤_, _<_}
 use lib.Dec.{ltb}
 use lib.ListN.{getD}
 use lib.IntN.{ℤ}
@@ -19,10 +19,6 @@ pub record InPool (w : List ℤ) (s : SlotNumber) : Type 0 where
   pub right : validLength w ≡ true
   pub low : 1 ≤ s .0
   pub high : s .0 ≤ slotCount w
-
--- where the five words of the entry at place i of slot s begin: behind the head, the slots before, the level and the count
-abbrev pub spotOf : SlotNumber → ℕ → ℕ
-spotOf s i = 10 + 42 * (s .0 - 1) + 5 * i
 
 -- the words are those of a pool, and nothing else
 pub record Fit (w : List ℤ) : Type 0 where

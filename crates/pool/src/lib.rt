@@ -1,20 +1,118 @@
-// The pool, word by word: the one place of the code that knows where a word stands. What is read is what the definition `read` reads, of
-// any words of a valid length.
+// The pool, word by word: the one crate that knows where a word stands. Here are the sizes and places, what is read and what is
+// written; `tidy` asks whether the words are a pool's and nothing else, `blank` makes them those of a blank pool. What is read is what
+// the definition `read` reads, of any words of a valid length.
 ghost use mathlib.Core.Path.{_≡_};
 ghost use mathlib.Core.Bool.{true, false};
 ghost use mathlib.Core.List.{[], _∷_, _++_};
-ghost use Prim.Native.Nat.{_+_, _-_, _*_, _<_, _≤_};
+ghost use Prim.Native.Nat.{_+_, _<_, _≤_};
 ghost use lib.ListN.{length, set, take, drop};
 ghost use lib.Seq.{sets};
+ghost use Rattle.rules.specs.Numbers.{most, mostSlots};
 ghost use Rattle.rules.specs.Layout as L;
 ghost use Rattle.rules.specs.Pool as P;
 ghost use Rattle.rules.specs.Choose.{rectFrom};
-ghost use Rattle.pool.specs.Slots.{Fit, InPool, KindAll, Small, SmallAll, spotOf, usedAt};
+ghost use Rattle.pool.specs.Slots.{Fit, InPool, KindAll, Small, SmallAll, usedAt};
+
+pub mod blank;
+pub mod tidy;
+
 use rules::Entry;
+use rules::MOST;
+use rules::MOST_SLOTS;
 use rules::Pointer;
 use rules::RecordNumber;
 use rules::Rect;
 use rules::SlotNumber;
+
+// ---- sizes and places: those of the definitions in `Layout`, by the same names
+
+// "Head: word 0 edition, 1; word 1 root slot; word 2 height; word 3 number of records; words 4 to 7 zero."
+pub const HEAD_SIZE: usize = 8;
+
+const EDITION: i32 = 1;
+
+const EDITION_PLACE: usize = 0;
+
+const ROOT_PLACE: usize = 1;
+
+const HEIGHT_PLACE: usize = 2;
+
+const RECORDS_PLACE: usize = 3;
+
+const UNUSED_PLACE: usize = RECORDS_PLACE + 1;
+
+// "8 entries of five words: low x, low y, high x, high y, pointer"
+const RECT_SIZE: usize = 4;
+
+const ENTRY_SIZE: usize = RECT_SIZE + 1;
+
+// "level, count, then 8 entries"
+const SLOT_HEAD: usize = 2;
+
+pub const SLOT_SIZE: usize = SLOT_HEAD + MOST * ENTRY_SIZE;
+
+// "Slot s (from 1) takes 42 words from word 8 + 42(s - 1)", the first of them its level.
+fn slot_start(s: SlotNumber) -> usize
+    requires { ⌜ (1 ≤ s .0) × (s .0 ≤ mostSlots) ⌝ }
+    ensures { λ r. ⌜ r ≡ L.slotStart s ⌝ }
+{
+    let n = s.0;
+    HEAD_SIZE + SLOT_SIZE * (n - 1)
+}
+
+// Where the count of its entries stands.
+fn count_place(s: SlotNumber) -> usize
+    requires { ⌜ (1 ≤ s .0) × (s .0 ≤ mostSlots) ⌝ }
+    ensures { λ r. ⌜ r ≡ L.countPlace s ⌝ }
+{
+    slot_start(s) + 1
+}
+
+// Where the words of the entry at place i of slot s begin, its rectangle first.
+pub fn spot(s: SlotNumber, i: usize) -> usize
+    requires { ⌜ (1 ≤ s .0) × (s .0 ≤ mostSlots) ⌝ }
+    requires { ⌜ i < most ⌝ }
+    ensures { λ r. ⌜ r ≡ L.entryPlace s i ⌝ }
+{
+    slot_start(s) + SLOT_HEAD + ENTRY_SIZE * i
+}
+
+// Where the pointer of that entry stands.
+fn pointer_place(s: SlotNumber, i: usize) -> usize
+    requires { ⌜ (1 ≤ s .0) × (s .0 ≤ mostSlots) ⌝ }
+    requires { ⌜ i < most ⌝ }
+    ensures { λ r. ⌜ r ≡ L.pointerPlace s i ⌝ }
+{
+    spot(s, i) + RECT_SIZE
+}
+
+// How many slots there are.
+pub fn slot_count(pool: &[i32]) -> usize
+    ensures { λ r. ⌜ r ≡ L.slotCount (now (pool .entry)) ⌝ }
+{
+    let n = pool.len();
+    if n < HEAD_SIZE {
+        0
+    } else {
+        (n - HEAD_SIZE) / SLOT_SIZE
+    }
+}
+
+// "A pool is 8 + 42N signed 32-bit words", N from 1 to 4,096.
+pub fn valid_length(pool: &[i32]) -> bool
+    ensures { λ r. ⌜ r ≡ L.validLength (now (pool .entry)) ⌝ }
+{
+    let n = slot_count(pool);
+    if n < 1 {
+        return false;
+    }
+    if MOST_SLOTS < n {
+        return false;
+    }
+    pool.len() == HEAD_SIZE + SLOT_SIZE * n
+}
+
+// ---- a word read
 
 // A word as a natural number; below zero there is none, and it is read as 0.
 fn natural(x: i32) -> usize
@@ -39,53 +137,52 @@ pub fn number_at(pool: &[i32], at: usize) -> usize
     natural(word(pool, at))
 }
 
-// How many slots there are.
-pub fn slot_count(pool: &[i32]) -> usize
-    ensures { λ r. ⌜ r ≡ L.slotCount (now (pool .entry)) ⌝ }
+// ---- the head read
+
+pub fn root_of(pool: &[i32]) -> SlotNumber
+    requires { ⌜ L.validLength (now pool) ≡ true ⌝ }
+    ensures { λ r. ⌜ r ≡ L.read (now (pool .entry)) .root ⌝ }
 {
-    let n = pool.len();
-    if n < 8 { 0 } else { (n - 8) / 42 }
+    SlotNumber(number_at(pool, ROOT_PLACE))
 }
 
-// Where slot s begins.
-pub fn begin(s: SlotNumber) -> usize
-    requires { ⌜ (1 ≤ s .0) × (s .0 ≤ 4096) ⌝ }
-    ensures { λ r. ⌜ r ≡ 8 + 42 * (s .0 - 1) ⌝ }
+pub fn height_of(pool: &[i32]) -> usize
+    requires { ⌜ L.validLength (now pool) ≡ true ⌝ }
+    ensures { λ r. ⌜ r ≡ L.read (now (pool .entry)) .height ⌝ }
 {
-    let n = s.0;
-    8 + 42 * (n - 1)
+    number_at(pool, HEIGHT_PLACE)
 }
+
+pub fn records_of(pool: &[i32]) -> usize
+    requires { ⌜ L.validLength (now pool) ≡ true ⌝ }
+    ensures { λ r. ⌜ r ≡ L.read (now (pool .entry)) .records ⌝ }
+{
+    number_at(pool, RECORDS_PLACE)
+}
+
+// ---- a slot read
 
 // 0 is free, 1 a leaf.
 pub fn level_of(pool: &[i32], s: SlotNumber) -> usize
     requires { ⌜ InPool (now pool) s ⌝ }
     ensures { λ r. ⌜ r ≡ P.nodeAt (L.read (now (pool .entry))) s .level ⌝ }
 {
-    number_at(pool, begin(s))
+    number_at(pool, slot_start(s))
 }
 
 // How many entries are in use.
 pub fn count_of(pool: &[i32], s: SlotNumber) -> usize
     requires { ⌜ InPool (now pool) s ⌝ }
     ensures is { λ r. ⌜ r ≡ length (P.entriesAt (L.read (now (pool .entry))) s) ⌝ }
-    ensures most { λ r. ⌜ r ≤ 8 ⌝ }
+    ensures most { λ r. ⌜ r ≤ most ⌝ }
 {
-    let n = number_at(pool, begin(s) + 1);
-    if n < 8 { n } else { 8 }
-}
-
-// Where the words of the entry at place i of slot s begin.
-pub fn spot(s: SlotNumber, i: usize) -> usize
-    requires { ⌜ (1 ≤ s .0) × (s .0 ≤ 4096) ⌝ }
-    requires { ⌜ i < 8 ⌝ }
-    ensures { λ r. ⌜ r ≡ spotOf s i ⌝ }
-{
-    begin(s) + 2 + 5 * i
+    let n = number_at(pool, count_place(s));
+    if n < MOST { n } else { MOST }
 }
 
 // The rectangle whose words begin at a place.
 pub fn rect_at(pool: &[i32], at: usize) -> Rect
-    requires { ⌜ at + 4 ≤ length (now pool) ⌝ }
+    requires { ⌜ at + L.rectSize ≤ length (now pool) ⌝ }
     ensures { λ r. ⌜ r ≡ L.rectOf (drop at (now (pool .entry))) ⌝ }
 {
     let lowX = word(pool, at);
@@ -109,152 +206,6 @@ pub fn rect_of(pool: &[i32], s: SlotNumber, i: usize) -> Rect
     rect_at(pool, spot(s, i))
 }
 
-// ---- written
-
-// The word of a pointer: where a record number or a slot number is unwrapped.
-fn pointer_word(p: Pointer) -> i32
-    requires { ⌜ Small p ⌝ }
-    ensures { λ r. ⌜ r ≡ L.pointerWord p ⌝ }
-{
-    match p {
-        Pointer::Number(n) => n.0,
-        Pointer::Child(s) => {
-            let k = s.0;
-            k as i32
-        }
-    }
-}
-
-// The five words of an entry, from a place on.
-fn put_entry(pool: &mut [i32], at: usize, e: Entry)
-    requires { ⌜ at + 5 ≤ length (now pool) ⌝ }
-    requires { ⌜ Small (e .pointer) ⌝ }
-    ensures { λ _. ⌜ now (pool .exit) ≡ sets (now (pool .entry)) at (L.entryWords e) ⌝ }
-{
-    let r = e.rect;
-    let p = e.pointer;
-    let a = r.lowX;
-    let b = r.lowY;
-    let c = r.highX;
-    let d = r.highY;
-    let k = pointer_word(p);
-    pool[at] = a;
-    pool[at + 1] = b;
-    pool[at + 2] = c;
-    pool[at + 3] = d;
-    pool[at + 4] = k;
-}
-
-// Five zero words.
-pub fn no_entry() -> Entry
-    ensures { λ r. ⌜ r ≡ P.noEntry ⌝ }
-{
-    Entry {
-        rect: Rect {
-            lowX: 0,
-            lowY: 0,
-            highX: 0,
-            highY: 0,
-        },
-        pointer: Pointer::Child(SlotNumber(0)),
-    }
-}
-
-// The entry at place i of those in use, or five zero words.
-fn used(es: [Entry; 9], n: usize, i: usize) -> Entry
-    requires { ⌜ i < 9 ⌝ }
-    ensures { λ r. ⌜ r ≡ usedAt es n i ⌝ }
-{
-    if i < n { es[i] } else { no_entry() }
-}
-
-// The words of a slot: level, count, the first n of the entries, and zeros.
-fn write_slot(pool: &mut [i32], s: SlotNumber, level: usize, es: [Entry; 9], n: usize)
-    requires { ⌜ InPool (now pool) s ⌝ }
-    requires { ⌜ level ≤ 4096 ⌝ }
-    requires { ⌜ n ≤ 8 ⌝ }
-    requires { ⌜ SmallAll es n ⌝ }
-    ensures { λ _. ⌜ now (pool .exit) ≡ sets (now (pool .entry)) (8 + 42 * (s .0 - 1)) (L.nodeWords (P.node level (take n es))) ⌝ }
-{
-    let at = begin(s);
-    pool[at] = level as i32;
-    pool[at + 1] = n as i32;
-    let mut i: usize = 0;
-    while i < 8 {
-        let e = used(es, n, i);
-        put_entry(pool, at + 2 + 5 * i, e);
-        i += 1;
-    }
-}
-
-// A node is put into its slot: its level, and the first n of the entries.
-pub fn put_node(pool: &mut [i32], s: SlotNumber, level: usize, es: [Entry; 9], n: usize)
-    requires { ⌜ Fit (now pool) ⌝ }
-    requires { ⌜ InPool (now pool) s ⌝ }
-    requires { ⌜ level ≤ 4096 ⌝ }
-    requires { ⌜ n ≤ 8 ⌝ }
-    requires { ⌜ SmallAll es n ⌝ }
-    requires { ⌜ KindAll level es n ⌝ }
-    ensures is { λ _. ⌜ L.read (now (pool .exit)) ≡ P.putNode (L.read (now (pool .entry))) s (P.node level (take n es)) ⌝ }
-    ensures fit { λ _. ⌜ Fit (now (pool .exit)) ⌝ }
-{
-    write_slot(pool, s, level, es, n);
-}
-
-// "A new entry goes last": its five words, and the count. No other word changes.
-pub fn add_entry(pool: &mut [i32], s: SlotNumber, e: Entry)
-    requires { ⌜ Fit (now pool) ⌝ }
-    requires { ⌜ InPool (now pool) s ⌝ }
-    requires { ⌜ length (P.entriesAt (L.read (now pool)) s) < 8 ⌝ }
-    requires { ⌜ Small (e .pointer) ⌝ }
-    requires { ⌜ L.pointerOf (P.nodeAt (L.read (now pool)) s .level) (L.pointerWord (e .pointer)) ≡ e .pointer ⌝ }
-    ensures is { λ _. ⌜ L.read (now (pool .exit)) ≡ P.putEntries (L.read (now (pool .entry))) s (P.entriesAt (L.read (now (pool .entry))) s ++ e ∷ []) ⌝ }
-    ensures fit { λ _. ⌜ Fit (now (pool .exit)) ⌝ }
-{
-    let n = count_of(pool, s);
-    put_entry(pool, spot(s, n), e);
-    let at = begin(s) + 1;
-    pool[at] = (n + 1) as i32;
-}
-
-// The entry at place i anew. No word but its five changes.
-pub fn put_entry_of(pool: &mut [i32], s: SlotNumber, i: usize, e: Entry)
-    requires { ⌜ Fit (now pool) ⌝ }
-    requires { ⌜ InPool (now pool) s ⌝ }
-    requires { ⌜ i < length (P.entriesAt (L.read (now pool)) s) ⌝ }
-    requires { ⌜ Small (e .pointer) ⌝ }
-    requires { ⌜ L.pointerOf (P.nodeAt (L.read (now pool)) s .level) (L.pointerWord (e .pointer)) ≡ e .pointer ⌝ }
-    ensures is { λ _. ⌜ L.read (now (pool .exit)) ≡ P.putEntries (L.read (now (pool .entry))) s (set (P.entriesAt (L.read (now (pool .entry))) s) i e) ⌝ }
-    ensures fit { λ _. ⌜ Fit (now (pool .exit)) ⌝ }
-{
-    put_entry(pool, spot(s, i), e);
-}
-
-// ---- the head
-
-pub fn root_of(pool: &[i32]) -> SlotNumber
-    requires { ⌜ L.validLength (now pool) ≡ true ⌝ }
-    ensures { λ r. ⌜ r ≡ L.read (now (pool .entry)) .root ⌝ }
-{
-    SlotNumber(number_at(pool, 1))
-}
-
-pub fn height_of(pool: &[i32]) -> usize
-    requires { ⌜ L.validLength (now pool) ≡ true ⌝ }
-    ensures { λ r. ⌜ r ≡ L.read (now (pool .entry)) .height ⌝ }
-{
-    number_at(pool, 2)
-}
-
-pub fn records_of(pool: &[i32]) -> usize
-    requires { ⌜ L.validLength (now pool) ≡ true ⌝ }
-    ensures { λ r. ⌜ r ≡ L.read (now (pool .entry)) .records ⌝ }
-{
-    number_at(pool, 3)
-}
-
-// ---- entries
-
 // A leaf's pointer is a record number, any other a child slot: where a word becomes one of them.
 fn pointer_of(level: usize, z: i32) -> Pointer
     ensures { λ r. ⌜ r ≡ L.pointerOf level z ⌝ }
@@ -273,7 +224,7 @@ pub fn entry_pointer(pool: &[i32], s: SlotNumber, i: usize) -> Pointer
     ensures { λ r. ⌜ r ≡ P.entryAt (L.read (now (pool .entry))) s i .pointer ⌝ }
 {
     let level = level_of(pool, s);
-    let z = word(pool, begin(s) + 6 + 5 * i);
+    let z = word(pool, pointer_place(s, i));
     pointer_of(level, z)
 }
 
@@ -295,16 +246,31 @@ pub fn child_of(pool: &[i32], s: SlotNumber, i: usize) -> SlotNumber
     requires { ⌜ P.isLeaf (P.nodeAt (L.read (now pool)) s) ≡ false ⌝ }
     ensures { λ r. ⌜ r ≡ P.childOf (P.entryAt (L.read (now (pool .entry))) s i) ⌝ }
 {
-    SlotNumber(number_at(pool, begin(s) + 6 + 5 * i))
+    SlotNumber(number_at(pool, pointer_place(s, i)))
+}
+
+// An entry whose words are all zero.
+pub fn no_entry() -> Entry
+    ensures { λ r. ⌜ r ≡ P.noEntry ⌝ }
+{
+    Entry {
+        rect: Rect {
+            lowX: 0,
+            lowY: 0,
+            highX: 0,
+            highY: 0,
+        },
+        pointer: Pointer::Child(SlotNumber(0)),
+    }
 }
 
 // A node's entries, with room for one more.
-pub fn entries_of(pool: &[i32], s: SlotNumber) -> [Entry; 9]
+pub fn entries_of(pool: &[i32], s: SlotNumber) -> [Entry; MOST + 1]
     requires { ⌜ InPool (now pool) s ⌝ }
     ensures { λ r. ⌜ take (length (P.entriesAt (L.read (now (pool .entry))) s)) r ≡ P.entriesAt (L.read (now (pool .entry))) s ⌝ }
 {
     let n = count_of(pool, s);
-    let mut es = [no_entry(); 9];
+    let mut es = [no_entry(); MOST + 1];
     let mut i: usize = 0;
     while i < n {
         es[i] = entry_of(pool, s, i);
@@ -313,18 +279,18 @@ pub fn entries_of(pool: &[i32], s: SlotNumber) -> [Entry; 9]
     es
 }
 
-// ---- the head, written
+// ---- the head written
 
 // A node is root, and the tree has a height.
 pub fn put_root(pool: &mut [i32], s: SlotNumber, height: usize)
     requires { ⌜ Fit (now pool) ⌝ }
-    requires { ⌜ (s .0 ≤ 4096) × (height ≤ 4096) ⌝ }
+    requires { ⌜ (s .0 ≤ mostSlots) × (height ≤ mostSlots) ⌝ }
     ensures is { λ _. ⌜ L.read (now (pool .exit)) ≡ P.putRoot (L.read (now (pool .entry))) s height ⌝ }
     ensures fit { λ _. ⌜ Fit (now (pool .exit)) ⌝ }
 {
     let n = s.0;
-    pool[1] = n as i32;
-    pool[2] = height as i32;
+    pool[ROOT_PLACE] = n as i32;
+    pool[HEIGHT_PLACE] = height as i32;
 }
 
 // The number of records.
@@ -334,5 +300,111 @@ pub fn put_records(pool: &mut [i32], n: usize)
     ensures is { λ _. ⌜ L.read (now (pool .exit)) ≡ P.putRecords (L.read (now (pool .entry))) n ⌝ }
     ensures fit { λ _. ⌜ Fit (now (pool .exit)) ⌝ }
 {
-    pool[3] = n as i32;
+    pool[RECORDS_PLACE] = n as i32;
+}
+
+// ---- a slot written
+
+// The word of a pointer: where a record number or a slot number is unwrapped.
+fn pointer_word(p: Pointer) -> i32
+    requires { ⌜ Small p ⌝ }
+    ensures { λ r. ⌜ r ≡ L.pointerWord p ⌝ }
+{
+    match p {
+        Pointer::Number(n) => n.0,
+        Pointer::Child(s) => {
+            let k = s.0;
+            k as i32
+        }
+    }
+}
+
+// The words of an entry, from a place on.
+fn put_entry(pool: &mut [i32], at: usize, e: Entry)
+    requires { ⌜ at + L.entrySize ≤ length (now pool) ⌝ }
+    requires { ⌜ Small (e .pointer) ⌝ }
+    ensures { λ _. ⌜ now (pool .exit) ≡ sets (now (pool .entry)) at (L.entryWords e) ⌝ }
+{
+    let r = e.rect;
+    let p = e.pointer;
+    let a = r.lowX;
+    let b = r.lowY;
+    let c = r.highX;
+    let d = r.highY;
+    let k = pointer_word(p);
+    pool[at] = a;
+    pool[at + 1] = b;
+    pool[at + 2] = c;
+    pool[at + 3] = d;
+    pool[at + RECT_SIZE] = k;
+}
+
+// The entry at place i of those in use, or zero words.
+fn used(es: [Entry; MOST + 1], n: usize, i: usize) -> Entry
+    requires { ⌜ i < most + 1 ⌝ }
+    ensures { λ r. ⌜ r ≡ usedAt es n i ⌝ }
+{
+    if i < n { es[i] } else { no_entry() }
+}
+
+// The words of a slot: level, count, the first n of the entries, and zeros.
+fn write_slot(pool: &mut [i32], s: SlotNumber, level: usize, es: [Entry; MOST + 1], n: usize)
+    requires { ⌜ InPool (now pool) s ⌝ }
+    requires { ⌜ level ≤ mostSlots ⌝ }
+    requires { ⌜ n ≤ most ⌝ }
+    requires { ⌜ SmallAll es n ⌝ }
+    ensures { λ _. ⌜ now (pool .exit) ≡ sets (now (pool .entry)) (L.slotStart s) (L.nodeWords (P.node level (take n es))) ⌝ }
+{
+    let at = slot_start(s);
+    pool[at] = level as i32;
+    pool[at + 1] = n as i32;
+    let mut i: usize = 0;
+    while i < MOST {
+        let e = used(es, n, i);
+        put_entry(pool, at + SLOT_HEAD + ENTRY_SIZE * i, e);
+        i += 1;
+    }
+}
+
+// A node is put into its slot: its level, and the first n of the entries.
+pub fn put_node(pool: &mut [i32], s: SlotNumber, level: usize, es: [Entry; MOST + 1], n: usize)
+    requires { ⌜ Fit (now pool) ⌝ }
+    requires { ⌜ InPool (now pool) s ⌝ }
+    requires { ⌜ level ≤ mostSlots ⌝ }
+    requires { ⌜ n ≤ most ⌝ }
+    requires { ⌜ SmallAll es n ⌝ }
+    requires { ⌜ KindAll level es n ⌝ }
+    ensures is { λ _. ⌜ L.read (now (pool .exit)) ≡ P.putNode (L.read (now (pool .entry))) s (P.node level (take n es)) ⌝ }
+    ensures fit { λ _. ⌜ Fit (now (pool .exit)) ⌝ }
+{
+    write_slot(pool, s, level, es, n);
+}
+
+// "A new entry goes last": its words, and the count. No other word changes.
+pub fn add_entry(pool: &mut [i32], s: SlotNumber, e: Entry)
+    requires { ⌜ Fit (now pool) ⌝ }
+    requires { ⌜ InPool (now pool) s ⌝ }
+    requires { ⌜ length (P.entriesAt (L.read (now pool)) s) < most ⌝ }
+    requires { ⌜ Small (e .pointer) ⌝ }
+    requires { ⌜ L.pointerOf (P.nodeAt (L.read (now pool)) s .level) (L.pointerWord (e .pointer)) ≡ e .pointer ⌝ }
+    ensures is { λ _. ⌜ L.read (now (pool .exit)) ≡ P.putEntries (L.read (now (pool .entry))) s (P.entriesAt (L.read (now (pool .entry))) s ++ e ∷ []) ⌝ }
+    ensures fit { λ _. ⌜ Fit (now (pool .exit)) ⌝ }
+{
+    let n = count_of(pool, s);
+    put_entry(pool, spot(s, n), e);
+    let at = count_place(s);
+    pool[at] = (n + 1) as i32;
+}
+
+// Another entry at place i. No words but its own change.
+pub fn put_entry_of(pool: &mut [i32], s: SlotNumber, i: usize, e: Entry)
+    requires { ⌜ Fit (now pool) ⌝ }
+    requires { ⌜ InPool (now pool) s ⌝ }
+    requires { ⌜ i < length (P.entriesAt (L.read (now pool)) s) ⌝ }
+    requires { ⌜ Small (e .pointer) ⌝ }
+    requires { ⌜ L.pointerOf (P.nodeAt (L.read (now pool)) s .level) (L.pointerWord (e .pointer)) ≡ e .pointer ⌝ }
+    ensures is { λ _. ⌜ L.read (now (pool .exit)) ≡ P.putEntries (L.read (now (pool .entry))) s (set (P.entriesAt (L.read (now (pool .entry))) s) i e) ⌝ }
+    ensures fit { λ _. ⌜ Fit (now (pool .exit)) ⌝ }
+{
+    put_entry(pool, spot(s, i), e);
 }

@@ -1,6 +1,16 @@
 // The things document 01 speaks of, as types that the code and the definitions in specs/ share.
 // There is no code here: specs/ says what is right, and the crates above cite it.
 
+// "M = 8 entries in a node at most, m = 3 at least (root excepted)."
+pub const MOST: usize = 8;
+
+pub const LEAST: usize = 3;
+
+// "Slots N: 1 to 4,096. A batch has 0 to 1,024 requests."
+pub const MOST_SLOTS: usize = 4096;
+
+pub const MOST_REQUESTS: usize = 1024;
+
 // A closed rectangle in whole millimetres.
 #[repr(C)]
 pub struct Rect {

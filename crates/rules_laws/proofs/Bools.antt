@@ -16,6 +16,13 @@ pub or-neither : (p q : Bool) → (p || q) ≡ false → (p ≡ false) × (q ≡
 or-neither true q e = absurd (true≢false e)
 or-neither false q e = (refl, e)
 
+-- two questions asked in turn
+pub go-on : (p q : Bool) → p ≡ true → (p && q) ≡ q
+go-on p q e = rw e
+
+pub stop : (p q : Bool) → p ≡ false → (p && q) ≡ false
+stop p q e = rw e
+
 pub not-true : (b : Bool) → not b ≡ true → b ≡ false
 not-true true e = sym e
 not-true false e = refl

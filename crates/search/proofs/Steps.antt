@@ -13,9 +13,9 @@ use Rattle.rules.specs.declared.SlotNumber.{SlotNumber}
 use Rattle.rules.specs.declared.RecordNumber.{RecordNumber}
 use Rattle.rules.specs.declared.Record.{Record}
 use Rattle.rules.specs.Pool.{Pool, entriesAt, entryAt, numberOf, recordOf}
-use Rattle.rules.specs.Layout.{validLength, rectOf, read}
+use Rattle.rules.specs.Layout.{entryPlace, validLength, rectOf, read}
 use Rattle.rules.specs.Search.{foundIn, openedIn, opened, foundFromRoot}
-use Rattle.pool.specs.Slots.{InPool, spotOf}
+use Rattle.pool.specs.Slots.{InPool}
 use Rattle.pool.proofs.Parts.{slot-few}
 use Rattle.pool.proofs.Stores.{spot-inside, spot-entry}
 use Rattle.found_items.specs.Items.{spotAt, itemsFrom, Pointing}
@@ -110,37 +110,37 @@ module _ {w : List ℤ} {s : SlotNumber} (u : List ℤ) (p : InPool w s) (i : �
   number = numberOf (entryAt (read w) s i) .0
 
   abbrev put : List ℤ
-  put = sets u (2 * k) (number ∷ pos (spotOf s i) ∷ [])
+  put = sets u (2 * k) (number ∷ pos (entryPlace s i) ∷ [])
 
   one-listed : itemsFrom w put k 1 ≡ recordOf (entryAt (read w) s i) ∷ []
   one-listed =
       items-one w put k
-      ∙ ap (λ (r : Record). r ∷ []) (item-put w u k number (spotOf s i) room ∙ record-is (read w) s i (rectOf (drop (spotOf s i) w)) (spot-entry p i h))
+      ∙ ap (λ (r : Record). r ∷ []) (item-put w u k number (entryPlace s i) room ∙ record-is (read w) s i (rectOf (drop (entryPlace s i) w)) (spot-entry p i h))
 
   one-pointing : Pointing w put k 1
   one-pointing = record {
     inside = λ j l g.
         let e : j ≡ k = omega arith in
-        omega (arith, ap (spotAt put) e, spot-put u k number (spotOf s i) room, spot-inside p i (omega (arith, slot-few p)));
+        omega (arith, ap (spotAt put) e, spot-put u k number (entryPlace s i) room, spot-inside p i (omega (arith, slot-few p)));
   }
 
 pub went-one : {w u : List ℤ} {s : SlotNumber} {a : Walked} (p : InPool w s) (i : ℕ) → i < length (entriesAt (read w) s)
     → ItemRoom u a (recordOf (entryAt (read w) s i) ∷ []) 0
-    → (v : List ℤ) (z : RecordNumber) (at : ℕ) → z ≡ numberOf (entryAt (read w) s i) → at ≡ spotOf s i → v ≡ sets u (2 * a .next) (z .0 ∷ pos at ∷ [])
+    → (v : List ℤ) (z : RecordNumber) (at : ℕ) → z ≡ numberOf (entryAt (read w) s i) → at ≡ entryPlace s i → v ≡ sets u (2 * a .next) (z .0 ∷ pos at ∷ [])
     → Went w u v a (walked (a .next + 1) (a .opened)) (recordOf (entryAt (read w) s i) ∷ []) 0
 went-one {w} {u} {s} {a} p i h room v z at d e f =
     let n = numberOf (entryAt (read w) s i) in
     let there : 2 * a .next + 2 ≤ length u = omega (arith, room .room) in
-    let new = sets u (2 * a .next) (n .0 ∷ pos (spotOf s i) ∷ []) in
+    let new = sets u (2 * a .next) (n .0 ∷ pos (entryPlace s i) ∷ []) in
     let is : v ≡ new = f ∙ ap₂ (λ (x : RecordNumber) (y : ℕ). sets u (2 * a .next) (x .0 ∷ pos y ∷ [])) d e in
     subst (λ (x : List ℤ). Went w u x a (walked (a .next + 1) (a .opened)) (recordOf (entryAt (read w) s i) ∷ []) 0) (sym is)
     record {
       next = omega arith;
       opened = omega arith;
-      stay = λ k l. put-before u (a .next) (n .0) (pos (spotOf s i)) 0 (a .next) (omega arith) .word k (omega arith) (omega arith);
+      stay = λ k l. put-before u (a .next) (n .0) (pos (entryPlace s i)) 0 (a .next) (omega arith) .word k (omega arith) (omega arith);
       listed = one-listed u p i h (a .next) there;
       pointing = one-pointing u p i h (a .next) there;
-      long = length-sets u (2 * a .next) (n .0 ∷ pos (spotOf s i) ∷ []);
+      long = length-sets u (2 * a .next) (n .0 ∷ pos (entryPlace s i) ∷ []);
     }
 
 -- ---- from the root on

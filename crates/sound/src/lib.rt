@@ -126,7 +126,7 @@ pub fn sound(pool: &[i32]) -> bool
     requires { ⌜ L.validLength (now pool) ≡ true ⌝ }
     ensures { λ r. ⌜ r ≡ S.sound (now (pool .entry)) ⌝ }
 {
-    if !tidy::tidy(pool) {
+    if !pool::tidy::tidy(pool) {
         return false;
     }
     if !sound_shape::shaped(pool) {

@@ -13,10 +13,11 @@ use Rattle.rules.specs.declared.SlotNumber.{SlotNumber}
 use Rattle.rules.specs.Lists.{those, every, joined, upFrom}
 use Rattle.rules.specs.Pool.{Node, Pool, slot, freeNode, slotNumbers, nodeAt, entriesAt, recordOf, isLeaf, stored}
 use Rattle.rules.specs.Sound.{isSlot, inUse, isRoot, heightSound, rootSound, levelsSound, fewest, countSound, parents, oneParent, freeEmpty, recordsSound, shapeSound}
+use Rattle.rules.specs.Numbers.{most}
 use Rattle.rules_laws.proofs.Turns.{up-more, up-none}
 use Rattle.rules_laws.proofs.Everies.{every-nil, every-cons, every-four}
 use Rattle.sound_shape.specs.Shapes.{slotShaped, recordCount, recordCounts}
-use Rattle.tidy.proofs.Stand.{go-on, stop}
+use Rattle.rules_laws.proofs.Bools.{go-on, stop}
 
 -- what is asked of the node of every slot is asked of every node
 nodes-from : (f : Node → Bool) (ns : List Node) (i n : ℕ) → i + n ≡ length ns
@@ -75,9 +76,9 @@ module _ (p : Pool) (s : SlotNumber) where
     free-entries = rw (eq-eqb (nodeAt p s .level) 0 e)
 
   module _ (e : nodeAt p s .level ≡ 0 → ⊥) where
-    pub used-counts : length (entriesAt p s) ≤ 8 → leb (fewest (isRoot p s) (eqb (nodeAt p s .level) 1)) (length (entriesAt p s)) ≡ countSound p s
+    pub used-counts : length (entriesAt p s) ≤ most → leb (fewest (isRoot p s) (eqb (nodeAt p s .level) 1)) (length (entriesAt p s)) ≡ countSound p s
     unfolding countSound inUse isLeaf
-    used-counts h = rw (ne-eqb (nodeAt p s .level) 0 e, le-leb (length (entriesAt p s)) 8 h) (sym (and-true _))
+    used-counts h = rw (ne-eqb (nodeAt p s .level) 0 e, le-leb (length (entriesAt p s)) most h) (sym (and-true _))
 
     pub root-parent : isRoot p s ≡ true → true ≡ oneParent p s
     unfolding oneParent inUse

@@ -14,6 +14,7 @@ use Rattle.rules.specs.declared.Entry.{Entry}
 use Rattle.rules.specs.Lists.{those, joined}
 use Rattle.rules.specs.Pool.{Node, Pool, slot, freeNode, sameSlot, childOf}
 use Rattle.rules.specs.Sound.{innerEntries, parents}
+use Rattle.rules.specs.Numbers.{mostSlots}
 use Rattle.rules_laws.proofs.Parts.{those-none, those-append, count-append}
 use Rattle.rules_laws.proofs.Joins.{joined-both}
 use Rattle.sound_shape.specs.Shapes.{innerOf, parentsAmong, Counted, Counting, OneMore}
@@ -39,8 +40,8 @@ all-leading p s = refl
 
 -- ---- counts
 
-pub counted-none : Counted [] (replicate 4096 0)
-counted-none = record { is = λ t low high. getD-replicate 4096 (t - 1) 0 0 (omega arith) ∙ ap (λ (n : ℕ). min n 2) (sym (leading-none (slot t))) }
+pub counted-none : Counted [] (replicate mostSlots 0)
+counted-none = record { is = λ t low high. getD-replicate mostSlots (t - 1) 0 0 (omega arith) ∙ ap (λ (n : ℕ). min n 2) (sym (leading-none (slot t))) }
 
 pub counting-none : (a : List ℕ) → Counting [] a a
 counting-none a = record { size = refl; on = λ before k. subst (λ (es : List Entry). Counted es a) (sym (append-nil before)) k }
@@ -51,7 +52,7 @@ counting-more {xs} {ys} {a} {b} {c} f g = record { size = g .size ∙ f .size; o
 pub counting-one : {e : Entry} {a b : List ℕ} → OneMore (childOf e) a b → Counting (e ∷ []) a b
 counting-one {e} {a} {b} o = record { size = o .size; on = λ before k. record { is = λ t low high. at before k t low high (eqb (childOf e .0) t) refl } }
   where
-    at : (before : List Entry) → Counted before a → (t : ℕ) → 1 ≤ t → t ≤ 4096 → (x : Bool) → eqb (childOf e .0) t ≡ x → getD b (t - 1) 0 ≡ min (parentsAmong (slot t) (before ++ e ∷ [])) 2
+    at : (before : List Entry) → Counted before a → (t : ℕ) → 1 ≤ t → t ≤ mostSlots → (x : Bool) → eqb (childOf e .0) t ≡ x → getD b (t - 1) 0 ≡ min (parentsAmong (slot t) (before ++ e ∷ [])) 2
     at before k t low high true h =
         let one = leading-one t e true h in
         let both = leading-append (slot t) before (e ∷ []) in
@@ -66,7 +67,7 @@ counting-one {e} {a} {b} o = record { size = o .size; on = λ before k. record {
 -- ---- one more
 
 -- no slot: nothing is counted
-pub no-slot : (s : SlotNumber) (a : List ℕ) → ((t : ℕ) → 1 ≤ t → t ≤ 4096 → s .0 ≡ t → ⊥) → OneMore s a a
+pub no-slot : (s : SlotNumber) (a : List ℕ) → ((t : ℕ) → 1 ≤ t → t ≤ mostSlots → s .0 ≡ t → ⊥) → OneMore s a a
 no-slot s a h = record { size = refl; is = λ t low high. ap (λ (x : Bool). cond x (min (getD a (t - 1) 0 + 1) 2) (getD a (t - 1) 0)) (sym (ne-eqb (s .0) t (h t low high))) }
 
 pub at-slot : (s : SlotNumber) (a : List ℕ) (v : ℕ) → 1 ≤ s .0 → s .0 ≤ length a → v ≡ min (getD a (s .0 - 1) 0 + 1) 2 → OneMore s a (set a (s .0 - 1) v)

@@ -7,11 +7,14 @@ ghost use Prim.Native.Nat.{_+_, _-_, _<_, _≤_, min};
 ghost use lib.ListN.{length};
 ghost use lib.Dec.{leb};
 ghost use Rattle.rules.specs.Lists as Li;
+ghost use Rattle.rules.specs.Numbers.{most, mostSlots};
 ghost use Rattle.rules.specs.Layout as L;
 ghost use Rattle.rules.specs.Pool as P;
 ghost use Rattle.rules.specs.Sound as S;
 ghost use Rattle.pool.specs.Slots.{InPool};
 ghost use Rattle.sound_shape.specs.Shapes.{slotShaped, innerOf, recordCount, recordCounts, Counted, Counting, OneMore};
+use rules::LEAST;
+use rules::MOST_SLOTS;
 use rules::SlotNumber;
 
 // ---- "each non-root node in use is the child of exactly one entry": counted in one pass
@@ -24,25 +27,25 @@ fn one_more(n: u32) -> u32
 }
 
 // One more entry leads to slot s, where that is a slot from 1 to 4,096.
-fn count_child(counts: &mut [u32; 4096], s: SlotNumber)
-    requires { ⌜ length (now counts) ≡ 4096 ⌝ }
+fn count_child(counts: &mut [u32; MOST_SLOTS], s: SlotNumber)
+    requires { ⌜ length (now counts) ≡ mostSlots ⌝ }
     ensures { λ _. ⌜ OneMore s (now (counts .entry)) (now (counts .exit)) ⌝ }
 {
     let n = s.0;
     if n < 1 {
         return;
     }
-    if 4096 < n {
+    if MOST_SLOTS < n {
         return;
     }
     counts[n - 1] = one_more(counts[n - 1]);
 }
 
 // The children of an inner node.
-fn count_children(pool: &[i32], s: SlotNumber, counts: &mut [u32; 4096])
+fn count_children(pool: &[i32], s: SlotNumber, counts: &mut [u32; MOST_SLOTS])
     requires { ⌜ InPool (now pool) s ⌝ }
     requires { ⌜ P.isLeaf (P.nodeAt (L.read (now pool)) s) ≡ false ⌝ }
-    requires { ⌜ length (now counts) ≡ 4096 ⌝ }
+    requires { ⌜ length (now counts) ≡ mostSlots ⌝ }
     ensures { λ _. ⌜ Counting (P.entriesAt (L.read (now (pool .entry))) s) (now (counts .entry)) (now (counts .exit)) ⌝ }
 {
     let n = pool::count_of(pool, s);
@@ -55,9 +58,9 @@ fn count_children(pool: &[i32], s: SlotNumber, counts: &mut [u32; 4096])
 }
 
 // A leaf and a free slot have none.
-fn count_slot(pool: &[i32], s: SlotNumber, counts: &mut [u32; 4096])
+fn count_slot(pool: &[i32], s: SlotNumber, counts: &mut [u32; MOST_SLOTS])
     requires { ⌜ InPool (now pool) s ⌝ }
-    requires { ⌜ length (now counts) ≡ 4096 ⌝ }
+    requires { ⌜ length (now counts) ≡ mostSlots ⌝ }
     ensures { λ _. ⌜ Counting (innerOf (P.nodeAt (L.read (now (pool .entry))) s ∷ [])) (now (counts .entry)) (now (counts .exit)) ⌝ }
 {
     if pool::level_of(pool, s) < 2 {
@@ -67,9 +70,9 @@ fn count_slot(pool: &[i32], s: SlotNumber, counts: &mut [u32; 4096])
 }
 
 // The parents of every slot.
-fn count_parents(pool: &[i32], counts: &mut [u32; 4096])
+fn count_parents(pool: &[i32], counts: &mut [u32; MOST_SLOTS])
     requires { ⌜ L.validLength (now pool) ≡ true ⌝ }
-    requires { ⌜ length (now counts) ≡ 4096 ⌝ }
+    requires { ⌜ length (now counts) ≡ mostSlots ⌝ }
     ensures { λ _. ⌜ Counting (S.innerEntries (L.read (now (pool .entry)))) (now (counts .entry)) (now (counts .exit)) ⌝ }
 {
     let n = pool::slot_count(pool);
@@ -101,7 +104,7 @@ fn fewest(root: bool, leaf: bool) -> usize
     ensures { λ r. ⌜ r ≡ S.fewest root leaf ⌝ }
 {
     if !root {
-        return 3;
+        return LEAST;
     }
     if leaf { 0 } else { 2 }
 }
@@ -156,7 +159,7 @@ fn slot_shaped(pool: &[i32], s: SlotNumber, parents: u32) -> bool
     geometry::and(geometry::and(geometry::and(level, count), parent), free)
 }
 
-fn shaped_slots(pool: &[i32], counts: &[u32; 4096]) -> bool
+fn shaped_slots(pool: &[i32], counts: &[u32; MOST_SLOTS]) -> bool
     requires { ⌜ L.validLength (now pool) ≡ true ⌝ }
     requires { ⌜ Counted (S.innerEntries (L.read (now pool))) (now counts) ⌝ }
     ensures { λ r. ⌜ r ≡ Li.every (slotShaped (L.read (now (pool .entry)))) (P.slotNumbers (L.read (now (pool .entry)))) ⌝ }
@@ -177,7 +180,7 @@ fn shaped_nodes(pool: &[i32]) -> bool
     requires { ⌜ L.validLength (now pool) ≡ true ⌝ }
     ensures { λ r. ⌜ r ≡ Li.every (slotShaped (L.read (now (pool .entry)))) (P.slotNumbers (L.read (now (pool .entry)))) ⌝ }
 {
-    let mut counts = [0u32; 4096];
+    let mut counts = [0u32; MOST_SLOTS];
     count_parents(pool, &mut counts);
     shaped_slots(pool, &counts)
 }
@@ -208,7 +211,7 @@ fn root_sound(pool: &[i32]) -> bool
 fn records_in(pool: &[i32], s: SlotNumber) -> usize
     requires { ⌜ InPool (now pool) s ⌝ }
     ensures is { λ r. ⌜ r ≡ recordCount (P.nodeAt (L.read (now (pool .entry))) s) ⌝ }
-    ensures most { λ r. ⌜ r ≤ 8 ⌝ }
+    ensures most { λ r. ⌜ r ≤ most ⌝ }
 {
     if pool::level_of(pool, s) == 1 {
         return pool::count_of(pool, s);

@@ -11,14 +11,14 @@ use lib.ListN.{length}
 use lib.IntN.{ℤ}
 use borrow.Author.Needs.{needs}
 use Rattle.dustmap.specs.declared.Run.{Run}
-use Rattle.dustmap.specs.Running.{Stands}
+use Rattle.dustmap.specs.Running.{Stands, poolSize}
 use native.Mathlib.Omega.{arith}
 use Rattle.dustmap.proofs.main.Statement.{statement}
 use Rattle.dustmap.proofs.main.Tie as tie
 
 record Turn (pool work : List ℤ) (input out : List ℕ) (run : Run) : Type 0 where
-  words : length pool ≡ 5384
-  space : length work ≡ 5384
+  words : length pool ≡ poolSize
+  space : length work ≡ poolSize
   inputs : length input ≡ 65536
   outs : length out ≡ 65536
   stands : Stands pool input out run

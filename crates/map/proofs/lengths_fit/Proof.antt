@@ -5,7 +5,7 @@ use Rattle.map.proofs.lengths_fit.Statement.{statement}
 use Rattle.map.proofs.lengths_fit.Tie as tie
 use Rattle.map.proofs.lengths_fit.Reads as reads
 use Rattle.map.proofs.lengths_fit.Lts as lts
-use Rattle.free_slots.proofs.valid_length.Reads as valid-length-reads
+use Rattle.pool.proofs.valid_length.Reads as valid-length-reads
 
 -- src/lib.rt:71:9
 valid-length-requires : tie.Need-valid-length-requires

@@ -3,9 +3,7 @@ use Prim.Native.Nat.{ℕ}
 use lib.ListN.{set}
 use lib.Seq.{sets}
 use lib.IntN.{pos}
-use Rattle.rules.specs.Layout.{entryWords}
-use Rattle.pool.specs.Slots.{spotOf}
-use Rattle.pool.proofs.Parts.{startOf}
+use Rattle.rules.specs.Layout.{countPlace, entryPlace, entryWords}
 use native.Mathlib.Omega.{arith}
 use Prim.Native.Nat.{_+_}
 use mir.Syntax.{w32}
@@ -17,54 +15,60 @@ use Rattle.pool.proofs.add_entry.Statement.{statement}
 use Rattle.pool.proofs.add_entry.Tie as tie
 use Rattle.pool.proofs.add_entry.Reads as reads
 use Rattle.pool.proofs.add_entry.Lts as lts
-use Rattle.pool.proofs.begin.Reads as begin-reads
+use Rattle.pool.proofs.count_place.Reads as count-place-reads
 use Rattle.pool.proofs.count_of.Reads as count-of-reads
 use Rattle.pool.proofs.put_entry.Reads as put-entry-reads
 use Rattle.pool.proofs.spot.Reads as spot-reads
 
--- src/lib.rt:214:9
 count-of-requires : tie.Need-count-of-requires
 count-of-requires c κs = search needs
 
--- src/lib.rt:215:21
 spot-requires : tie.Need-spot-requires
-spot-requires c κs = let i = c .before .before .before .pre .1 .0 in ((i .low, few i), omega (arith, c .before .count-of .ensures .0, c .before .before .before .pre .1 .1 .0))
+spot-requires c κs =
+    let s = c .before .before .before in
+    let i = s .pre .1 .0 in
+    ((i .low, few i), omega (arith, c .before .count-of .ensures .0, s .pre .1 .1 .0))
 
--- src/lib.rt:215:5
 put-entry-requires : tie.Need-put-entry-requires
-put-entry-requires c κs = let i = c .before .before .before .before .pre .1 .0 in (omega (arith, c .spot .ensures, spot-inside i (c .before .before .count-of .result) (omega (arith, c .before .before .count-of .ensures .0, c .before .before .before .before .pre .1 .1 .0))), c .before .before .before .before .pre .1 .1 .1 .0)
+put-entry-requires c κs =
+    let s = c .before .before .before .before in
+    let i = s .pre .1 .0 in
+    let n = c .before .before .count-of in
+    let inside = spot-inside i (n .result) (omega (arith, n .ensures .0, s .pre .1 .1 .0)) in
+    (omega (arith, c .spot .ensures, inside), s .pre .1 .1 .1 .0)
 
--- src/lib.rt:216:14
-begin-requires : tie.Need-begin-requires
-begin-requires c κs = let i = c .before .before .before .before .before .before .pre .1 .0 in (i .low, few i)
+count-place-requires : tie.Need-count-place-requires
+count-place-requires c κs = let i = c .before .before .before .before .before .before .pre .1 .0 in (i .low, few i)
 
--- src/lib.rt:216:14
-add-at : tie.Need-add-at
-add-at c = search needs
-
--- src/lib.rt:217:17
 add-pool : tie.Need-add-pool
 add-pool c = search needs
 
--- src/lib.rt:217:16
 cast-pool : tie.Need-cast-pool
 cast-pool c = search needs
 
--- src/lib.rt:217:5
 mul-t13 : tie.Need-mul-t13
-mul-t13 c = record { fits = omega (arith, c .begin .ensures, few (c .before .before .before .before .before .before .before .pre .1 .0)) }
+mul-t13 c = record { fits = omega (arith, c .count-place .ensures, few (c .before .before .before .before .before .before .before .pre .1 .0)) }
 
--- src/lib.rt:217:5
 slice-set-from-pool : tie.Need-slice-set-from-pool
-slice-set-from-pool c = omega (arith, c .begin .ensures, c .before .before .put-entry .kept .0, room (c .before .before .before .before .before .before .before .pre .1 .0))
+slice-set-from-pool c = omega (arith, c .count-place .ensures, c .before .before .put-entry .kept .0, room (c .before .before .before .before .before .before .before .pre .1 .0))
 
--- src/lib.rt:205:1
 same-length : tie.Need-same-length
 same-length c = search needs
 
--- src/lib.rt:205:1
 returns : tie.Need-returns
-returns c = let s = c .before .before .before .before .before .before .before in let n = c .before .before .before .before .before .count-of .ensures .0 in let z = toZ-pos w32 (c .before .before .before .before .before .count-of .result + 1) (omega (arith, c .before .before .before .before .before .count-of .ensures .1)) in more-stored (s .pre .0) (s .pre .1 .0) (s .args .e) (s .pre .1 .1 .0) (s .pre .1 .1 .1 .1) _ ((λ j. set (c .before .before .put-entry .ensures j) (c .begin .ensures j + 1) (z j)) ∙ (λ j. set (sets (s .args .pool .now) (c .before .before .before .spot .ensures j) (entryWords (s .args .e))) (startOf (s .args .s) + 1) (pos (c .before .before .before .before .before .count-of .result + 1))) ∙ ap (λ (k : ℕ). set (sets (s .args .pool .now) (spotOf (s .args .s) k) (entryWords (s .args .e))) (startOf (s .args .s) + 1) (pos (k + 1))) n)
+returns c =
+    let s = c .before .before .before .before .before .before .before in
+    let w = s .args .pool .now in
+    let e = s .args .e in
+    let slot = s .args .s in
+    let count = c .before .before .before .before .before .count-of in
+    let n = count .result in
+    let z = toZ-pos w32 (n + 1) (omega (arith, count .ensures .1)) in
+    let many = ap (λ (k : ℕ). set (sets w (entryPlace slot k) (entryWords e)) (countPlace slot) (pos (k + 1))) (count .ensures .0) in
+    more-stored (s .pre .0) (s .pre .1 .0) e (s .pre .1 .1 .0) (s .pre .1 .1 .1 .1) _
+    ((λ j. set (c .before .before .put-entry .ensures j) (c .count-place .ensures j) (z j))
+    ∙ (λ j. set (sets w (c .before .before .before .spot .ensures j) (entryWords e)) (countPlace slot) (pos (n + 1)))
+    ∙ many)
 
 pub add-entry-spec : {M : Type 1} → statement M
 add-entry-spec =
@@ -73,8 +77,7 @@ add-entry-spec =
     count-of-requires
     spot-requires
     put-entry-requires
-    begin-requires
-    add-at
+    count-place-requires
     add-pool
     cast-pool
     mul-t13

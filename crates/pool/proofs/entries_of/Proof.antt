@@ -7,6 +7,7 @@ use native.Mathlib.Omega.{arith}
 use lib.ListN.{length, getD, set, take, length-set}
 use lib.Seq.{take-suc, take-suc-set, take-length}
 use Rattle.rules.specs.declared.Entry.{Entry}
+use Rattle.rules.specs.Numbers.{most}
 use Rattle.rules.specs.Pool.{noEntry, entriesAt, entryAt, entryFrom}
 use Rattle.rules.specs.Layout.{read}
 use Rattle.pool.proofs.entries_of.Statement.{statement}
@@ -20,9 +21,9 @@ use Rattle.pool.proofs.no_entry.Reads as no-entry-reads
 -- the first i places hold the first i entries
 record Turn (all : List Entry) (n : ℕ) (es : List Entry) (i : ℕ) : Type 0 where
   size : n ≡ length all
-  few : n ≤ 8
-  most : i ≤ n
-  nine : length es ≡ 9
+  few : n ≤ most
+  many : i ≤ n
+  nine : length es ≡ most + 1
   is : take i es ≡ take i all
 
 turn : {all : List Entry} {n : ℕ} {es : List Entry} {i : ℕ} (e : Entry) → Turn all n es i → i < n → e ≡ getD all i noEntry → Turn all n (set es i e) (i + 1)
@@ -31,7 +32,7 @@ turn {all} {n} {es} {i} e t h q =
     record {
       size = t .size;
       few = t .few;
-      most = omega arith;
+      many = omega arith;
       nine = length-set es i e ∙ t .nine;
       is = rw (add-one i) (take-suc-set es i e l ∙ ap₂ (λ (xs : List Entry) (x : Entry). xs ++ x ∷ []) (t .is) q ∙ sym (take-suc all i noEntry (omega (arith, t .size))));
     }
@@ -42,46 +43,44 @@ Inv-loop pool s n es₀ i₀ es i = Turn (entriesAt (read pool) s) n es i
 abbrev μ-loop : tie.MeasureT-loop
 μ-loop pool s n es₀ i₀ es i = n - i
 
--- src/lib.rt:251:9
 count-of-requires : tie.Need-count-of-requires Inv-loop μ-loop
 count-of-requires c κs = c .pre
 
--- src/lib.rt:252:19
 no-entry-requires : tie.Need-no-entry-requires Inv-loop μ-loop
 no-entry-requires c κs = search needs
 
--- src/lib.rt:254:5
 loop-holds : tie.Need-loop-holds Inv-loop μ-loop
-loop-holds c = record { size = c .before .count-of .ensures .0; few = c .before .count-of .ensures .1; most = omega arith; nine = search needs; is = refl }
+loop-holds c =
+    let n = c .before .count-of .ensures in
+    record { size = n .0; few = n .1; many = omega arith; nine = search needs; is = refl }
 
--- src/lib.rt:255:17
 entry-of-requires : tie.Need-entry-of-requires Inv-loop μ-loop
 entry-of-requires c κs = (c .before .before .before .before .pre, omega (arith, c .loop-test .taken, c .before .loop .inv .size))
 
--- src/lib.rt:255:9
 mul-es : tie.Need-mul-es Inv-loop μ-loop
 mul-es c = omega (arith, c .before .loop-test .taken, c .before .before .loop .inv .few)
 
--- src/lib.rt:255:9
 array-set-from-es : tie.Need-array-set-from-es Inv-loop μ-loop
 array-set-from-es c = omega (arith, c .before .loop-test .taken, c .before .before .loop .inv .few)
 
--- src/lib.rt:256:9
 add-i : tie.Need-add-i Inv-loop μ-loop
 add-i c = search needs
 
--- src/lib.rt:254:5
 loop-less : tie.Need-loop-less Inv-loop μ-loop
 loop-less c = search needs
 
--- src/lib.rt:254:5
 loop-again : tie.Need-loop-again Inv-loop μ-loop
 unfolding entryAt entryFrom
 loop-again c = turn (c .entry-of .result) (c .before .before .loop .inv) (c .before .loop-test .taken) (c .entry-of .ensures)
 
--- src/lib.rt:247:1
 returns : tie.Need-returns Inv-loop μ-loop
-returns c = let t = c .before .loop .inv in let e : c .before .loop .i ≡ length (entriesAt (read (c .before .before .before .before .args .pool .now)) (c .before .before .before .before .args .s)) = omega (arith, t .size, t .most, c .loop-test .left) in ap (λ (k : ℕ). take k (c .before .loop .es)) (sym e) ∙ t .is ∙ ap (λ (k : ℕ). take k (entriesAt (read (c .before .before .before .before .args .pool .now)) (c .before .before .before .before .args .s))) e ∙ take-length _
+returns c =
+    let s = c .before .before .before .before in
+    let all = entriesAt (read (s .args .pool .now)) (s .args .s) in
+    let l = c .before .loop in
+    let t = l .inv in
+    let e : l .i ≡ length all = omega (arith, t .size, t .many, c .loop-test .left) in
+    ap (λ (k : ℕ). take k (l .es)) (sym e) ∙ t .is ∙ ap (λ (k : ℕ). take k all) e ∙ take-length _
 
 pub entries-of-spec : {M : Type 1} → statement M
 entries-of-spec =

@@ -8,15 +8,12 @@ use Rattle.pool.proofs.entry_of.Lts as lts
 use Rattle.pool.proofs.entry_pointer.Reads as entry-pointer-reads
 use Rattle.pool.proofs.rect_of.Reads as rect-of-reads
 
--- src/lib.rt:286:9
 rect-of-requires : tie.Need-rect-of-requires
 rect-of-requires c κs = search needs
 
--- src/lib.rt:287:9
 entry-pointer-requires : tie.Need-entry-pointer-requires
 entry-pointer-requires c κs = search needs
 
--- src/lib.rt:281:1
 returns : tie.Need-returns
 returns c = let s = c .before .before in rw (c .before .rect-of .ensures, c .entry-pointer .ensures) (entry-parts (read (s .args .pool .now)) (s .args .s) (s .args .i))
 

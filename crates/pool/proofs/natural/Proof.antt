@@ -5,15 +5,12 @@ use Rattle.pool.proofs.natural.Tie as tie
 use Rattle.pool.proofs.natural.Reads as reads
 use Rattle.pool.proofs.natural.Lts as lts
 
--- src/lib.rt:19:17
 cast-result : tie.Need-cast-result
 cast-result c = let z = c .before .args .x in let e = toZ-ofZ (c .before .fits .x) in rw e (up z (rw e at (c .if1 .taken)) (c .before .fits .x))
 
--- src/lib.rt:16:1
 returns : tie.Need-returns
 returns c = let z = c .before .args .x in let e = toZ-ofZ (c .before .fits .x) in rw e (natural-up z (rw e at (c .if1 .taken)))
 
--- src/lib.rt:16:1
 returns-2 : tie.Need-returns-2
 returns-2 c = let z = c .before .args .x in let e = toZ-ofZ (c .before .fits .x) in natural-down z (rw e at (c .if1 .left))
 

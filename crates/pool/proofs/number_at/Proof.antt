@@ -1,6 +1,5 @@
 use mathlib.Core.Path.{ap, _∙_}
-use mir.Syntax.{w32}
-use mir.Facts.{toZ-ofZ}
+use Rattle.pool.proofs.Naturals.{word-read}
 use borrow.Author.Needs.{sfits-of}
 use Rattle.rules.specs.Layout.{natural}
 use borrow.Author.Needs.{needs}
@@ -11,17 +10,16 @@ use Rattle.pool.proofs.number_at.Lts as lts
 use Rattle.pool.proofs.natural.Reads as natural-reads
 use Rattle.pool.proofs.word.Reads as word-reads
 
--- src/lib.rt:35:13
 word-requires : tie.Need-word-requires
 word-requires c κs = search needs
 
--- src/lib.rt:35:5
 natural-requires : tie.Need-natural-requires
 natural-requires c κs = search needs
 
--- src/lib.rt:31:1
 returns : tie.Need-returns
-returns c = c .natural .ensures ∙ ap natural (toZ-ofZ {w = w32} {z = c .before .word .result} (sfits-of (c .before .word .ok)) ∙ c .before .word .ensures)
+returns c =
+    let w = c .before .word in
+    c .natural .ensures ∙ ap natural (word-read (sfits-of (w .ok)) (w .ensures))
 
 pub number-at-spec : {M : Type 1} → statement M
 number-at-spec = tie.close (tie.spec word-requires natural-requires returns)

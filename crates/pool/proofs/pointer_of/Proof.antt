@@ -13,17 +13,17 @@ use Rattle.pool.proofs.pointer_of.Reads as reads
 use Rattle.pool.proofs.pointer_of.Lts as lts
 use Rattle.pool.proofs.natural.Reads as natural-reads
 
--- src/lib.rt:217:9
 returns : tie.Need-returns
 returns c = let s = c .before in rw (toZ-ofZ (s .fits .z)) (sym (pointer-number (s .args .level) (s .args .z) (eq-eqb _ _ (c .if1 .taken))))
 
--- src/lib.rt:219:9
 natural-requires : tie.Need-natural-requires
 natural-requires c κs = search needs
 
--- src/lib.rt:213:1
 returns-2 : tie.Need-returns-2
-returns-2 c = let s = c .before .before in ap (λ (n : ℕ). Child (slot n)) (c .natural .ensures ∙ ap natural (toZ-ofZ (s .fits .z))) ∙ sym (pointer-child (s .args .level) (s .args .z) (ne-eqb _ _ (c .before .if1 .left)))
+returns-2 c =
+    let s = c .before .before in
+    let n = c .natural .ensures ∙ ap natural (toZ-ofZ (s .fits .z)) in
+    ap (λ (n : ℕ). Child (slot n)) n ∙ sym (pointer-child (s .args .level) (s .args .z) (ne-eqb _ _ (c .before .if1 .left)))
 
 pub pointer-of-spec : {M : Type 1} → statement M
 pointer-of-spec = tie.close (tie.spec returns natural-requires returns-2)

@@ -6,17 +6,22 @@ use Rattle.pool.proofs.put_node.Reads as reads
 use Rattle.pool.proofs.put_node.Lts as lts
 use Rattle.pool.proofs.write_slot.Reads as write-slot-reads
 
--- src/lib.rt:182:5
 write-slot-requires : tie.Need-write-slot-requires
-write-slot-requires c κs = let s = c .before in let f = s .pre .0 in let i = s .pre .1 .0 in let g = fine-node (s .args .level) (s .args .es) (s .args .n) (s .pre .1 .1 .1 .0) (s .pre .1 .1 .1 .1 .1) in (i, (s .pre .1 .1 .0, (s .pre .1 .1 .1 .0, s .pre .1 .1 .1 .1 .0)))
+write-slot-requires c κs =
+    let pre = c .before .pre in
+    (pre .1 .0, (pre .1 .1 .0, (pre .1 .1 .1 .0, pre .1 .1 .1 .1 .0)))
 
--- src/lib.rt:172:1
 same-length : tie.Need-same-length
 same-length c = search needs
 
--- src/lib.rt:172:1
 returns : tie.Need-returns
-returns c = let s = c .before .before .before in let f = s .pre .0 in let i = s .pre .1 .0 in let g = fine-node (s .args .level) (s .args .es) (s .args .n) (s .pre .1 .1 .1 .0) (s .pre .1 .1 .1 .1 .1) in let e = c .before .write-slot .ensures in (rw e (put-read f i g), rw e (put-fit f i g))
+returns c =
+    let s = c .before .before .before in
+    let f = s .pre .0 in
+    let i = s .pre .1 .0 in
+    let g = fine-node (s .args .level) (s .args .es) (s .args .n) (s .pre .1 .1 .1 .0) (s .pre .1 .1 .1 .1 .1) in
+    let e = c .before .write-slot .ensures in
+    (rw e (put-read f i g), rw e (put-fit f i g))
 
 pub put-node-spec : {M : Type 1} → statement M
 put-node-spec = tie.close (tie.spec write-slot-requires same-length returns)

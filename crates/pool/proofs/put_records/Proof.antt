@@ -9,19 +9,15 @@ use Rattle.pool.proofs.put_records.Tie as tie
 use Rattle.pool.proofs.put_records.Reads as reads
 use Rattle.pool.proofs.put_records.Lts as lts
 
--- src/lib.rt:282:15
 cast-pool : tie.Need-cast-pool
 cast-pool c = search needs
 
--- src/lib.rt:282:5
 slice-set-from-pool : tie.Need-slice-set-from-pool
 slice-set-from-pool c = omega (arith, right-size (c .args .pool .now) (c .pre .0 .right))
 
--- src/lib.rt:276:1
 same-length : tie.Need-same-length
 same-length c = search needs
 
--- src/lib.rt:276:1
 returns : tie.Need-returns
 returns c = rw (toZ-pos w32 (c .args .n) (omega (arith, c .pre .1))) (records-read (c .pre .0) (c .args .n), records-fit (c .pre .0) (c .args .n))
 

@@ -7,11 +7,9 @@ use Rattle.pool.proofs.records_of.Reads as reads
 use Rattle.pool.proofs.records_of.Lts as lts
 use Rattle.pool.proofs.number_at.Reads as number-at-reads
 
--- src/lib.rt:207:5
 number-at-requires : tie.Need-number-at-requires
 number-at-requires c κs = omega (arith, right-size (c .args .pool .now) (c .pre))
 
--- src/lib.rt:203:1
 returns : tie.Need-returns
 unfolding read
 returns c = c .number-at .ensures

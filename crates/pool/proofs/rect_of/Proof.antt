@@ -12,17 +12,16 @@ use Rattle.pool.proofs.rect_of.Lts as lts
 use Rattle.pool.proofs.rect_at.Reads as rect-at-reads
 use Rattle.pool.proofs.spot.Reads as spot-reads
 
--- src/lib.rt:109:19
 spot-requires : tie.Need-spot-requires
 spot-requires c κs = let i = c .pre .0 in ((i .low, few i), omega (arith, slot-few i, c .pre .1))
 
--- src/lib.rt:109:5
 rect-at-requires : tie.Need-rect-at-requires
 rect-at-requires c κs = let i = c .before .pre .0 in omega (arith, c .spot .ensures, spot-inside i (c .before .args .i) (omega (arith, slot-few i, c .before .pre .1)))
 
--- src/lib.rt:104:1
 returns : tie.Need-returns
-returns c = c .rect-at .ensures ∙ ap (λ (k : ℕ). rectOf (drop k (c .before .before .args .pool .now))) (c .before .spot .ensures) ∙ spot-rect (c .before .before .pre .0) (c .before .before .args .i) (c .before .before .pre .1)
+returns c =
+    let s = c .before .before in
+    c .rect-at .ensures ∙ ap (λ (k : ℕ). rectOf (drop k (s .args .pool .now))) (c .before .spot .ensures) ∙ spot-rect (s .pre .0) (s .args .i) (s .pre .1)
 
 pub rect-of-spec : {M : Type 1} → statement M
 rect-of-spec = tie.close (tie.spec spot-requires rect-at-requires returns)

@@ -6,12 +6,10 @@ use Rattle.pool.proofs.slot_count.Tie as tie
 use Rattle.pool.proofs.slot_count.Reads as reads
 use Rattle.pool.proofs.slot_count.Lts as lts
 
--- src/lib.rt:31:1
 returns : tie.Need-returns
 unfolding slotCount
 returns c = omega arith
 
--- src/lib.rt:31:1
 returns-2 : tie.Need-returns-2
 unfolding slotCount
 returns-2 c = refl

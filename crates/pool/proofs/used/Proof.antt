@@ -9,23 +9,18 @@ use Rattle.pool.proofs.used.Reads as reads
 use Rattle.pool.proofs.used.Lts as lts
 use Rattle.pool.proofs.no_entry.Reads as no-entry-reads
 
--- src/lib.rt:149:16
 mul-result : tie.Need-mul-result
 mul-result c = search needs
 
--- src/lib.rt:149:16
 array-copy-out-result : tie.Need-array-copy-out-result
 array-copy-out-result c = search needs
 
--- src/lib.rt:149:31
 no-entry-requires : tie.Need-no-entry-requires
 no-entry-requires c κs = search needs
 
--- src/lib.rt:145:1
 returns : tie.Need-returns
 returns c = let s = c .before .before in rw (lt-ltb _ _ (c .before .if1 .taken)) (getD-any (s .args .t1) (s .args .i) _ noEntry (omega arith))
 
--- src/lib.rt:145:1
 returns-2 : tie.Need-returns-2
 returns-2 c = rw (le-ltb _ _ (c .before .if1 .left)) (c .no-entry .ensures)
 

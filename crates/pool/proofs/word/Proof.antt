@@ -10,15 +10,12 @@ use Rattle.pool.proofs.word.Tie as tie
 use Rattle.pool.proofs.word.Reads as reads
 use Rattle.pool.proofs.word.Lts as lts
 
--- src/lib.rt:27:5
 mul-result : tie.Need-mul-result
 mul-result c = search needs
 
--- src/lib.rt:27:5
 shared-slice-copy-out-result : tie.Need-shared-slice-copy-out-result
 shared-slice-copy-out-result c = search needs
 
--- src/lib.rt:23:1
 returns : tie.Need-returns
 unfolding wordAt
 returns c = toZ-ofZ {w = w32} {z = getD (c .before .args .pool .now) (c .before .args .at) (pos 0)} (sfits-of (c .result .given))

@@ -10,105 +10,152 @@ use mir.Syntax.{w32}
 use mir.Val.{toZ}
 use mir.ValLaws.{toZ-pos}
 use Rattle.rules.specs.declared.Entry.{Entry}
-use Rattle.rules.specs.Layout.{entryWords}
-use Rattle.pool.proofs.Parts.{startOf, few, room}
+use Rattle.rules.specs.Numbers.{most}
+use Rattle.rules.specs.Layout.{entrySize, slotHead, slotStart, entryWords}
+use Rattle.pool.proofs.Parts.{few, room}
 use Rattle.pool.proofs.Fronts.{front, front-none, front-more, whole, used-small}
 use Rattle.pool.proofs.write_slot.Statement.{statement}
 use Rattle.pool.proofs.write_slot.Tie as tie
 use Rattle.pool.proofs.write_slot.Reads as reads
 use Rattle.pool.proofs.write_slot.Lts as lts
-use Rattle.pool.proofs.begin.Reads as begin-reads
+use Rattle.pool.proofs.slot_start.Reads as slot-start-reads
 use Rattle.pool.proofs.put_entry.Reads as put-entry-reads
 use Rattle.pool.proofs.used.Reads as used-reads
 
--- i entries are written, behind the level and the count
+-- i entries are written, after the level and the count
 record Turn (pool₀ : List ℤ) (es : List Entry) (n at : ℕ) (pool : List ℤ) (i : ℕ) : Type 0 where
-  most : i ≤ 8
-  nine : length es ≡ 9
+  many : i ≤ most
+  nine : length es ≡ most + 1
   size : length pool ≡ length pool₀
-  is : pool ≡ sets pool₀ (at + 2) (front es n i)
+  is : pool ≡ sets pool₀ (at + slotHead) (front es n i)
 
 abbrev Inv-loop : tie.InvT-loop
 Inv-loop pool₀ level es n at i₀ pool i = Turn pool₀ es n at pool i
 
 abbrev μ-loop : tie.MeasureT-loop
-μ-loop pool₀ level es n at i₀ pool i = 8 - i
+μ-loop pool₀ level es n at i₀ pool i = most - i
 
--- src/lib.rt:160:9
-begin-requires : tie.Need-begin-requires Inv-loop μ-loop
-begin-requires c κs = let i = c .pre .0 in (i .low, few i)
+slot-start-requires : tie.Need-slot-start-requires Inv-loop μ-loop
+slot-start-requires c κs = let i = c .pre .0 in (i .low, few i)
 
--- src/lib.rt:161:16
 cast-pool : tie.Need-cast-pool Inv-loop μ-loop
 cast-pool c = record { sfits = omega (arith, c .before .pre .1 .0) }
 
--- src/lib.rt:161:5
 mul-pool : tie.Need-mul-pool Inv-loop μ-loop
-mul-pool c = omega (arith, room (c .before .pre .0), c .begin .ensures)
+mul-pool c = omega (arith, room (c .before .pre .0), c .slot-start .ensures)
 
--- src/lib.rt:161:5
 slice-set-from-pool : tie.Need-slice-set-from-pool Inv-loop μ-loop
-slice-set-from-pool c = omega (arith, room (c .before .pre .0), c .begin .ensures)
+slice-set-from-pool c = omega (arith, room (c .before .pre .0), c .slot-start .ensures)
 
--- src/lib.rt:162:20
 cast-pool-2 : tie.Need-cast-pool-2 Inv-loop μ-loop
 cast-pool-2 c = record { sfits = omega (arith, c .before .pre .1 .1 .0) }
 
--- src/lib.rt:162:10
 add-t10 : tie.Need-add-t10 Inv-loop μ-loop
-add-t10 c = omega (arith, room (c .before .pre .0), c .begin .ensures)
+add-t10 c = omega (arith, room (c .before .pre .0), c .slot-start .ensures)
 
--- src/lib.rt:162:5
 mul-t12 : tie.Need-mul-t12 Inv-loop μ-loop
-mul-t12 c = omega (arith, room (c .before .pre .0), c .begin .ensures)
+mul-t12 c = omega (arith, room (c .before .pre .0), c .slot-start .ensures)
 
--- src/lib.rt:162:5
 slice-set-from-pool-2 : tie.Need-slice-set-from-pool-2 Inv-loop μ-loop
-slice-set-from-pool-2 c = rw (length-set (c .before .args .pool .now) (c .begin .result) (toZ w32 (c .before .args .level))) (omega (arith, room (c .before .pre .0), c .begin .ensures))
+slice-set-from-pool-2 c =
+    let z = length-set (c .before .args .pool .now) (c .slot-start .result) (toZ w32 (c .before .args .level)) in
+    rw z (omega (arith, room (c .before .pre .0), c .slot-start .ensures))
 
--- src/lib.rt:164:5
 loop-holds : tie.Need-loop-holds Inv-loop μ-loop
-loop-holds c = record { most = omega arith; nine = search needs; size = refl; is = front-none (c .before .args .es) (c .before .args .n) _ (c .begin .result + 2) }
+loop-holds c =
+    record {
+      many = omega arith;
+      nine = search needs;
+      size = refl;
+      is = front-none (c .before .args .es) (c .before .args .n) _ (c .slot-start .result + slotHead);
+    }
 
--- src/lib.rt:165:13
 used-requires : tie.Need-used-requires Inv-loop μ-loop
 used-requires c κs = omega (arith, c .loop-test .taken)
 
--- src/lib.rt:166:25
 add-put-entry : tie.Need-add-put-entry Inv-loop μ-loop
-add-put-entry c = omega (arith, room (c .before .before .before .before .before .pre .0), c .before .before .before .before .begin .ensures)
+add-put-entry c =
+    let s = c .before .before .before .before .before in
+    let r = room (s .pre .0) in
+    let b = c .before .before .before .before .slot-start .ensures in
+    omega arith
 
--- src/lib.rt:166:34
 mul-put-entry : tie.Need-mul-put-entry Inv-loop μ-loop
-mul-put-entry c = omega (arith, room (c .before .before .before .before .before .pre .0), c .before .before .before .before .begin .ensures, c .before .before .loop-test .taken)
+mul-put-entry c =
+    let s = c .before .before .before .before .before in
+    let r = room (s .pre .0) in
+    let b = c .before .before .before .before .slot-start .ensures in
+    let t = c .before .before .loop-test .taken in
+    omega arith
 
--- src/lib.rt:166:25
 add-put-entry-2 : tie.Need-add-put-entry-2 Inv-loop μ-loop
-add-put-entry-2 c = omega (arith, room (c .before .before .before .before .before .pre .0), c .before .before .before .before .begin .ensures, c .before .before .loop-test .taken)
+add-put-entry-2 c =
+    let s = c .before .before .before .before .before in
+    let r = room (s .pre .0) in
+    let b = c .before .before .before .before .slot-start .ensures in
+    let t = c .before .before .loop-test .taken in
+    omega arith
 
--- src/lib.rt:166:9
 put-entry-requires : tie.Need-put-entry-requires Inv-loop μ-loop
-put-entry-requires c κs = let z = length-set (c .before .before .before .before .before .args .pool .now) (c .before .before .before .before .begin .result) (toZ w32 (c .before .before .before .before .before .args .level)) in let y = length-set (set (c .before .before .before .before .before .args .pool .now) (c .before .before .before .before .begin .result) (toZ w32 (c .before .before .before .before .before .args .level))) (c .before .before .before .before .begin .result + 1) (toZ w32 (c .before .before .before .before .before .args .n)) in (omega (arith, room (c .before .before .before .before .before .pre .0), c .before .before .before .before .begin .ensures, c .before .before .loop-test .taken, c .before .before .before .loop .inv .size), rw (c .before .used .ensures) (used-small (c .before .before .before .before .before .args .es) (c .before .before .before .before .before .args .n) (c .before .before .before .loop .i) (c .before .before .before .before .before .pre .1 .1 .1)))
+put-entry-requires c κs =
+    let s = c .before .before .before .before .before in
+    let w = s .args .pool .now in
+    let at = c .before .before .before .before .slot-start .result in
+    let l = c .before .before .before .loop in
+    let z = length-set w at (toZ w32 (s .args .level)) in
+    let y = length-set (set w at (toZ w32 (s .args .level))) (at + 1) (toZ w32 (s .args .n)) in
+    let r = room (s .pre .0) in
+    let b = c .before .before .before .before .slot-start .ensures in
+    let t = c .before .before .loop-test .taken in
+    let long = l .inv .size in
+    (omega arith, rw (c .before .used .ensures) (used-small (s .args .es) (s .args .n) (l .i) (s .pre .1 .1 .1)))
 
--- src/lib.rt:167:9
 add-i : tie.Need-add-i Inv-loop μ-loop
 add-i c = search needs
 
--- src/lib.rt:164:5
 loop-less : tie.Need-loop-less Inv-loop μ-loop
 loop-less c = search needs
 
--- src/lib.rt:164:5
 loop-again : tie.Need-loop-again Inv-loop μ-loop
-loop-again c = let l = c .before .before .before .before .before .loop .inv in let s = c .before .before .before .before .before .before .before in record { most = omega arith; nine = l .nine; size = c .before .put-entry .kept .0 ∙ l .size; is = c .before .put-entry .ensures ∙ ap₂ (λ (x : List ℤ) (e : Entry). sets x (c .before .before .before .before .before .before .begin .result + 2 + 5 * c .before .before .before .before .before .loop .i) (entryWords e)) (l .is) (c .before .before .before .used .ensures) ∙ front-more (s .args .es) (s .args .n) _ (c .before .before .before .before .before .before .begin .result + 2) (c .before .before .before .before .before .loop .i) }
+loop-again c =
+    let s = c .before .before .before .before .before .before .before in
+    let at = c .before .before .before .before .before .before .slot-start .result + slotHead in
+    let i = c .before .before .before .before .before .loop .i in
+    let l = c .before .before .before .before .before .loop .inv in
+    let put = c .before .put-entry in
+    let e = c .before .before .before .used .ensures in
+    record {
+      many = omega arith;
+      nine = l .nine;
+      size = put .kept .0 ∙ l .size;
+      is =
+          put .ensures ∙ ap₂ (λ (x : List ℤ) (y : Entry). sets x (at + entrySize * i) (entryWords y)) (l .is) e
+          ∙ front-more (s .args .es) (s .args .n) _ at i;
+    }
 
--- src/lib.rt:153:1
 same-length : tie.Need-same-length Inv-loop μ-loop
-same-length c = let z = length-set (c .before .before .before .args .pool .now) (c .before .before .begin .result) (toZ w32 (c .before .before .before .args .level)) in let y = length-set (set (c .before .before .before .args .pool .now) (c .before .before .begin .result) (toZ w32 (c .before .before .before .args .level))) (c .before .before .begin .result + 1) (toZ w32 (c .before .before .before .args .n)) in c .before .loop .inv .size ∙ y ∙ z
+same-length c =
+    let s = c .before .before .before in
+    let w = s .args .pool .now in
+    let at = c .before .before .slot-start .result in
+    let z = length-set w at (toZ w32 (s .args .level)) in
+    let y = length-set (set w at (toZ w32 (s .args .level))) (at + 1) (toZ w32 (s .args .n)) in
+    c .before .loop .inv .size ∙ y ∙ z
 
--- src/lib.rt:153:1
 returns : tie.Need-returns Inv-loop μ-loop
-returns c = let l = c .before .loop .inv in let s = c .before .before .before in let e : c .before .loop .i ≡ 8 = omega (arith, l .most, c .loop-test .left) in let p = toZ-pos w32 (s .args .level) (omega (arith, s .pre .1 .0)) in let q = toZ-pos w32 (s .args .n) (omega (arith, s .pre .1 .1 .0)) in l .is ∙ ap₂ (λ (a k : ℕ). sets (set (set (s .args .pool .now) a (toZ w32 (s .args .level))) (a + 1) (toZ w32 (s .args .n))) (a + 2) (front (s .args .es) (s .args .n) k)) (c .before .before .begin .ensures) e ∙ rw (p, q) (whole (s .args .es) (s .args .n) (omega (arith, l .nine)) (s .args .pool .now) (startOf (s .args .s)) (s .args .level) (s .pre .1 .1 .0))
+returns c =
+    let s = c .before .before .before in
+    let w = s .args .pool .now in
+    let es = s .args .es in
+    let n = s .args .n in
+    let level = s .args .level in
+    let l = c .before .loop .inv in
+    let all : c .before .loop .i ≡ most = omega (arith, l .many, c .loop-test .left) in
+    let p = toZ-pos w32 level (omega (arith, s .pre .1 .0)) in
+    let q = toZ-pos w32 n (omega (arith, s .pre .1 .1 .0)) in
+    let put : ℕ → ℕ → List ℤ = λ a k. sets (set (set w a (toZ w32 level)) (a + 1) (toZ w32 n)) (a + slotHead) (front es n k) in
+    l .is ∙ ap₂ put (c .before .before .slot-start .ensures) all
+    ∙ rw (p, q) (whole es n (omega (arith, l .nine)) w (slotStart (s .args .s)) level (s .pre .1 .1 .0))
 
 pub write-slot-spec : {M : Type 1} → statement M
 write-slot-spec =
@@ -116,7 +163,7 @@ write-slot-spec =
     (tie.spec
     Inv-loop
     μ-loop
-    begin-requires
+    slot-start-requires
     cast-pool
     mul-pool
     slice-set-from-pool

@@ -11,7 +11,7 @@ use Rattle.sound.proofs.sound.Reads as reads
 use Rattle.sound.proofs.sound.Lts as lts
 use Rattle.pool.proofs.height_of.Reads as height-of-reads
 use Rattle.sound_shape.proofs.shaped.Reads as shaped-reads
-use Rattle.tidy.proofs.tidy.Reads as tidy-reads
+use Rattle.pool.proofs.tidy.tidy.Reads as tidy-reads
 use Rattle.sound.proofs.all_sound.Reads as all-sound-reads
 
 tidy-requires : tie.Need-tidy-requires

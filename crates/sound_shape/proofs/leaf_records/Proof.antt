@@ -5,6 +5,7 @@ use Prim.Native.Nat.{ℕ, _+_, _*_, _-_, _≤_}
 use lib.ListN.{length, drop}
 use Rattle.rules.specs.Pool.{Node}
 use Rattle.rules.specs.Layout.{read}
+use Rattle.rules.specs.Numbers.{most}
 use Rattle.pool.proofs.Parts.{few-slots}
 use Rattle.pool.proofs.Written.{read-slots}
 use Rattle.sound_shape.specs.Shapes.{recordCounts}
@@ -20,8 +21,8 @@ use Rattle.sound_shape.proofs.records_in.Reads as records-in-reads
 record Turn (ns : List Node) (n sum s : ℕ) : Type 0 where
   size : n ≡ length ns
   low : 1 ≤ s
-  most : s ≤ n + 1
-  few : sum ≤ 8 * (s - 1)
+  high : s ≤ n + 1
+  few : sum ≤ most * (s - 1)
   all : sum + recordCounts (drop (s - 1) ns) ≡ recordCounts ns
 
 abbrev Inv-loop : tie.InvT-loop
@@ -36,7 +37,7 @@ slot-count-requires c κs = tt
 
 -- src/lib.rt:411:5
 loop-holds : tie.Need-loop-holds Inv-loop μ-loop
-loop-holds c = record { size = c .slot-count .ensures ∙ sym (read-slots (c .before .args .pool .now)); low = omega arith; most = omega arith; few = omega arith; all = omega arith }
+loop-holds c = record { size = c .slot-count .ensures ∙ sym (read-slots (c .before .args .pool .now)); low = omega arith; high = omega arith; few = omega arith; all = omega arith }
 
 -- src/lib.rt:412:16
 records-in-requires : tie.Need-records-in-requires Inv-loop μ-loop
@@ -44,7 +45,7 @@ records-in-requires c κs = record { right = c .before .before .before .pre; low
 
 -- src/lib.rt:412:9
 add-sum : tie.Need-add-sum Inv-loop μ-loop
-add-sum c = omega (arith, c .before .before .loop .inv .few, c .before .before .loop .inv .most, c .before .before .loop .inv .size, c .records-in .ensures .1, few-slots (c .before .before .before .before .args .pool .now) (c .before .before .before .before .pre), read-slots (c .before .before .before .before .args .pool .now))
+add-sum c = omega (arith, c .before .before .loop .inv .few, c .before .before .loop .inv .high, c .before .before .loop .inv .size, c .records-in .ensures .1, few-slots (c .before .before .before .before .args .pool .now) (c .before .before .before .before .pre), read-slots (c .before .before .before .before .args .pool .now))
 
 -- src/lib.rt:413:9
 add-s : tie.Need-add-s Inv-loop μ-loop
@@ -56,7 +57,7 @@ loop-less c = omega (arith, c .before .loop-test .taken)
 
 -- src/lib.rt:411:5
 loop-again : tie.Need-loop-again Inv-loop μ-loop
-loop-again c = let t = c .before .before .loop .inv in let m = records-more (read (c .before .before .before .before .args .pool .now)) (c .before .before .loop .s) (c .before .before .loop .inv .low) (omega (arith, c .before .loop-test .taken, c .before .before .loop .inv .size)) in let r = c .records-in .ensures in record { size = t .size; low = omega arith; most = omega (arith, c .before .loop-test .taken); few = omega (arith, t .few, t .low, r .1); all = omega (arith, t .all, m, r .0) }
+loop-again c = let t = c .before .before .loop .inv in let m = records-more (read (c .before .before .before .before .args .pool .now)) (c .before .before .loop .s) (c .before .before .loop .inv .low) (omega (arith, c .before .loop-test .taken, c .before .before .loop .inv .size)) in let r = c .records-in .ensures in record { size = t .size; low = omega arith; high = omega (arith, c .before .loop-test .taken); few = omega (arith, t .few, t .low, r .1); all = omega (arith, t .all, m, r .0) }
 
 -- src/lib.rt:404:1
 returns : tie.Need-returns Inv-loop μ-loop

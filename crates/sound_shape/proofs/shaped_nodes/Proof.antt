@@ -3,6 +3,7 @@ use mathlib.Core.List.{[]}
 use lib.ListN.{length-replicate}
 use Rattle.sound_shape.proofs.Counts.{counted-none}
 use borrow.Author.Needs.{needs}
+use Rattle.rules.specs.Numbers.{mostSlots}
 use Rattle.sound_shape.proofs.shaped_nodes.Statement.{statement}
 use Rattle.sound_shape.proofs.shaped_nodes.Tie as tie
 use Rattle.sound_shape.proofs.shaped_nodes.Reads as reads
@@ -12,7 +13,7 @@ use Rattle.sound_shape.proofs.shaped_slots.Reads as shaped-slots-reads
 
 -- src/lib.rt:366:5
 count-parents-requires : tie.Need-count-parents-requires
-count-parents-requires c κs = (c .before .pre, length-replicate {A = ℕ} 4096 0)
+count-parents-requires c κs = (c .before .pre, length-replicate {A = ℕ} mostSlots 0)
 
 -- src/lib.rt:367:5
 shaped-slots-requires : tie.Need-shaped-slots-requires

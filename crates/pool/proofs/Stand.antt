@@ -1,0 +1,118 @@
+-- Where words stand in a list is asked a word at a time, or a part at a time: of two parts, one after the other, each where it begins.
+use mathlib.Core.Path.{_≡_, refl, sym, ap, ap₂, _∙_}
+use mathlib.Core.Bool.{Bool, true, false, _&&_, and-assoc}
+use mathlib.Core.List.{List, [], _∷_, _++_, map}
+use Prim.Native.Nat.{ℕ, suc, _+_, _*_, _-_, _≤_, _<_, min}
+use native.Mathlib.Nat.{mul-suc}
+use native.Mathlib.Numerals.{add-one}
+use native.Mathlib.Omega.{arith}
+use native.Mathlib.Decide.{decLe}
+use lib.Dec.{leb, leb·zero}
+use lib.ListN.{length, getD, take, drop, drop-of-length-le}
+use lib.Seq.{drop-cons, take-length}
+use lib.IntN.{ℤ, pos, negsuc}
+use lib.Signed.{leZ}
+use borrow.Author.Tests.{le-leb, lt-leb}
+use Rattle.rules.specs.Lists.{joined, same}
+use Rattle.rules.specs.Layout.{natural, wordAt, sameWords}
+use Rattle.rules_laws.proofs.Bools.{go-on, stop}
+use Rattle.pool.specs.Standing.{stand}
+use Rattle.pool.proofs.Runs.{zeros}
+
+-- ---- a word at a time
+
+pub stand-none : (w : List ℤ) (at : ℕ) → stand [] w at ≡ true
+unfolding stand sameWords
+stand-none w at = refl
+
+pub stand-cons : (v : ℤ) (vs w : List ℤ) (at : ℕ) → at < length w → stand (v ∷ vs) w at ≡ (same v (wordAt w at) && stand vs w (at + 1))
+unfolding stand sameWords wordAt
+stand-cons v vs w at h = rw (add-one at, drop-cons w at (pos 0) h)
+
+-- a part at a time
+pub stand-append : (xs ys w : List ℤ) (at : ℕ) → at + length xs ≤ length w → stand (xs ++ ys) w at ≡ (stand xs w at && stand ys w (at + length xs))
+stand-append [] ys w at h = rw (stand-none w at) (ap (stand ys w) (omega arith))
+stand-append (x ∷ xs) ys w at h =
+    let l : at < length w = omega arith in
+    let e : at + 1 + length xs ≡ at + suc (length xs) = omega arith in
+    stand-cons x (xs ++ ys) w at l
+    ∙ ap (λ (b : Bool). same x (wordAt w at) && b) (stand-append xs ys w (at + 1) (omega arith) ∙ ap (λ (k : ℕ). stand xs w (at + 1) && stand ys w k) e)
+    ∙ sym (and-assoc (same x (wordAt w at)) (stand xs w (at + 1)) (stand ys w (at + suc (length xs))))
+    ∙ ap (λ (b : Bool). b && stand ys w (at + suc (length xs))) (sym (stand-cons x xs w at l))
+
+pub stand-all : (vs w : List ℤ) → length vs ≡ length w → stand vs w 0 ≡ sameWords vs w
+unfolding stand
+stand-all vs w e = ap (λ (n : ℕ). sameWords vs (take n w)) e ∙ ap (sameWords vs) (take-length w)
+
+-- ---- zeros
+
+module _ (w : List ℤ) (i to : ℕ) where
+  module _ (h : i < to) (l : to ≤ length w) where
+    zeros-more : stand (zeros (to - i)) w i ≡ (same (pos 0) (wordAt w i) && stand (zeros (to - (i + 1))) w (i + 1))
+    zeros-more =
+        let e : to - i ≡ suc (to - (i + 1)) = omega arith in
+        ap (λ (n : ℕ). stand (zeros n) w i) e ∙ stand-cons (pos 0) (zeros (to - (i + 1))) w i (omega arith)
+
+    pub zeros-on : same (pos 0) (wordAt w i) ≡ true → stand (zeros (to - i)) w i ≡ stand (zeros (to - (i + 1))) w (i + 1)
+    zeros-on e = zeros-more ∙ go-on _ _ e
+
+    pub zeros-stop : same (pos 0) (wordAt w i) ≡ false → stand (zeros (to - i)) w i ≡ false
+    zeros-stop e = zeros-more ∙ stop _ _ e
+
+  pub zeros-end : to ≤ i → stand (zeros (to - i)) w i ≡ true
+  zeros-end h = let e : to - i ≡ 0 = omega arith in ap (λ (n : ℕ). stand (zeros n) w i) e ∙ stand-none w i
+
+-- ---- parts of one width
+
+module _ {A : Type 0} (k : ℕ) (f : A → List ℤ) (wide : (x : A) → length (f x) ≡ k) where
+  head-part : (w : List ℤ) (at : ℕ) (x : A) (ys : List A) → at + length (f x) ≤ length w
+      → stand (joined (map f (x ∷ ys))) w at ≡ (stand (f x) w at && stand (joined (map f ys)) w (at + length (f x)))
+  unfolding joined
+  head-part w at x ys l = stand-append (f x) (joined (map f ys)) w at l
+
+  none-part : (w : List ℤ) (at : ℕ) → stand (joined (map f [])) w at ≡ true
+  unfolding joined
+  none-part w at = stand-none w at
+
+  module _ (w : List ℤ) (a : ℕ) (d : A) (xs : List A) (i : ℕ) where
+    module _ (h : i < length xs) (l : a + k * i + k ≤ length w) where
+      pub parts-more : stand (joined (map f (drop i xs))) w (a + k * i)
+          ≡ (stand (f (getD xs i d)) w (a + k * i) && stand (joined (map f (drop (i + 1) xs))) w (a + k * (i + 1)))
+      parts-more =
+          let x = getD xs i d in
+          ap (λ (zs : List A). stand (joined (map f zs)) w (a + k * i)) (drop-cons xs i d h)
+          ∙ head-part w (a + k * i) x (drop (suc i) xs) (omega (arith, wide x))
+          ∙ ap₂ (λ (m n : ℕ). stand (f x) w (a + k * i) && stand (joined (map f (drop m xs))) w n) (sym (add-one i)) (next k i (length (f x)) (wide x))
+        where
+          next : (k i n : ℕ) → n ≡ k → a + k * i + n ≡ a + k * (i + 1)
+          next k i n e = omega (arith, add-one i, ap (λ (m : ℕ). k * m) (add-one i), mul-suc k i)
+
+      pub parts-on : stand (f (getD xs i d)) w (a + k * i) ≡ true → stand (joined (map f (drop i xs))) w (a + k * i) ≡ stand (joined (map f (drop (i + 1) xs))) w (a + k * (i + 1))
+      parts-on e = parts-more ∙ go-on _ _ e
+
+      pub parts-stop : stand (f (getD xs i d)) w (a + k * i) ≡ false → stand (joined (map f (drop i xs))) w (a + k * i) ≡ false
+      parts-stop e = parts-more ∙ stop _ _ e
+
+    pub parts-end : length xs ≤ i → stand (joined (map f (drop i xs))) w (a + k * i) ≡ true
+    parts-end h = ap (λ (zs : List A). stand (joined (map f zs)) w (a + k * i)) (drop-of-length-le xs {i = i} h) ∙ none-part w (a + k * i)
+
+-- ---- a word read and written again
+
+pub same-self : (z : ℤ) → same z z ≡ true
+unfolding same
+same-self (pos n) = rw (le-leb n n (omega arith))
+same-self (negsuc n) = rw (le-leb n n (omega arith))
+
+pub natural-same : (z : ℤ) → same (pos (natural z)) z ≡ leZ (pos 0) z
+unfolding same natural
+natural-same (pos n) = rw (le-leb n n (omega arith)) (sym (leb·zero n))
+natural-same (negsuc n) = refl
+
+pub count-same : (m : ℕ) (z : ℤ) → (leZ (pos 0) z && leZ z (pos m)) ≡ same (pos (min (natural z) m)) z
+unfolding same natural
+count-same m (pos n) = go (decLe n m)
+  where
+    go : Dec (n ≤ m) → (leb 0 n && leb n m) ≡ (leb (min n m) n && leb n (min n m))
+    go (yes h) = rw (le-leb 0 n (omega arith), le-leb n m h, le-leb (min n m) n (omega arith), le-leb n (min n m) (omega arith))
+    go (no h) = rw (le-leb 0 n (omega arith), lt-leb n m (omega arith), le-leb (min n m) n (omega arith), lt-leb n (min n m) (omega arith))
+count-same m (negsuc n) = refl

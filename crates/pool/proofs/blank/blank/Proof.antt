@@ -1,0 +1,87 @@
+-- `blank` meets its contract: the four words written over the zeros make the words of a blank pool, and a wrong length writes none.
+use mathlib.Core.Path.{sym, ap, _∙_}
+use native.Mathlib.Omega.{arith}
+use lib.ListN.{length-set}
+use lib.IntN.{pos}
+use Rattle.rules.specs.Layout.{Blanked}
+use Rattle.pool.proofs.Lengths.{long}
+use Rattle.pool.proofs.Blanks.{mark, blank-valid, blank-wrong}
+use borrow.Author.Needs.{needs}
+use Rattle.pool.proofs.blank.blank.Statement.{statement}
+use Rattle.pool.proofs.blank.blank.Tie as tie
+use Rattle.pool.proofs.blank.blank.Reads as reads
+use Rattle.pool.proofs.blank.blank.Lts as lts
+use Rattle.pool.proofs.valid_length.Reads as valid-length-reads
+use Rattle.pool.proofs.blank.zero_all.Reads as zero-all-reads
+
+valid-length-requires : tie.Need-valid-length-requires
+valid-length-requires c κs = search needs
+
+zero-all-requires : tie.Need-zero-all-requires
+zero-all-requires c κs = search needs
+
+slice-set-of-pool : tie.Need-slice-set-of-pool
+slice-set-of-pool c =
+    let s = c .before .before .before .before .before .before in
+    let valid = sym (c .before .before .before .before .valid-length .ensures) ∙ c .before .before .before .if1 .taken in
+    let l = long (s .args .pool .now) valid in
+    let kept = c .before .zero-all .kept .0 in
+    omega arith
+
+slice-set-of-pool-2 : tie.Need-slice-set-of-pool-2
+slice-set-of-pool-2 c =
+    let s = c .before .before .before .before .before .before in
+    let valid = sym (c .before .before .before .before .valid-length .ensures) ∙ c .before .before .before .if1 .taken in
+    let l = long (s .args .pool .now) valid in
+    let kept = c .before .zero-all .kept .0 in
+    simp length-set (omega arith)
+
+slice-set-of-pool-3 : tie.Need-slice-set-of-pool-3
+slice-set-of-pool-3 c =
+    let s = c .before .before .before .before .before .before in
+    let valid = sym (c .before .before .before .before .valid-length .ensures) ∙ c .before .before .before .if1 .taken in
+    let l = long (s .args .pool .now) valid in
+    let kept = c .before .zero-all .kept .0 in
+    simp length-set (omega arith)
+
+slice-set-of-pool-4 : tie.Need-slice-set-of-pool-4
+slice-set-of-pool-4 c =
+    let s = c .before .before .before .before .before .before in
+    let valid = sym (c .before .before .before .before .valid-length .ensures) ∙ c .before .before .before .if1 .taken in
+    let l = long (s .args .pool .now) valid in
+    let kept = c .before .zero-all .kept .0 in
+    simp length-set (omega arith)
+
+same-length : tie.Need-same-length
+same-length c = search needs
+
+returns : tie.Need-returns
+returns c =
+    let s = c .before .before .before .before .before .before in
+    let valid = sym (c .before .before .before .before .valid-length .ensures) ∙ c .before .before .before .if1 .taken in
+    let q = sym (blank-valid (s .args .pool .now) valid) in
+    (ap (λ (b : Blanked). pos (b .number)) q, ap mark (c .before .zero-all .ensures) ∙ ap (λ (b : Blanked). b .pool) q)
+
+same-length-2 : tie.Need-same-length-2
+same-length-2 c = search needs
+
+returns-2 : tie.Need-returns-2
+returns-2 c =
+    let s = c .before .before .before in
+    let q = sym (blank-wrong (s .args .pool .now) (sym (c .before .valid-length .ensures) ∙ c .if1 .left)) in
+    (ap (λ (b : Blanked). pos (b .number)) q, ap (λ (b : Blanked). b .pool) q)
+
+pub blank-spec : {M : Type 1} → statement M
+blank-spec =
+    tie.close
+    (tie.spec
+    valid-length-requires
+    zero-all-requires
+    slice-set-of-pool
+    slice-set-of-pool-2
+    slice-set-of-pool-3
+    slice-set-of-pool-4
+    same-length
+    returns
+    same-length-2
+    returns-2)

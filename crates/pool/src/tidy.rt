@@ -1,0 +1,184 @@
+// The layout again, as a question: are the words of a valid length those that the pool read from them would be written as, and nothing
+// else?
+ghost use mathlib.Core.Path.{_≡_};
+ghost use mathlib.Core.Bool.{true, _&&_};
+ghost use mathlib.Core.List.{map};
+ghost use Prim.Native.Nat.{_+_, _-_, _*_, _<_, _≤_, min};
+ghost use lib.ListN.{length, replicate};
+ghost use lib.IntN.{pos};
+ghost use lib.Signed.{leZ};
+ghost use Rattle.rules.specs.Lists as Li;
+ghost use Rattle.rules.specs.Numbers.{most};
+ghost use Rattle.rules.specs.Layout as L;
+ghost use Rattle.rules.specs.Pool as P;
+ghost use Rattle.rules.specs.Sound as S;
+ghost use Rattle.pool.specs.Slots.{InPool};
+ghost use Rattle.pool.specs.Standing.{stand};
+use crate::EDITION;
+use crate::EDITION_PLACE;
+use crate::ENTRY_SIZE;
+use crate::HEAD_SIZE;
+use crate::HEIGHT_PLACE;
+use crate::RECORDS_PLACE;
+use crate::ROOT_PLACE;
+use crate::SLOT_HEAD;
+use crate::SLOT_SIZE;
+use crate::UNUSED_PLACE;
+use crate::count_of;
+use crate::count_place;
+use crate::level_of;
+use crate::pointer_place;
+use crate::slot_count;
+use crate::slot_start;
+use crate::word;
+use rules::MOST;
+use rules::SlotNumber;
+
+// The number of entries at most, as a word.
+const MOST_WORD: i32 = MOST as i32;
+
+// ---- words
+
+// The word at a place is x or more.
+fn at_least(pool: &[i32], at: usize, x: i32) -> bool
+    requires { ⌜ at < length (now pool) ⌝ }
+    ensures { λ r. ⌜ r ≡ leZ x (L.wordAt (now (pool .entry)) at) ⌝ }
+{
+    geometry::le(x, word(pool, at))
+}
+
+// .. is x itself.
+fn is_word(pool: &[i32], at: usize, x: i32) -> bool
+    requires { ⌜ at < length (now pool) ⌝ }
+    ensures { λ r. ⌜ r ≡ Li.same x (L.wordAt (now (pool .entry)) at) ⌝ }
+{
+    geometry::same(x, word(pool, at))
+}
+
+// All words from one place to another are zero.
+fn zeros(pool: &[i32], from: usize, to: usize) -> bool
+    requires { ⌜ from ≤ to ⌝ }
+    requires { ⌜ to ≤ length (now pool) ⌝ }
+    ensures { λ r. ⌜ r ≡ stand (replicate (to - from) (pos 0)) (now (pool .entry)) from ⌝ }
+{
+    let mut i = from;
+    while i < to {
+        if !is_word(pool, i, 0) {
+            return false;
+        }
+        i += 1;
+    }
+    true
+}
+
+// ---- the head
+
+// "word 1 root slot; word 2 height; word 3 number of records": none is negative.
+fn tidy_numbers(pool: &[i32]) -> bool
+    requires { ⌜ L.headSize ≤ length (now pool) ⌝ }
+    ensures { λ r. ⌜ r ≡ (leZ (pos 0) (L.wordAt (now (pool .entry)) L.rootPlace) && (leZ (pos 0) (L.wordAt (now (pool .entry)) L.heightPlace) && leZ (pos 0) (L.wordAt (now (pool .entry)) L.recordsPlace))) ⌝ }
+{
+    let root = at_least(pool, ROOT_PLACE, 0);
+    let height = at_least(pool, HEIGHT_PLACE, 0);
+    let records = at_least(pool, RECORDS_PLACE, 0);
+    geometry::and(root, geometry::and(height, records))
+}
+
+// "Head: word 0 edition, 1; .. words 4 to 7 zero."
+fn tidy_head(pool: &[i32]) -> bool
+    requires { ⌜ L.validLength (now pool) ≡ true ⌝ }
+    ensures { λ r. ⌜ r ≡ stand (L.headWords (L.read (now (pool .entry)))) (now (pool .entry)) 0 ⌝ }
+{
+    let edition = is_word(pool, EDITION_PLACE, EDITION);
+    let numbers = tidy_numbers(pool);
+    let rest = zeros(pool, UNUSED_PLACE, HEAD_SIZE);
+    geometry::and(edition, geometry::and(numbers, rest))
+}
+
+// ---- a slot
+
+// "A leaf's pointer is a record number, any other a child slot", which is not negative.
+fn tidy_entry(pool: &[i32], s: SlotNumber, i: usize) -> bool
+    requires { ⌜ InPool (now pool) s ⌝ }
+    requires { ⌜ i < length (P.entriesAt (L.read (now pool)) s) ⌝ }
+    ensures { λ r. ⌜ r ≡ stand (L.entryWords (P.entryAt (L.read (now (pool .entry))) s i)) (now (pool .entry)) (L.entryPlace s i) ⌝ }
+{
+    if level_of(pool, s) == 1 {
+        return true;
+    }
+    at_least(pool, pointer_place(s, i), 0)
+}
+
+// The entries in use.
+fn tidy_entries(pool: &[i32], s: SlotNumber) -> bool
+    requires { ⌜ InPool (now pool) s ⌝ }
+    ensures { λ r. ⌜ r ≡ stand (Li.joined (map L.entryWords (P.entriesAt (L.read (now (pool .entry))) s))) (now (pool .entry)) (L.slotStart s + L.slotHead) ⌝ }
+{
+    let n = count_of(pool, s);
+    let mut i: usize = 0;
+    while i < n {
+        if !tidy_entry(pool, s, i) {
+            return false;
+        }
+        i += 1;
+    }
+    true
+}
+
+// "unused entries .. are all zero"
+fn tidy_places(pool: &[i32], s: SlotNumber) -> bool
+    requires { ⌜ InPool (now pool) s ⌝ }
+    ensures { λ r. ⌜ r ≡ stand (L.padded (most * L.entrySize) (Li.joined (map L.entryWords (P.entriesAt (L.read (now (pool .entry))) s)))) (now (pool .entry)) (L.slotStart s + L.slotHead) ⌝ }
+{
+    let at = slot_start(s);
+    let n = count_of(pool, s);
+    let used = tidy_entries(pool, s);
+    let rest = zeros(pool, at + SLOT_HEAD + ENTRY_SIZE * n, at + SLOT_SIZE);
+    geometry::and(used, rest)
+}
+
+// "M = 8 entries in a node at most": the count is none that `read` cuts off.
+fn tidy_count(pool: &[i32], at: usize) -> bool
+    requires { ⌜ at < length (now pool) ⌝ }
+    ensures { λ r. ⌜ r ≡ Li.same (pos (min (L.natural (L.wordAt (now (pool .entry)) at)) most)) (L.wordAt (now (pool .entry)) at) ⌝ }
+{
+    geometry::and(
+        at_least(pool, at, 0),
+        geometry::le(word(pool, at), MOST_WORD),
+    )
+}
+
+// "level, count, then 8 entries"
+fn tidy_slot(pool: &[i32], s: SlotNumber) -> bool
+    requires { ⌜ InPool (now pool) s ⌝ }
+    ensures { λ r. ⌜ r ≡ stand (L.nodeWords (P.nodeAt (L.read (now (pool .entry))) s)) (now (pool .entry)) (L.slotStart s) ⌝ }
+{
+    let at = slot_start(s);
+    let level = at_least(pool, at, 0);
+    let count = tidy_count(pool, count_place(s));
+    let places = tidy_places(pool, s);
+    geometry::and(level, geometry::and(count, places))
+}
+
+fn tidy_slots(pool: &[i32]) -> bool
+    requires { ⌜ L.validLength (now pool) ≡ true ⌝ }
+    ensures { λ r. ⌜ r ≡ stand (Li.joined (map L.nodeWords (L.read (now (pool .entry)) .slots))) (now (pool .entry)) L.headSize ⌝ }
+{
+    let n = slot_count(pool);
+    let mut s: usize = 1;
+    while s <= n {
+        if !tidy_slot(pool, SlotNumber(s)) {
+            return false;
+        }
+        s += 1;
+    }
+    true
+}
+
+// "the head is as above", "unused entries and free slots are all zero": the words are those of the pool that is read from them.
+pub fn tidy(pool: &[i32]) -> bool
+    requires { ⌜ L.validLength (now pool) ≡ true ⌝ }
+    ensures { λ r. ⌜ r ≡ S.nothingElse (now (pool .entry)) ⌝ }
+{
+    geometry::and(tidy_head(pool), tidy_slots(pool))
+}

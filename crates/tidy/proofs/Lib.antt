@@ -1,3 +1,0 @@
--- Laws that the proofs of `tidy` cite.
-pub mod Stand
-pub mod Whole
