@@ -31,7 +31,7 @@ module _ (p : Pool) (below : ℕ) (e : Entry) where
   pub fits-slot : entryFits p below e ≡ true → isSlot p (childOf e) ≡ true
   fits-slot q = and-both _ _ (and-both _ _ q .0) .0
 
--- ---- .. over the entries from place i on: e is the first of them, and a says whether it fits
+-- ---- .. over the entries from place i on: e is the first of them
 
 module _ (p : Pool) (below : ℕ) (s : SlotNumber) (i : ℕ) (h : i < length (entriesAt p s)) (e : Entry) (at : e ≡ entryAt p s i) where
   first-is : {b : Bool} → innerSound p below e ≡ b → innerSound p below (getD (entriesAt p s) i noEntry) ≡ b
