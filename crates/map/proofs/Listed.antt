@@ -48,7 +48,7 @@ module _ (w : List ℤ) (right : validLength w ≡ true) (s : sound w ≡ true) 
       omega (
         arith,
         alike-length (ordered-alike (foundIn (read w) window (read w .height) (read w .root))),
-        found-few w right (sound-tree w s) window,
+        found-few w (sound-tree w s) window,
         right-size w right,
       )
 
