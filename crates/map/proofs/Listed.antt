@@ -48,7 +48,7 @@ module _ (w : List ℤ) (right : validLength w ≡ true) (s : sound w ≡ true) 
       omega (
         arith,
         alike-length (ordered-alike (foundFromRoot (read w) window)),
-        found-few w right (sound-tree w s) window,
+        found-few w (sound-tree w s) window,
         right-size w right,
       )
 

@@ -58,7 +58,7 @@ module _ (w : List ℤ) (f : FreeSlots) (r : Ready w f) (window : Rect) where
   found-size = ap length found-is ∙ alike-length (ordered-alike walk)
 
   pub walk-few : length walk ≤ 8 * slotCount w
-  walk-few = found-few w (r .right) (ready-whole w f r) window
+  walk-few = found-few w (ready-whole w f r) window
 
   pub ready-low : read w .height ≤ 8
   ready-low = low-enough w (r .right) (ready-whole w f r)

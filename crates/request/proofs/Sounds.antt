@@ -62,8 +62,7 @@ module _ (w : List ℤ) where
 
 -- ---- how many records there are
 
-module _ (w : List ℤ) where
-  -- a search finds no more than that
-  pub found-few : Whole (read w) → (window : Rect) → length (foundFromRoot (read w) window) ≤ 8 * slotCount w
-  found-few whole window =
-      omega (arith, stored-few w, alike-length (found-alike (read w) window whole), those-fewer (recordMeets window) (stored (read w)))
+-- a search finds no more than the slots have places for
+pub found-few : (w : List ℤ) → Whole (read w) → (window : Rect) → length (foundFromRoot (read w) window) ≤ 8 * slotCount w
+found-few w whole window =
+    omega (arith, stored-few w, alike-length (found-alike (read w) window whole), those-fewer (recordMeets window) (stored (read w)))
