@@ -47,7 +47,7 @@ def turn():
     walk.copy_out(REQUESTS, "π qs (s .i) nothing-asked bq oq lt", 7, 8, "q s", "g")
     walk.copy(4, walk.held(8), "q-typed (q s) g .0")
     walk.note("all = also_request(all, q);")
-    call = Call(ALSO, [Given(BOOL, "s .all", "refl"), Given(REQUEST, "q s", "g")], BOOL, 2)
+    call = Call(ALSO, [Given(BOOL, "s .all", None), Given(REQUEST, "q s", "g")], BOOL, 2)
     call.steps(walk, "says-all ! (id⊢ 𝓤 (emp 𝓤))", [2, 4], "r ≡ (s .all && isRequest (q s))")
     walk.rewrite("_2", ASKED.holds(2, "u", "u : Val"), BOOL.told("r"))
     walk.rewrite("_2", ASKED.holds(2, "vbool u", "u : Bool"), "e")

@@ -43,7 +43,7 @@ def turn():
     walk = tested()
     walk.put_line(f"stays ! {walk.held(8)} $")
     walk.note("let r = found_items::item(pool, work, k);")
-    call = Call(ITEM, [Passed(POOL, 0), Passed(WORK, 1), Given(USIZE, "s .k", "(refl, k-fits)")], RECORD, 7)
+    call = Call(ITEM, [Passed(POOL, 0), Passed(WORK, 1), Given(USIZE, "s .k", "k-fits")], RECORD, 7)
     call.steps(walk, "says-all ! (more-facts 𝓤 in-w (one-fact 𝓤 in-p))", [1, 2, 6], "r ≡ itemAt ps ws (s .k)")
     walk.rewrite("_7", CARRY.holds(7, "u", "u : Val"), RECORD.told("r"))
     walk.note("found[at + k] = r;")
@@ -51,7 +51,7 @@ def turn():
     walk.assign(10, f"(bin ! {walk.held(9)} (lit ! tt) (record {{ fits = place-fits }}))", "tt, record { fits = place-fits }")
     walk.assign(11, f"(bin ! {walk.field(4, 0)} {walk.held(10)} tt)", "tt, tt")
     walk.rewrite("_11", CARRY.holds(11, "vptr bf p", "p : ℕ"), "sym (place-is 20 of (at + s .k))")
-    walk.store(FOUND, "now-at s", "at + s .k", 11, 7, "r", "f-spelt r v is", "in-f")
+    walk.store(FOUND, "now-at s", "at + s .k", 11, 7, "r", RECORD.spelt("r"), "in-f")
     row = "‵ (row F.the-row fullShare {} bf of)"
     walk.rewrite("found.row", f"λ (x : Record). {row.format('(set (now-at s) (at + s .k) x)')}", "e")
     walk.rewrite("found.row", f"λ (l : List Record). {row.format('l')}", "stored-more ps ws fs at (s .k)")

@@ -74,8 +74,8 @@ def refuses():
     """`refusal` gives the number."""
     walk = Walk(ASKED, 10)
     walk.note("let n = refusal(pool, work.len(), requests.len(), answers.len(), all);")
-    counts = [Given(USIZE, f"length {s.list}", f"(refl, {s.room} .0)") for s in (WORK, REQUESTS, ANSWERS)]
-    call = Call(REFUSAL, [Lent(POOL, 0, "ps", "room-p", shared=True), *counts, Given(BOOL, "all", "refl")], I32, 7)
+    counts = [Given(USIZE, f"length {s.list}", f"{s.room} .0") for s in (WORK, REQUESTS, ANSWERS)]
+    call = Call(REFUSAL, [Lent(POOL, 0, "ps", "room-p", shared=True), *counts, Given(BOOL, "all", None)], I32, 7)
     promise = "z ≡ refusalOf ps (length ws) (length qs) (length rs) all"
     call.steps(walk, "says-all ! (id⊢ 𝓤 (emp 𝓤))", [9, 10, 11, 12, 6], promise, result="z")
     walk.rewrite("_7", CALL.holds(7, "u", "u : Val"), I32.told("z"))

@@ -44,14 +44,14 @@ sound.WpLaws: fmOf WpFn-mono
 denote.RattleType: owns
 denote.Laws: Is Typed shows
 denote.Memory: pointee
-denote.Plain: uint-vals uint-tells uint-makes bool-makes bool-tells bool-lawful nothing-lawful
-denote.Signed: sint-makes sint-tells sint-lawful
+denote.Plain: uint-vals uint-tells bool-tells bool-lawful nothing-lawful
+denote.Signed: sint-tells sint-lawful
 denote.Builtin: i32 bool unit usize
 denote.Ref: RefT
 denote.Slice: sliceTy sliceVal slice-vals MutSlice ShrSlice Room mut-slice-tells shr-slice-tells
-denote.Index: row place-is elem-out elem-back elem-put
+denote.Index: row place-is elem-back elem-put
 denote.Signature: plain
-denote.Steps: only nothing owned peeks heard
+denote.Steps: only nothing peeks heard
 denote.Triple.Entry: onEntry
 denote.Triple.Spec: Meets tripleOf
 denote.Triple.Statement: Contract Triple
@@ -61,7 +61,8 @@ denote.Triple.Walked: Walks ends-at walked walk-meets
 denote.Exit: yes
 Rattle.walk_laws.proofs.Contexts: sinks
 Rattle.walk_laws.proofs.Locals: cell locals held part pointed puts puts-last free-all rest-of
-Rattle.walk_laws.proofs.Slices: ref counted Own OwnShr Looked Opened looks shuts opens closes doubles
+Rattle.walk_laws.proofs.Slices: ref counted Own OwnShr Looked Opened shuts opens closes doubles
+Rattle.walk_laws.proofs.Values: told spelt has has-usize has-i32 has-bool looks-at takes
 Rattle.walk_laws.proofs.Lends: lent back lent-shr back-shr
 Rattle.walk_laws.proofs.Calls: promised calls one-fact more-facts says-all needs-none
 """
@@ -141,7 +142,7 @@ class Function:
                 "\n",
                 self.stayed(),
                 self.contracts(),
-                *(struct.definitions() for struct in self.structs),
+                *(struct.definition() for struct in self.structs),
                 self.types(),
             ]
         )
@@ -247,24 +248,23 @@ class Function:
             walk.rewrite(s.word, f"λ (m : ℕ). ‵ ({at})", s.long)
         walk.note("the tokens, what is had of the parameters, and the result")
         walk.frame([s.token for s in self.slices])
-        walk.own([(p.word,) if isinstance(p, Slice) else (USIZE, p.name, f"(refl, {p.fits})") for p in self.parameters])
+        walk.own([(p.word,) if isinstance(p, Slice) else (USIZE, p.name, p.fits) for p in self.parameters])
         if self.result is UNIT:
             walk.put("feqI ! (List Val) (vunit ∷ []) (vunit ∷ []) refl $")
         else:
-            proof = "(refl, fits)" if self.result is I32 else "refl"
-            walk.put(f"owned ! {self.result.row} (Is {self.result.row}) ({self.result.makes}) z _ {proof} $")
+            walk.put(f"{self.result.has('z', 'fits' if self.result is I32 else None)} $")
         walk.put("move ! (1 ∷ 0 ∷ []) $ done !")
         return walk.text()
 
     def machine(self):
         """The modules of the machine: the table of calls, in which the callees meet their contracts, and where the locals lie."""
-        known = " ".join(f"({callee.known} : {callee.is_known})" for callee in self.callees)
-        opening = wrapped(f"module _ (𝓣 : Tables 𝓤 H) {known} where", 2)
+        known = [f"({callee.known} : {callee.is_known})" for callee in self.callees]
+        opening = "\n      ".join(["  module _ (𝓣 : Tables 𝓤 H)", *known]) + " where"
         pairs = [f"({type_}, {spot})" for type_, spot in zip(self.locals, self.spots)]
         passed = " ∷ ".join(f"({number}, {parameter.value})" for number, parameter in enumerate(self.parameters, 1))
         why = "the locals, when the parameters hold what was passed"
         return (
-            "\n    ".join(opening)
+            opening
             + "\n    module _ ("
             + ("\n" + " " * 8).join(line.strip() for line in wrapped(" ".join(self.spots), 8))
             + " : ℕ) where\n"

@@ -96,7 +96,7 @@ def wrapped(text, indent, width=WIDTH):
     return [" " * indent + line for line in [*lines, text[begin:]]]
 
 
-def tuple_lines(before, text, after, indent, width=WIDTH):
-    """A term that ends in a tuple: on one line, or broken at the commas, which the formatter then lays out."""
+def tuple_lines(before, text, after, indent, width=180):
+    """A term that ends in a tuple: on one line, or broken at the commas, which the formatter then lays out as a stair."""
     line = " " * indent + before + text + after
     return [line] if len(line) <= width else line.replace(", ", ",\n" + " " * (indent + 2)).splitlines()

@@ -7,24 +7,28 @@ from layout import bracketed
 
 
 class Scalar:
-    """A type of numbers or truth values, as the kit has it."""
+    """A type of numbers or truth values, as the kit has it; `has` is the step by which what is owned of a value is had."""
 
-    def __init__(self, row, element, written, value, makes, lawful, tells):
+    def __init__(self, row, element, written, value, has, lawful, tells):
         self.row, self.element, self.written = row, element, written
-        self.form, self.makes, self.lawful, self.tells = value, makes, lawful, tells
+        self.form, self.step, self.lawful, self.tells = value, has, lawful, tells
 
     def value(self, term):
         """The machine value of a term."""
         return self.form.format(bracketed(term))
+
+    def has(self, term, proof):
+        """What is owned of a value; the proof says that it fits, or nothing."""
+        return " ".join(filter(None, [f"{self.step} !", bracketed(term), proof and bracketed(proof)]))
 
     def told(self, term):
         """That the machine value v is the value of the term, by `is`."""
         return f"ap only ({self.tells} {term} (v ∷ []) is)"
 
 
-I32 = Scalar("i32", "ℤ", "tyInt w32", "vint w32 (ofZ w32 {})", "sint-makes 𝓤 H A W w32", "sint-lawful 𝓤 H A W w32", "sint-tells w32")
-USIZE = Scalar("usize", "ℕ", "tyInt w64", "vint w64 {}", "uint-makes 𝓤 H A W w64", None, None)
-BOOL = Scalar("bool", "Bool", "tyBool", "vbool {}", "bool-makes 𝓤 H A W", "bool-lawful 𝓤 H A W", "bool-tells")
+I32 = Scalar("i32", "ℤ", "tyInt w32", "vint w32 (ofZ w32 {})", "has-i32", "sint-lawful 𝓤 H A W w32", "sint-tells w32")
+USIZE = Scalar("usize", "ℕ", "tyInt w64", "vint w64 {}", "has-usize", None, None)
+BOOL = Scalar("bool", "Bool", "tyBool", "vbool {}", "has-bool", "bool-lawful 𝓤 H A W", "bool-tells")
 UNIT = Scalar("unit", "Unit {0}", "tyUnit", "vunit", None, "nothing-lawful 𝓤 H A W", None)
 
 
@@ -36,18 +40,23 @@ class Struct:
         self.row, self.mir = f"{letter}.the-row", f"{letter}′.mir"
         self.written = f"pointee ({self.row} .written)"
         self.the = f"{letter}.the-type {letter}′.the-laws"
-        self.makes = f"LL.makes {letter}.the-type {letter}′.the-plain 𝓤 H A"
         self.lawful = f"LL.lawful {self.the} 𝓤 H A W"
-        self.relation = f"{self.row} (Is {self.row}) (shows 𝓤 H A {self.row}) (LL.vals {self.the}) (LL.tells {self.the})"
-        self.copies = f"(LL.copy {letter}.the-type {letter}′.the-copy 𝓤 H A W)"
 
     def value(self, term):
         """The machine value of a term."""
         return f"{self.small}-val {bracketed(term)}"
 
-    def told(self, term):
-        """That the machine value v is the value of the term, by `is`."""
-        return f"ap only ({self.small}-told {term} v is)"
+    def has(self, term, proof):
+        """What is owned of a value, by the proof that its machine value stands for it."""
+        return f"has ! {self.letter}.the-type {self.letter}′.the-plain {bracketed(term)} _ {bracketed(proof)}"
+
+    def told(self, term, is_="is"):
+        """That the machine value v is the value of the term."""
+        return f"ap only (told {self.the} {term} v {is_})"
+
+    def spelt(self, term, is_="is"):
+        """That the term's own machine value stands for it."""
+        return f"spelt {self.the} {term} v {is_}"
 
     def uses(self, own_crate):
         """The modules that the prover makes of the struct."""
@@ -55,16 +64,9 @@ class Struct:
         name, letter = self.element, self.letter
         return f"use {specs}.declared.{name}.{{{name}}}\nuse {proofs}.{name} as {letter}\nuse {proofs}.{name}.Laws as {letter}′\n"
 
-    def definitions(self):
-        """Its machine value, and that a value which stands for it is that one."""
-        name, small, is_ = self.element, self.small, f"Is {self.row} x"
-        return (
-            abbreviation(f"{small}-val", f"{name} → Val", f"LL.val {self.the}")
-            + f"{small}-told : (x : {name}) (v : Val) → {is_} (v ∷ []) → v ∷ [] ≡ {small}-val x ∷ []\n"
-            + f"{small}-told x v is = LL.tells {self.the} x (v ∷ []) is\n\n"
-            + f"{small}-spelt : (x : {name}) (v : Val) → {is_} (v ∷ []) → {is_} ({small}-val x ∷ [])\n"
-            + f"{small}-spelt x v is = subst ({is_}) ({small}-told x v is) is\n\n"
-        )
+    def definition(self):
+        """Its machine value."""
+        return abbreviation(f"{self.small}-val", f"{self.element} → Val", f"LL.val {self.the}")
 
     def typed(self):
         """That its machine value is of its type."""
@@ -80,7 +82,7 @@ def pruned(text, structs):
     again = True
     while again:
         again = False
-        for name in (f"{struct.small}-{kind}" for struct in structs for kind in ("typed", "spelt", "told", "val")):
+        for name in (f"{struct.small}-{kind}" for struct in structs for kind in ("typed", "val")):
             found = re.search(rf"(?m)^( *)(abbrev )?{name} : .*\n\1{name}.*\n\n", text)
             if found:
                 rest = text[: found.start()] + text[found.end() :]

@@ -140,8 +140,8 @@ def requests():
         Lent(POOL, 0, "s .st .pool", ROOM_POOL),
         Lent(WORK, 1, "s .st .work", ROOM_WORK),
         Given(REQUEST, "q s lt", "g"),
-        Given(USIZE, FILLED, "(refl, filled-fits)"),
-        Given(USIZE, "room s lt", "(refl, room-fits s lt)"),
+        Given(USIZE, FILLED, "filled-fits"),
+        Given(USIZE, "room s lt", "room-fits s lt"),
         Given(FREE_SLOTS, "s .st .prog .free", "free-is (s .st .prog) (s .is)"),
     ]
     asks = "one-fact 𝓤 (Batches.many l ok (s .st) lt)"
@@ -151,7 +151,7 @@ def requests():
     longs = {"pool": "lp", "work": "lw"}
     Call(ONE_REQUEST, arguments, SERVED, 12).steps(walk, f"says-all ! ({asks})", [25, 27, 8, 9, 10, 11], promise, longs=longs)
     walk.rewrite("_12", SERVE.holds(12, "u", "u : Val"), SERVED.told("r"))
-    walk.go_to(REQUESTED, "calls-step s lt r (zs .0) (zs .1 .0) lp lw (d-spelt r v is) e")
+    walk.go_to(REQUESTED, f"calls-step s lt r (zs .0) (zs .1 .0) lp lw ({SERVED.spelt('r')}) e")
     return walk.text()
 
 
@@ -163,10 +163,10 @@ def steps():
     says = f"says ! ({', '.join(f'Batches.{fact}' for fact in few)})"
     call = Call(STEP, [Given(PROGRESS, "s .st .prog", "s .is"), Given(SERVED, "r", "is")], STEPPED, 13)
     call.steps(walk, says, [6, 12], "t ≡ stepOf (s .st .prog) r", result="t", is_="is′")
-    walk.rewrite("_13", SERVE.holds(13, "u", "u : Val"), "ap only (t-told t v is′)")
+    walk.rewrite("_13", SERVE.holds(13, "u", "u : Val"), STEPPED.told("t", "is′"))
     gives = "e ∙ Batches.step-gives (s .st .prog) r"
     walk.rewrite("_13", SERVE.holds(13, "t-val x", "x : Stepped"), gives)
-    is_t = f"subst (λ (x : Stepped). Is T.the-row x (t-val x ∷ [])) ({gives}) (t-spelt t v is′)"
+    is_t = f"subst (λ (x : Stepped). Is T.the-row x (t-val x ∷ [])) ({gives}) ({STEPPED.spelt('t', 'is′')})"
     walk.go_to(STEPPED_ON, f"calls-carry s lt r p w lp lw does ({is_t})")
     return walk.text()
 
@@ -187,9 +187,9 @@ def carries():
     arguments = [
         Lent(POOL, 0, "p", "subst (Room i32) (sym (lp ∙ s .st .pool-long)) room-p", shared=True),
         Lent(WORK, 1, "w", "subst (Room i32) (sym (lw ∙ s .st .work-long)) room-w", shared=True),
-        Given(USIZE, "r .listed", "(refl, listed-fits)"),
+        Given(USIZE, "r .listed", "listed-fits"),
         Lent(FOUND, 2, "s .st .found", ROOM_FOUND),
-        Given(USIZE, FILLED, "(refl, filled-fits)"),
+        Given(USIZE, FILLED, "filled-fits"),
     ]
     promise = f"zs .1 .1 .1 .0 ≡ sets (s .st .found) ({FILLED}) (itemsFrom p w 0 (r .listed))"
     Call(CARRY, arguments, UNIT, 28).steps(walk, "says ! asked", [30, 32, 14, 34, 15], promise, result="u", longs={"found": "lf"})
@@ -258,7 +258,7 @@ def begun():
     call = Call(BEGUN, [Lent(POOL, 0, "ps", "room-p", shared=True)], PROGRESS, 6)
     call.steps(walk, "says ! (ok .right)", [19], "Begun ps x", result="x")
     walk.rewrite("_6", SERVE.holds(6, "u", "u : Val"), PROGRESS.told("x"))
-    walk.go_to(BEGUN_AT, "opened x (k-spelt x v is) e")
+    walk.go_to(BEGUN_AT, f"opened x ({PROGRESS.spelt('x')}) e")
     return walk.text()
 
 

@@ -131,7 +131,7 @@ class Walk:
                 self.join_one(argument[0], "fjoin")
             else:
                 row, value, proof = argument
-                self.put(f"owned ! {row.row} (Is {row.row}) ({row.makes}) {bracketed(value)} _ {bracketed(proof)} $ fjoin ! $")
+                self.put(f"{row.has(value, proof)} $ fjoin ! $")
 
     def join(self, names, step):
         """These items are made one, nested to the right with nothing at the end."""
@@ -197,8 +197,8 @@ class Walk:
     def look_into(self, slice_):
         """A `&[T]` is looked into, at a share π."""
         self.bring(slice_.word, slice_.token)
-        row = slice_.row
-        self.binds(f"looks ! tt {row.relation} {row.copies} (named {slice_.number}) {slice_.spot} {slice_.list} (λ π.")
+        laws = f"{slice_.row.the} {slice_.row.letter}′.the-copy"
+        self.binds(f"looks-at ! tt {laws} (named {slice_.number}) {slice_.spot} {slice_.list} (λ π.")
         self.head(2, *slice_.looked()[0])
 
     def shut(self, slice_):
@@ -223,7 +223,7 @@ class Walk:
     def take_out(self, slice_, where, name):
         """An element is taken out of the row; by `name` its machine value stands for it."""
         self.bring(f"{slice_.word}.row")
-        self.binds(f"elem-out ! {slice_.row.relation} {where} (λ {name}.")
+        self.binds(f"takes ! {slice_.row.the} {where} (λ {name}.")
         self.head(1, "element", "owned", "others")
 
     def copy_out(self, slice_, where, pointer, local, element, name):
@@ -251,7 +251,7 @@ class Walk:
             f"(store-raw ! 0 refl ({small}-typed {element} {proof} .0)) $"
         )
         self.drop("owned")
-        self.put_line(f"owned ! {row.row} (Is {row.row}) ({row.makes}) {element} _ {proof} $")
+        self.put_line(f"{row.has(element, proof)} $")
         self.head(0, "owned")
         self.bring("element", "owned", "others")
         self.put_line(f"elem-put ! {row.row} fullShare {list_} {place} {element} ({small}-val {element} ∷ []) {spot} $")

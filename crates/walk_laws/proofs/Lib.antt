@@ -5,3 +5,4 @@ pub mod Contexts
 pub mod Lends
 pub mod Locals
 pub mod Slices
+pub mod Values

@@ -30,13 +30,13 @@ use sound.WpLaws.{fmOf, WpFn-mono}
 use denote.RattleType.{owns}
 use denote.Laws.{Is, Typed, shows}
 use denote.Memory.{pointee}
-use denote.Plain.{bool-makes, bool-tells, bool-lawful}
+use denote.Plain.{bool-tells, bool-lawful}
 use denote.Builtin.{bool}
 use denote.Ref.{RefT}
 use denote.Slice.{sliceTy, sliceVal, slice-vals, ShrSlice, Room, shr-slice-tells}
-use denote.Index.{place-is, elem-out, elem-back}
+use denote.Index.{place-is, elem-back}
 use denote.Signature.{plain}
-use denote.Steps.{only, nothing, owned, peeks, heard}
+use denote.Steps.{only, nothing, peeks, heard}
 use denote.Triple.Entry.{onEntry}
 use denote.Triple.Spec.{Meets, tripleOf}
 use denote.Triple.Statement.{Contract, Triple}
@@ -45,7 +45,8 @@ use denote.Triple.Walked.{says, Stays, stay-none-slice, walkOf, goes-none-slice,
 use denote.Exit.{yes}
 use Rattle.walk_laws.proofs.Contexts.{sinks}
 use Rattle.walk_laws.proofs.Locals.{cell, locals, held, part, puts, puts-last, free-all}
-use Rattle.walk_laws.proofs.Slices.{ref, OwnShr, Looked, looks, shuts}
+use Rattle.walk_laws.proofs.Slices.{ref, OwnShr, Looked, shuts}
+use Rattle.walk_laws.proofs.Values.{has, has-bool, looks-at, takes}
 use Rattle.walk_laws.proofs.Calls.{promised, calls, says-all, needs-none}
 use denote.Struct.Laws as LL
 use Rattle.rules.specs.declared.Request.{Request}
@@ -119,8 +120,7 @@ module _ {M : Type 1} (𝓤 : URA M) (H : Heap 𝓤) (A : Atoms 𝓤) (W : Given
       suffices ! _ (ends-at 𝓤 H A all-asked′.ended stayed (all-asked′.clauses 𝓤 H A mem run) W bound (vbool z) z (tt, tt) (tt, tt)) $
       says ! kept $
       -- the tokens, what is had of the parameters, and the result
-      nothing ! $ move ! (2 ∷ 0 ∷ []) $ join ! $ frame ! $ nothing ! $ move ! (1 ∷ 0 ∷ []) $ fjoin ! $
-      owned ! bool (Is bool) (bool-makes 𝓤 H A W) z _ refl $ move ! (1 ∷ 0 ∷ []) $ done !
+      nothing ! $ move ! (2 ∷ 0 ∷ []) $ join ! $ frame ! $ nothing ! $ move ! (1 ∷ 0 ∷ []) $ fjoin ! $ has-bool ! z $ move ! (1 ∷ 0 ∷ []) $ done !
 
   q-typed : (x : Request) → Is Q.the-row x (q-val x ∷ []) → Typed (Q.the-row .mir) (q-val x ∷ [])
   q-typed x is = LL.lawful Q.the-type Q′.the-laws 𝓤 H A W .typed x _ is
@@ -129,7 +129,8 @@ module _ {M : Type 1} (𝓤 : URA M) (H : Heap 𝓤) (A : Atoms 𝓤) (W : Given
   abbrev q : Seen qs → Request
   q s = getD qs (s .i) nothing-asked
 
-  module _ (𝓣 : Tables 𝓤 H) (known-also : Triple 𝓤 (𝓣 .C #map·also-request) (AlsoC 𝓤 H A mem run)) where
+  module _ (𝓣 : Tables 𝓤 H)
+      (known-also : Triple 𝓤 (𝓣 .C #map·also-request) (AlsoC 𝓤 H A mem run)) where
     module _ (l₀ l₁ l₂ l₃ l₄ l₅ l₆ l₇ l₈ : ℕ) where
       -- the locals: the type of each, and where it lies
       abbrev E : Env 𝓤 H
@@ -164,16 +165,15 @@ module _ {M : Type 1} (𝓤 : URA M) (H : Heap 𝓤) (A : Atoms 𝓤) (W : Given
             puts ! (bin ! (held ! 10 refl) (lit ! tt) (record { fits = q-place })) (store ! 14 refl (tt, record { fits = q-place })) $
             puts ! (bin ! (part ! 6 refl (sub ! 0 refl (whole !))) (held ! 14 refl) tt) (init ! 18 refl (tt, tt)) $
             rewrite ! 18 (λ (p : ℕ). cell tyPtr l₇ (vptr bq p)) (sym (place-is 40 oq (s .i))) refl $
-            elem-out ! Q.the-row (Is Q.the-row) (shows 𝓤 H A Q.the-row) (LL.vals Q.the-type Q′.the-laws) (LL.tells Q.the-type Q′.the-laws) π qs (s .i)
-            nothing-asked bq oq lt (λ g.
+            takes ! Q.the-type Q′.the-laws π qs (s .i) nothing-asked bq oq lt (λ g.
             puts ! (of-opd ! (load ! (from ! (hop ! (look ! 20 refl) (stop !))) (look-raw ! 0 refl))) (init ! 22 refl (q-typed (q s) g .0)) $
             elem-back ! Q.the-row π qs (s .i) nothing-asked (q-val (q s) ∷ []) bq oq lt $
             puts ! (of-opd ! (held ! 20 refl)) (init ! 12 refl (q-typed (q s) g .0)) $
             -- all = also_request(all, q);
             calls ! (fmOf 𝓤 H (W .laws) 𝓣) 0 also.ended (also.clauses 𝓤 H A mem run) known-also
             (tt, tt, tt, (s .all, (q s, tt)), (vbool (s .all) ∷ [], (q-val (q s) ∷ [], tt))) tt
-            (says-all ! (id⊢ 𝓤 (emp 𝓤)) $ nothing ! $ frame ! $ nothing ! $ owned ! Q.the-row (Is Q.the-row) (LL.makes Q.the-type Q′.the-plain 𝓤 H A)
-            (q s) _ g $ fjoin ! $ owned ! bool (Is bool) (bool-makes 𝓤 H A W) (s .all) _ refl $ fjoin ! $ done !)
+            (says-all ! (id⊢ 𝓤 (emp 𝓤)) $ nothing ! $ frame ! $ nothing ! $ has ! Q.the-type Q′.the-plain (q s) _ g $ fjoin ! $ has-bool ! (s .all) $
+            fjoin ! $ done !)
             (and-then ! (held ! 9 refl) (and-then ! (held ! 13 refl) (no-more !))) (λ v r zs.
             move ! (2 ∷ []) $
             heard ! (r ≡ (s .all && isRequest (q s))) (λ e.
@@ -228,8 +228,7 @@ module _ {M : Type 1} (𝓤 : URA M) (H : Heap 𝓤) (A : Atoms 𝓤) (W : Given
       -- the list is looked into
       opened : Sq W (lists ++ holding ((2, vbool true) ∷ (3, vint w64 0) ∷ [])) (runs (𝓣 .C) (𝓣 .Λ) E mir.t-3 (atRet E Post))
       opened =
-          looks ! tt Q.the-row (Is Q.the-row) (shows 𝓤 H A Q.the-row) (LL.vals Q.the-type Q′.the-laws) (LL.tells Q.the-type Q′.the-laws)
-          (LL.copy Q.the-type Q′.the-copy 𝓤 H A W) (named 0) bq oq γq qs (λ π.
+          looks-at ! tt Q.the-type Q′.the-laws Q′.the-copy (named 0) bq oq γq qs (λ π.
           looped π (start qs))
 
     -- entry

@@ -32,13 +32,13 @@ use sound.WpLaws.{fmOf, WpFn-mono}
 use denote.RattleType.{owns}
 use denote.Laws.{Is, Typed, shows}
 use denote.Memory.{pointee}
-use denote.Plain.{uint-vals, uint-tells, uint-makes}
+use denote.Plain.{uint-vals, uint-tells}
 use denote.Builtin.{i32, usize}
 use denote.Ref.{RefT}
 use denote.Slice.{sliceTy, sliceVal, slice-vals, MutSlice, ShrSlice, Room, mut-slice-tells, shr-slice-tells}
-use denote.Index.{row, place-is, elem-out, elem-put}
+use denote.Index.{row, place-is, elem-put}
 use denote.Signature.{plain}
-use denote.Steps.{only, nothing, owned, peeks, heard}
+use denote.Steps.{only, nothing, peeks, heard}
 use denote.Triple.Entry.{onEntry}
 use denote.Triple.Spec.{Meets, tripleOf}
 use denote.Triple.Statement.{Contract, Triple}
@@ -49,6 +49,7 @@ use denote.Exit.{yes}
 use Rattle.walk_laws.proofs.Contexts.{sinks}
 use Rattle.walk_laws.proofs.Locals.{cell, locals, held, part, puts, puts-last, free-all}
 use Rattle.walk_laws.proofs.Slices.{ref, counted, Own, OwnShr, Opened, opens, closes, doubles}
+use Rattle.walk_laws.proofs.Values.{told, spelt, has, has-usize, takes}
 use Rattle.walk_laws.proofs.Calls.{promised, calls, one-fact, more-facts, says-all}
 use denote.Struct.Laws as LL
 use Rattle.rules.specs.declared.Record.{Record}
@@ -91,12 +92,6 @@ ItemC 𝓤 H A mem run = promised 𝓤 H A item.ended (item.clauses 𝓤 H A mem
 
 abbrev f-val : Record → Val
 f-val = LL.val F.the-type F′.the-laws
-
-f-told : (x : Record) (v : Val) → Is F.the-row x (v ∷ []) → v ∷ [] ≡ f-val x ∷ []
-f-told x v is = LL.tells F.the-type F′.the-laws x (v ∷ []) is
-
-f-spelt : (x : Record) (v : Val) → Is F.the-row x (v ∷ []) → Is F.the-row x (f-val x ∷ [])
-f-spelt x v is = subst (Is F.the-row x) (f-told x v is) is
 
 abbrev word : Ty
 word = tyInt w64
@@ -165,9 +160,8 @@ module _ {M : Type 1} (𝓤 : URA M) (H : Heap 𝓤) (A : Atoms 𝓤) (W : Given
       rewrite ! 4 (λ (m : ℕ). ‵ (MutSlice (named 2) κf F.the-row .own (ref bf of γf nf) (sliceVal (bf, of) m ∷ []))) lf refl $
       -- the tokens, what is had of the parameters, and the result
       nothing ! $ move ! (6 ∷ 0 ∷ []) $ join ! $ move ! (4 ∷ 0 ∷ []) $ join ! $ move ! (2 ∷ 0 ∷ []) $ join ! $ frame ! $ nothing ! $
-      owned ! usize (Is usize) (uint-makes 𝓤 H A W w64) at _ (refl, at-fits) $ fjoin ! $ move ! (3 ∷ 0 ∷ []) $ fjoin ! $
-      owned ! usize (Is usize) (uint-makes 𝓤 H A W w64) n _ (refl, n-fits) $ fjoin ! $ move ! (2 ∷ 0 ∷ []) $ fjoin ! $ move ! (1 ∷ 0 ∷ []) $ fjoin ! $
-      feqI ! (List Val) (vunit ∷ []) (vunit ∷ []) refl $ move ! (1 ∷ 0 ∷ []) $ done !
+      has-usize ! at at-fits $ fjoin ! $ move ! (3 ∷ 0 ∷ []) $ fjoin ! $ has-usize ! n n-fits $ fjoin ! $ move ! (2 ∷ 0 ∷ []) $ fjoin ! $
+      move ! (1 ∷ 0 ∷ []) $ fjoin ! $ feqI ! (List Val) (vunit ∷ []) (vunit ∷ []) refl $ move ! (1 ∷ 0 ∷ []) $ done !
 
   f-typed : (x : Record) → Is F.the-row x (f-val x ∷ []) → Typed (F.the-row .mir) (f-val x ∷ [])
   f-typed x is = LL.lawful F.the-type F′.the-laws 𝓤 H A W .typed x _ is
@@ -176,7 +170,8 @@ module _ {M : Type 1} (𝓤 : URA M) (H : Heap 𝓤) (A : Atoms 𝓤) (W : Given
   abbrev now-at : Upto n → List Record
   now-at s = stored ps ws fs at (s .k)
 
-  module _ (𝓣 : Tables 𝓤 H) (known-item : Triple 𝓤 (𝓣 .C #found-items·item) (ItemC 𝓤 H A mem run)) where
+  module _ (𝓣 : Tables 𝓤 H)
+      (known-item : Triple 𝓤 (𝓣 .C #found-items·item) (ItemC 𝓤 H A mem run)) where
     module _ (l₀ l₁ l₂ l₃ l₄ l₅ l₆ l₇ l₈ l₉ l₁₀ l₁₁ : ℕ) where
       -- the locals: the type of each, and where it lies
       abbrev E : Env 𝓤 H
@@ -220,8 +215,7 @@ module _ {M : Type 1} (𝓤 : URA M) (H : Heap 𝓤) (A : Atoms 𝓤) (W : Given
             (counted bp op ps, (counted bw ow ws, (vint w64 (s .k) ∷ [], tt))),
           ) tt
           (says-all ! (more-facts 𝓤 in-w (one-fact 𝓤 in-p)) $ nothing ! $ move ! (2 ∷ 0 ∷ []) $ join ! $ move ! (1 ∷ 0 ∷ []) $ join ! $ frame ! $
-          nothing ! $ owned ! usize (Is usize) (uint-makes 𝓤 H A W w64) (s .k) _ (refl, k-fits) $ fjoin ! $ move ! (2 ∷ 0 ∷ []) $ fjoin ! $
-          move ! (1 ∷ 0 ∷ []) $ fjoin ! $ done !)
+          nothing ! $ has-usize ! (s .k) k-fits $ fjoin ! $ move ! (2 ∷ 0 ∷ []) $ fjoin ! $ move ! (1 ∷ 0 ∷ []) $ fjoin ! $ done !)
           (and-then ! (held ! 9 refl) (and-then ! (held ! 11 refl) (and-then ! (held ! 19 refl) (no-more !)))) (λ v r zs.
           move ! (4 ∷ []) $
           heard ! (r ≡ itemAt ps ws (s .k)) (λ e.
@@ -229,18 +223,18 @@ module _ {M : Type 1} (𝓤 : URA M) (H : Heap 𝓤) (A : Atoms 𝓤) (W : Given
           peeks ! F.the-row (Is F.the-row) (shows 𝓤 H A F.the-row) r (v ∷ []) (λ is.
           land ! (from ! (stop !)) (init ! 23 refl (LL.lawful F.the-type F′.the-laws 𝓤 H A W .typed r _ is .0)) $
           drop ! $
-          rewrite ! 22 (λ (u : Val). cell F′.mir l₇ u) (ap only (f-told r v is)) refl $
+          rewrite ! 22 (λ (u : Val). cell F′.mir l₇ u) (ap only (told F.the-type F′.the-laws r v is)) refl $
           -- found[at + k] = r;
           puts ! (bin ! (held ! 18 refl) (held ! 20 refl) (record { fits = sum-fits })) (init ! 26 refl (tt, record { fits = sum-fits })) $
           puts ! (bin ! (held ! 26 refl) (lit ! tt) (record { fits = place-fits })) (init ! 28 refl (tt, record { fits = place-fits })) $
           puts ! (bin ! (part ! 16 refl (sub ! 0 refl (whole !))) (held ! 28 refl) tt) (init ! 30 refl (tt, tt)) $
           rewrite ! 30 (λ (p : ℕ). cell tyPtr l₁₁ (vptr bf p)) (sym (place-is 20 of (at + s .k))) refl $
           move ! (4 ∷ []) $
-          elem-out ! F.the-row (Is F.the-row) (shows 𝓤 H A F.the-row) (LL.vals F.the-type F′.the-laws) (LL.tells F.the-type F′.the-laws) fullShare
-          (now-at s) (at + s .k) r bf of in-f (λ _.
-          assigns ! (of-opd ! (held ! 24 refl)) (from ! (hop ! (look ! 32 refl) (stop !))) (store-raw ! 0 refl (f-typed r (f-spelt r v is) .0)) $
+          takes ! F.the-type F′.the-laws fullShare (now-at s) (at + s .k) r bf of in-f (λ _.
+          assigns ! (of-opd ! (held ! 24 refl)) (from ! (hop ! (look ! 32 refl) (stop !)))
+          (store-raw ! 0 refl (f-typed r (spelt F.the-type F′.the-laws r v is) .0)) $
           move ! (1 ∷ []) $ drop ! $
-          owned ! F.the-row (Is F.the-row) (LL.makes F.the-type F′.the-plain 𝓤 H A) r _ (f-spelt r v is) $
+          has ! F.the-type F′.the-plain r _ (spelt F.the-type F′.the-laws r v is) $
           move ! (1 ∷ 0 ∷ 2 ∷ []) $
           elem-put ! F.the-row fullShare (now-at s) (at + s .k) r (f-val r ∷ []) bf of in-f $
           rewrite ! 0 (λ (x : Record). ‵ (row F.the-row fullShare (set (now-at s) (at + s .k) x) bf of)) e refl $

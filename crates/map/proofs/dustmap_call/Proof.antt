@@ -31,13 +31,13 @@ use sound.WpLaws.{fmOf, WpFn-mono}
 use denote.RattleType.{owns}
 use denote.Laws.{Is, Typed, shows}
 use denote.Memory.{pointee}
-use denote.Plain.{uint-makes, bool-makes, bool-tells, bool-lawful, nothing-lawful}
-use denote.Signed.{sint-makes, sint-tells, sint-lawful}
-use denote.Builtin.{i32, bool, unit, usize}
+use denote.Plain.{bool-tells, bool-lawful, nothing-lawful}
+use denote.Signed.{sint-tells, sint-lawful}
+use denote.Builtin.{i32, bool, unit}
 use denote.Ref.{RefT}
 use denote.Slice.{sliceTy, sliceVal, slice-vals, MutSlice, ShrSlice, Room, mut-slice-tells, shr-slice-tells}
 use denote.Signature.{plain}
-use denote.Steps.{only, nothing, owned, peeks, heard}
+use denote.Steps.{only, nothing, peeks, heard}
 use denote.Triple.Entry.{onEntry}
 use denote.Triple.Spec.{Meets, tripleOf}
 use denote.Triple.Statement.{Contract, Triple}
@@ -47,6 +47,7 @@ use denote.Exit.{yes}
 use Rattle.walk_laws.proofs.Contexts.{sinks}
 use Rattle.walk_laws.proofs.Locals.{cell, locals, held, part, pointed, puts, free-all}
 use Rattle.walk_laws.proofs.Slices.{ref, counted, Own, OwnShr, doubles}
+use Rattle.walk_laws.proofs.Values.{has-usize, has-i32, has-bool}
 use Rattle.walk_laws.proofs.Lends.{lent, back, lent-shr, back-shr}
 use Rattle.walk_laws.proofs.Calls.{promised, calls, says-all, needs-none}
 use denote.Struct.Laws as LL
@@ -223,15 +224,16 @@ module _ {M : Type 1} (𝓤 : URA M) (H : Heap 𝓤) (A : Atoms 𝓤) (W : Given
       -- the tokens, what is had of the parameters, and the result
       nothing ! $ move ! (10 ∷ 0 ∷ []) $ join ! $ move ! (8 ∷ 0 ∷ []) $ join ! $ move ! (6 ∷ 0 ∷ []) $ join ! $ move ! (4 ∷ 0 ∷ []) $ join ! $
       move ! (2 ∷ 0 ∷ []) $ join ! $ frame ! $ nothing ! $ move ! (5 ∷ 0 ∷ []) $ fjoin ! $ move ! (4 ∷ 0 ∷ []) $ fjoin ! $ move ! (3 ∷ 0 ∷ []) $
-      fjoin ! $ move ! (2 ∷ 0 ∷ []) $ fjoin ! $ move ! (1 ∷ 0 ∷ []) $ fjoin ! $ owned ! i32 (Is i32) (sint-makes 𝓤 H A W w32) z _ (refl, fits) $
-      move ! (1 ∷ 0 ∷ []) $ done !
+      fjoin ! $ move ! (2 ∷ 0 ∷ []) $ fjoin ! $ move ! (1 ∷ 0 ∷ []) $ fjoin ! $ has-i32 ! z fits $ move ! (1 ∷ 0 ∷ []) $ done !
 
   z-typed : (z : ℤ) → mag z < 2 ^ hbits w32 → Typed (i32 .mir) (vint w32 (ofZ w32 z) ∷ [])
   z-typed z fits = sint-lawful 𝓤 H A W w32 .typed z _ (refl, fits)
 
-  module _ (𝓣 : Tables 𝓤 H) (known-all-asked : Triple 𝓤 (𝓣 .C #map·all-asked) (AllAskedC 𝓤 H A mem run)) (known-refusal : Triple 𝓤 (𝓣 .C #map·refusal)
-      (RefusalC 𝓤 H A mem run)) (known-serve : Triple 𝓤 (𝓣 .C #map·serve) (ServeC 𝓤 H A mem run)) (known-copy : Triple 𝓤 (𝓣 .C #request·copy)
-      (CopyC 𝓤 H A mem run)) where
+  module _ (𝓣 : Tables 𝓤 H)
+      (known-all-asked : Triple 𝓤 (𝓣 .C #map·all-asked) (AllAskedC 𝓤 H A mem run))
+      (known-refusal : Triple 𝓤 (𝓣 .C #map·refusal) (RefusalC 𝓤 H A mem run))
+      (known-serve : Triple 𝓤 (𝓣 .C #map·serve) (ServeC 𝓤 H A mem run))
+      (known-copy : Triple 𝓤 (𝓣 .C #request·copy) (CopyC 𝓤 H A mem run)) where
     module _ (l₀ l₁ l₂ l₃ l₄ l₅ l₆ l₇ l₈ l₉ l₁₀ l₁₁ l₁₂ l₁₃ l₁₄ l₁₅ l₁₆ l₁₇ l₁₈ l₁₉ l₂₀ l₂₁ l₂₂ l₂₃ l₂₄ l₂₅ l₂₆ : ℕ) where
       -- the locals: the type of each, and where it lies
       abbrev E : Env 𝓤 H
@@ -396,10 +398,9 @@ module _ {M : Type 1} (𝓤 : URA M) (H : Heap 𝓤) (A : Atoms 𝓤) (W : Given
             (ref bp op δ ps, (length ws, (length qs, (length rs, (all, tt))))),
             (counted bp op ps, (vint w64 (length ws) ∷ [], (vint w64 (length qs) ∷ [], (vint w64 (length rs) ∷ [], (vbool all ∷ [], tt))))),
           ) tt
-          (says-all ! (id⊢ 𝓤 (emp 𝓤)) $ nothing ! $ move ! (1 ∷ 0 ∷ []) $ join ! $ frame ! $ nothing ! $ owned ! bool (Is bool) (bool-makes 𝓤 H A W)
-          all _ refl $ fjoin ! $ owned ! usize (Is usize) (uint-makes 𝓤 H A W w64) (length rs) _ (refl, room-r .0) $ fjoin ! $
-          owned ! usize (Is usize) (uint-makes 𝓤 H A W w64) (length qs) _ (refl, room-q .0) $ fjoin ! $ owned ! usize (Is usize)
-          (uint-makes 𝓤 H A W w64) (length ws) _ (refl, room-w .0) $ fjoin ! $ move ! (1 ∷ 0 ∷ []) $ fjoin ! $ done !)
+          (says-all ! (id⊢ 𝓤 (emp 𝓤)) $ nothing ! $ move ! (1 ∷ 0 ∷ []) $ join ! $ frame ! $ nothing ! $ has-bool ! all $ fjoin ! $
+          has-usize ! (length rs) (room-r .0) $ fjoin ! $ has-usize ! (length qs) (room-q .0) $ fjoin ! $ has-usize ! (length ws) (room-w .0) $
+          fjoin ! $ move ! (1 ∷ 0 ∷ []) $ fjoin ! $ done !)
           (and-then ! (held ! 28 refl)
           (and-then ! (held ! 30 refl) (and-then ! (held ! 32 refl) (and-then ! (held ! 34 refl) (and-then ! (held ! 22 refl) (no-more !))))))
           (λ v z zs.

@@ -33,13 +33,13 @@ use sound.WpLaws.{fmOf, WpFn-mono}
 use denote.RattleType.{owns}
 use denote.Laws.{Is, Typed, shows}
 use denote.Memory.{pointee}
-use denote.Plain.{uint-makes, nothing-lawful}
-use denote.Builtin.{i32, unit, usize}
+use denote.Plain.{nothing-lawful}
+use denote.Builtin.{i32, unit}
 use denote.Ref.{RefT}
 use denote.Slice.{sliceTy, sliceVal, slice-vals, MutSlice, ShrSlice, Room, mut-slice-tells, shr-slice-tells}
-use denote.Index.{place-is, elem-out, elem-back, elem-put}
+use denote.Index.{place-is, elem-back, elem-put}
 use denote.Signature.{plain}
-use denote.Steps.{only, nothing, owned, peeks, heard}
+use denote.Steps.{only, nothing, peeks, heard}
 use denote.Triple.Entry.{onEntry}
 use denote.Triple.Spec.{Meets, tripleOf}
 use denote.Triple.Statement.{Contract, Triple}
@@ -48,7 +48,8 @@ use denote.Triple.Walked.{says, needs, Stays, stay-slice, stay-none-slice, walkO
 use denote.Exit.{yes}
 use Rattle.walk_laws.proofs.Contexts.{sinks}
 use Rattle.walk_laws.proofs.Locals.{cell, locals, held, part, pointed, puts, puts-last, free-all, rest-of}
-use Rattle.walk_laws.proofs.Slices.{ref, counted, Own, OwnShr, Looked, Opened, looks, shuts, opens, closes}
+use Rattle.walk_laws.proofs.Slices.{ref, counted, Own, OwnShr, Looked, Opened, shuts, opens, closes}
+use Rattle.walk_laws.proofs.Values.{told, spelt, has, has-usize, looks-at, takes}
 use Rattle.walk_laws.proofs.Lends.{lent, back, lent-shr, back-shr}
 use Rattle.walk_laws.proofs.Calls.{promised, calls, one-fact, more-facts, says-all}
 use denote.Struct.Laws as LL
@@ -144,32 +145,14 @@ r-val = LL.val R.the-type R′.the-laws
 abbrev d-val : Served → Val
 d-val = LL.val D.the-type D′.the-laws
 
-d-told : (x : Served) (v : Val) → Is D.the-row x (v ∷ []) → v ∷ [] ≡ d-val x ∷ []
-d-told x v is = LL.tells D.the-type D′.the-laws x (v ∷ []) is
-
-d-spelt : (x : Served) (v : Val) → Is D.the-row x (v ∷ []) → Is D.the-row x (d-val x ∷ [])
-d-spelt x v is = subst (Is D.the-row x) (d-told x v is) is
-
 abbrev s-val : FreeSlots → Val
 s-val = LL.val S.the-type S′.the-laws
 
 abbrev k-val : Progress → Val
 k-val = LL.val K.the-type K′.the-laws
 
-k-told : (x : Progress) (v : Val) → Is K.the-row x (v ∷ []) → v ∷ [] ≡ k-val x ∷ []
-k-told x v is = LL.tells K.the-type K′.the-laws x (v ∷ []) is
-
-k-spelt : (x : Progress) (v : Val) → Is K.the-row x (v ∷ []) → Is K.the-row x (k-val x ∷ [])
-k-spelt x v is = subst (Is K.the-row x) (k-told x v is) is
-
 abbrev t-val : Stepped → Val
 t-val = LL.val T.the-type T′.the-laws
-
-t-told : (x : Stepped) (v : Val) → Is T.the-row x (v ∷ []) → v ∷ [] ≡ t-val x ∷ []
-t-told x v is = LL.tells T.the-type T′.the-laws x (v ∷ []) is
-
-t-spelt : (x : Stepped) (v : Val) → Is T.the-row x (v ∷ []) → Is T.the-row x (t-val x ∷ [])
-t-spelt x v is = subst (Is T.the-row x) (t-told x v is) is
 
 abbrev word : Ty
 word = tyInt w64
@@ -335,9 +318,11 @@ module _ {M : Type 1} (𝓤 : URA M) (H : Heap 𝓤) (A : Atoms 𝓤) (W : Given
   abbrev gives : At → Served → Stepped
   gives s r = Batches.gives (s .st .prog) r
 
-  module _ (𝓣 : Tables 𝓤 H) (known-begun : Triple 𝓤 (𝓣 .C #map·begun) (BegunC 𝓤 H A mem run)) (known-request : Triple 𝓤 (𝓣 .C #request·one-request)
-      (RequestC 𝓤 H A mem run)) (known-step : Triple 𝓤 (𝓣 .C #map·step) (StepC 𝓤 H A mem run)) (known-carry : Triple 𝓤 (𝓣 .C #map·carry)
-      (CarryC 𝓤 H A mem run)) where
+  module _ (𝓣 : Tables 𝓤 H)
+      (known-begun : Triple 𝓤 (𝓣 .C #map·begun) (BegunC 𝓤 H A mem run))
+      (known-request : Triple 𝓤 (𝓣 .C #request·one-request) (RequestC 𝓤 H A mem run))
+      (known-step : Triple 𝓤 (𝓣 .C #map·step) (StepC 𝓤 H A mem run))
+      (known-carry : Triple 𝓤 (𝓣 .C #map·carry) (CarryC 𝓤 H A mem run)) where
     module _ (l₀ l₁ l₂ l₃ l₄ l₅ l₆ l₇ l₈ l₉ l₁₀ l₁₁ l₁₂ l₁₃ l₁₄ l₁₅ l₁₆ l₁₇ l₁₈ l₁₉ l₂₀ l₂₁ l₂₂ l₂₃ l₂₄ l₂₅ l₂₆ l₂₇ l₂₈ l₂₉ l₃₀ l₃₁ l₃₂ l₃₃ l₃₄ l₃₅ : ℕ) where
       -- the locals: the type of each, and where it lies
       abbrev E : Env 𝓤 H
@@ -392,12 +377,11 @@ module _ {M : Type 1} (𝓤 : URA M) (H : Heap 𝓤) (A : Atoms 𝓤) (W : Given
             puts ! (bin ! (part ! 22 refl (sub ! 0 refl (whole !))) (held ! 54 refl) tt) (init ! 84 refl (tt, tt)) $
             rewrite ! 84 (λ (p : ℕ). cell tyPtr l₃₅ (vptr br p)) (sym (place-is 16 or (s .st .prog .done))) refl $
             move ! (10 ∷ []) $
-            elem-out ! R.the-row (Is R.the-row) (shows 𝓤 H A R.the-row) (LL.vals R.the-type R′.the-laws) (LL.tells R.the-type R′.the-laws) fullShare
-            (s .st .answers) (s .st .prog .done) (r .answer) br or r-lt (λ _.
+            takes ! R.the-type R′.the-laws fullShare (s .st .answers) (s .st .prog .done) (r .answer) br or r-lt (λ _.
             assigns ! (of-opd ! (held ! 50 refl)) (from ! (hop ! (look ! 86 refl) (stop !)))
             (store-raw ! 0 refl (r-typed (r .answer) (answer-is (gives s r) is-t) .0)) $
             move ! (1 ∷ []) $ drop ! $
-            owned ! R.the-row (Is R.the-row) (LL.makes R.the-type R′.the-plain 𝓤 H A) (r .answer) _ (answer-is (gives s r) is-t) $
+            has ! R.the-type R′.the-plain (r .answer) _ (answer-is (gives s r) is-t) $
             move ! (1 ∷ 0 ∷ 2 ∷ []) $
             elem-put ! R.the-row fullShare (s .st .answers) (s .st .prog .done) (r .answer) (r-val (r .answer) ∷ []) br or r-lt $
             -- p = t.next;
@@ -449,27 +433,11 @@ module _ {M : Type 1} (𝓤 : URA M) (H : Heap 𝓤) (A : Atoms 𝓤) (W : Given
               (fullShare, (fullShare, (fullShare, tt))),
               tt,
               (ref bp op δ p, (ref bw ow δ′ w, (r .listed, (ref bf of δ′′ (s .st .found), (s .st .prog .filled, tt))))),
-              (
-                counted bp op p,
-                (
-                  counted bw ow w,
-                  (
-                    vint w64 (r .listed) ∷ [],
-                    (
-                      counted bf of (s .st .found),
-                      (
-                        vint w64 (s .st .prog .filled) ∷ [],
-                        tt,
-                      ),
-                    ),
-                  ),
-                ),
-              ),
+              (counted bp op p, (counted bw ow w, (vint w64 (r .listed) ∷ [], (counted bf of (s .st .found), (vint w64 (s .st .prog .filled) ∷ [], tt))))),
             ) tt
             (says ! asked $ nothing ! $ move ! (3 ∷ 0 ∷ []) $ join ! $ move ! (2 ∷ 0 ∷ []) $ join ! $ move ! (1 ∷ 0 ∷ []) $ join ! $ frame ! $
-            nothing ! $ owned ! usize (Is usize) (uint-makes 𝓤 H A W w64) (s .st .prog .filled) _ (refl, filled-fits) $ fjoin ! $
-            move ! (3 ∷ 0 ∷ []) $ fjoin ! $ owned ! usize (Is usize) (uint-makes 𝓤 H A W w64) (r .listed) _ (refl, listed-fits) $ fjoin ! $
-            move ! (2 ∷ 0 ∷ []) $ fjoin ! $ move ! (1 ∷ 0 ∷ []) $ fjoin ! $ done !)
+            nothing ! $ has-usize ! (s .st .prog .filled) filled-fits $ fjoin ! $ move ! (3 ∷ 0 ∷ []) $ fjoin ! $
+            has-usize ! (r .listed) listed-fits $ fjoin ! $ move ! (2 ∷ 0 ∷ []) $ fjoin ! $ move ! (1 ∷ 0 ∷ []) $ fjoin ! $ done !)
             (and-then ! (held ! 72 refl)
             (and-then ! (held ! 76 refl) (and-then ! (held ! 40 refl) (and-then ! (held ! 80 refl) (and-then ! (held ! 42 refl) (no-more !))))))
             (λ v u zs.
@@ -508,8 +476,8 @@ module _ {M : Type 1} (𝓤 : URA M) (H : Heap 𝓤) (A : Atoms 𝓤) (W : Given
             calls ! (fmOf 𝓤 H (W .laws) 𝓣) 0 step.ended (step.clauses 𝓤 H A mem run) known-step
             (tt, tt, tt, (s .st .prog, (r, tt)), (k-val (s .st .prog) ∷ [], (d-val r ∷ [], tt))) tt
             (says ! (Batches.done-few l ok (s .st) lt, Batches.many l ok (s .st) lt, Batches.listed-few l ok (s .st) lt r p w does) $ nothing ! $
-            frame ! $ nothing ! $ owned ! D.the-row (Is D.the-row) (LL.makes D.the-type D′.the-plain 𝓤 H A) r _ is $ fjoin ! $
-            owned ! K.the-row (Is K.the-row) (LL.makes K.the-type K′.the-plain 𝓤 H A) (s .st .prog) _ (s .is) $ fjoin ! $ done !)
+            frame ! $ nothing ! $ has ! D.the-type D′.the-plain r _ is $ fjoin ! $ has ! K.the-type K′.the-plain (s .st .prog) _ (s .is) $ fjoin ! $
+            done !)
             (and-then ! (held ! 27 refl) (and-then ! (held ! 39 refl) (no-more !))) (λ v t zs.
             move ! (2 ∷ []) $
             heard ! (t ≡ stepOf (s .st .prog) r) (λ e.
@@ -517,11 +485,11 @@ module _ {M : Type 1} (𝓤 : URA M) (H : Heap 𝓤) (A : Atoms 𝓤) (W : Given
             peeks ! T.the-row (Is T.the-row) (shows 𝓤 H A T.the-row) t (v ∷ []) (λ is′.
             land ! (from ! (stop !)) (init ! 41 refl (LL.lawful T.the-type T′.the-laws 𝓤 H A W .typed t _ is′ .0)) $
             drop ! $
-            rewrite ! 40 (λ (u : Val). cell T′.mir l₁₃ u) (ap only (t-told t v is′)) refl $
+            rewrite ! 40 (λ (u : Val). cell T′.mir l₁₃ u) (ap only (told T.the-type T′.the-laws t v is′)) refl $
             rewrite ! 40 (λ (x : Stepped). cell T′.mir l₁₃ (t-val x)) (e ∙ Batches.step-gives (s .st .prog) r) refl $
             forget ! 38 refl $
             calls-carry s lt r p w lp lw does (subst (λ (x : Stepped). Is T.the-row x (t-val x ∷ [])) (e ∙ Batches.step-gives (s .st .prog) r)
-            (t-spelt t v is′)))))
+            (spelt T.the-type T′.the-laws t v is′)))))
 
         -- the request is done
         calls-request : (s : At) (lt : More s) → Is Q.the-row (q s lt) (q-val (q s lt) ∷ [])
@@ -561,11 +529,9 @@ module _ {M : Type 1} (𝓤 : URA M) (H : Heap 𝓤) (A : Atoms 𝓤) (W : Given
             ) tt
             (says-all ! (more-facts 𝓤 (s .st .ready) (more-facts 𝓤 (Batches.same-long l ok (s .st) lt) (more-facts 𝓤 (Batches.q-asked l ok (s .st) lt)
             (one-fact 𝓤 (Batches.many l ok (s .st) lt))))) $ nothing ! $ move ! (2 ∷ 0 ∷ []) $ join ! $ move ! (1 ∷ 0 ∷ []) $ join ! $ frame ! $
-            nothing ! $ owned ! S.the-row (Is S.the-row) (LL.makes S.the-type S′.the-plain 𝓤 H A) (s .st .prog .free) _
-            (free-is (s .st .prog) (s .is)) $ fjoin ! $ owned ! usize (Is usize) (uint-makes 𝓤 H A W w64) (room s lt) _ (refl, room-fits s lt) $
-            fjoin ! $ owned ! usize (Is usize) (uint-makes 𝓤 H A W w64) (s .st .prog .filled) _ (refl, filled-fits) $ fjoin ! $
-            owned ! Q.the-row (Is Q.the-row) (LL.makes Q.the-type Q′.the-plain 𝓤 H A) (q s lt) _ g $ fjoin ! $ move ! (2 ∷ 0 ∷ []) $ fjoin ! $
-            move ! (1 ∷ 0 ∷ []) $ fjoin ! $ done !)
+            nothing ! $ has ! S.the-type S′.the-plain (s .st .prog .free) _ (free-is (s .st .prog) (s .is)) $ fjoin ! $
+            has-usize ! (room s lt) (room-fits s lt) $ fjoin ! $ has-usize ! (s .st .prog .filled) filled-fits $ fjoin ! $
+            has ! Q.the-type Q′.the-plain (q s lt) _ g $ fjoin ! $ move ! (2 ∷ 0 ∷ []) $ fjoin ! $ move ! (1 ∷ 0 ∷ []) $ fjoin ! $ done !)
             (and-then ! (held ! 63 refl)
             (and-then ! (held ! 67 refl)
             (and-then ! (held ! 29 refl) (and-then ! (held ! 31 refl) (and-then ! (held ! 33 refl) (and-then ! (held ! 35 refl) (no-more !)))))))
@@ -580,9 +546,9 @@ module _ {M : Type 1} (𝓤 : URA M) (H : Heap 𝓤) (A : Atoms 𝓤) (W : Given
             back ! tt i32 (named 0) bp op γp (s .st .pool) (zs .0) (subst (Room i32) (sym (s .st .pool-long)) room-p) lp $
             move ! (3 ∷ 2 ∷ 4 ∷ []) $
             back ! tt i32 (named 1) bw ow γw (s .st .work) (zs .1 .0) (subst (Room i32) (sym (s .st .work-long)) room-w) lw $
-            rewrite ! 38 (λ (u : Val). cell D′.mir l₁₂ u) (ap only (d-told r v is)) refl $
+            rewrite ! 38 (λ (u : Val). cell D′.mir l₁₂ u) (ap only (told D.the-type D′.the-laws r v is)) refl $
             forget ! 30 refl $ forget ! 32 refl $ forget ! 34 refl $ forget ! 36 refl $ forget ! 64 refl $ forget ! 68 refl $ move ! (2 ∷ 3 ∷ []) $
-            calls-step s lt r (zs .0) (zs .1 .0) lp lw (d-spelt r v is) e)))))))
+            calls-step s lt r (zs .0) (zs .1 .0) lp lw (spelt D.the-type D′.the-laws r v is) e)))))))
           where
             filled-fits : s .st .prog .filled < 2 ^ 64
             filled-fits = filled-few s lt
@@ -601,8 +567,7 @@ module _ {M : Type 1} (𝓤 : URA M) (H : Heap 𝓤) (A : Atoms 𝓤) (W : Given
             puts ! (bin ! (part ! 20 refl (sub ! 0 refl (whole !))) (held ! 54 refl) tt) (init ! 58 refl (tt, tt)) $
             rewrite ! 58 (λ (p : ℕ). cell tyPtr l₂₂ (vptr bq p)) (sym (place-is 40 oq (s .st .prog .done))) refl $
             move ! (6 ∷ []) $
-            elem-out ! Q.the-row (Is Q.the-row) (shows 𝓤 H A Q.the-row) (LL.vals Q.the-type Q′.the-laws) (LL.tells Q.the-type Q′.the-laws) π qs
-            (s .st .prog .done) nothing-asked bq oq lt (λ g.
+            takes ! Q.the-type Q′.the-laws π qs (s .st .prog .done) nothing-asked bq oq lt (λ g.
             puts ! (of-opd ! (load ! (from ! (hop ! (look ! 60 refl) (stop !))) (look-raw ! 0 refl))) (init ! 62 refl (q-typed (q s lt) g .0)) $
             elem-back ! Q.the-row π qs (s .st .prog .done) nothing-asked (q-val (q s lt) ∷ []) bq oq lt $
             puts ! (of-opd ! (held ! 60 refl)) (init ! 30 refl (q-typed (q s lt) g .0)) $
@@ -682,8 +647,7 @@ module _ {M : Type 1} (𝓤 : URA M) (H : Heap 𝓤) (A : Atoms 𝓤) (W : Given
           (runs (𝓣 .C) (𝓣 .Λ) E mir.t-4 (atRet E Post))
       opened x is e =
           move ! (4 ∷ 5 ∷ []) $
-          looks ! tt Q.the-row (Is Q.the-row) (shows 𝓤 H A Q.the-row) (LL.vals Q.the-type Q′.the-laws) (LL.tells Q.the-type Q′.the-laws)
-          (LL.copy Q.the-type Q′.the-copy 𝓤 H A W) (named 2) bq oq γq qs (λ π.
+          looks-at ! tt Q.the-type Q′.the-laws Q′.the-copy (named 2) bq oq γq qs (λ π.
           move ! (8 ∷ 9 ∷ []) $
           opens ! tt R.the-row (named 3) br or γr rs $
           move ! (8 ∷ 9 ∷ 10 ∷ 11 ∷ 12 ∷ 13 ∷ 4 ∷ 5 ∷ 6 ∷ 7 ∷ []) $
@@ -705,9 +669,9 @@ module _ {M : Type 1} (𝓤 : URA M) (H : Heap 𝓤) (A : Atoms 𝓤) (W : Given
           land ! (from ! (stop !)) (init ! 23 refl (LL.lawful K.the-type K′.the-laws 𝓤 H A W .typed x _ is .0)) $
           drop ! $
           back-shr ! tt i32 (named 0) bp op γp ps room-p $
-          rewrite ! 22 (λ (u : Val). cell K′.mir l₆ u) (ap only (k-told x v is)) refl $
+          rewrite ! 22 (λ (u : Val). cell K′.mir l₆ u) (ap only (told K.the-type K′.the-laws x v is)) refl $
           forget ! 48 refl $
-          opened x (k-spelt x v is) e))))
+          opened x (spelt K.the-type K′.the-laws x v is) e))))
 
     -- entry
     walk : ent 𝓤 (onEntry 𝓤 H A serve′.signature (κp, (κw, (κq, (κr, (κf, tt))))) (πp, (πw, (πq, (πr, (πf, tt))))) passed vals)
