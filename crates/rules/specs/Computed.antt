@@ -1,3 +1,4 @@
+-- Written by `tools/generate` from the modules of crates/rules/specs: do not edit by hand.
 -- One name for all the definitions: a proof that says `unfolding document01` computes with every one of them.
 use mathlib.Core.List.{List}
 use Prim.Native.Nat.{ℕ}

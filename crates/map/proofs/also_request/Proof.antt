@@ -9,15 +9,12 @@ use Rattle.map.proofs.also_request.Lts as lts
 use Rattle.geometry.proofs.and.Reads as and-reads
 use Rattle.map.proofs.is_request.Reads as is-request-reads
 
--- src/lib.rt:109:24
 is-request-requires : tie.Need-is-request-requires
 is-request-requires c κs = search needs
 
--- src/lib.rt:109:5
 and-requires : tie.Need-and-requires
 and-requires c κs = search needs
 
--- src/lib.rt:106:1
 returns : tie.Need-returns
 returns c = c .and .ensures ∙ ap (λ (b : Bool). c .before .before .args .all && b) (c .before .is-request .ensures)
 

@@ -10,11 +10,9 @@ use Rattle.map.proofs.dustmap_check.Reads as reads
 use Rattle.map.proofs.dustmap_check.Lts as lts
 use Rattle.map.proofs.refusal.Reads as refusal-reads
 
--- src/lib.rt:54:5
 refusal-requires : tie.Need-refusal-requires
 refusal-requires c κs = search needs
 
--- src/lib.rt:49:1
 returns : tie.Need-returns
 returns c = toZ-ofZ {w = w32} {z = c .refusal .result} (sfits-of (c .refusal .ok)) ∙ c .refusal .ensures ∙ check-number (c .before .args .pool .now)
 

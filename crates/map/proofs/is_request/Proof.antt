@@ -5,8 +5,6 @@ use lib.Signed.{leZ}
 use mir.Val.{toZ, ofZ}
 use mir.Syntax.{w32}
 use Rattle.map.proofs.Refusals.{four-kinds}
-use mathlib.Core.Path.{_≡_, ap, _∙_}
-use mathlib.Core.Path.{_∙_}
 use borrow.Author.Needs.{needs}
 use Rattle.map.proofs.is_request.Statement.{statement}
 use Rattle.map.proofs.is_request.Tie as tie
@@ -15,21 +13,22 @@ use Rattle.map.proofs.is_request.Lts as lts
 use Rattle.geometry.proofs.and.Reads as and-reads
 use Rattle.geometry.proofs.le.Reads as le-reads
 
--- src/lib.rt:103:19
 le-requires : tie.Need-le-requires
 le-requires c κs = search needs
 
--- src/lib.rt:103:39
 le-requires-2 : tie.Need-le-requires-2
 le-requires-2 c κs = search needs
 
--- src/lib.rt:103:5
 and-requires : tie.Need-and-requires
 and-requires c κs = search needs
 
--- src/lib.rt:99:1
 returns : tie.Need-returns
-returns c = let b : toZ w32 (ofZ w32 (c .before .before .before .before .args .q .kind)) ≡ c .before .before .before .before .args .q .kind = search needs in c .and .ensures ∙ ap₂ _&&_ (c .before .before .le .ensures) (c .before .le2 .ensures) ∙ ap (λ (k : ℤ). leZ (pos 1) k && leZ k (pos 4)) b ∙ four-kinds (c .before .before .before .before .args .q)
+returns c =
+    let least = c .before .before in
+    let q = least .before .before .args .q in
+    let told : toZ w32 (ofZ w32 (q .kind)) ≡ q .kind = search needs in
+    c .and .ensures ∙ ap₂ _&&_ (least .le .ensures) (c .before .le2 .ensures)
+    ∙ ap (λ (k : ℤ). leZ (pos 1) k && leZ k (pos 4)) told ∙ four-kinds q
 
 pub is-request-spec : {M : Type 1} → statement M
 is-request-spec = tie.close (tie.spec le-requires le-requires-2 and-requires returns)

@@ -7,15 +7,12 @@ use Rattle.map.proofs.lengths_fit.Reads as reads
 use Rattle.map.proofs.lengths_fit.Lts as lts
 use Rattle.pool.proofs.valid_length.Reads as valid-length-reads
 
--- src/lib.rt:71:9
 valid-length-requires : tie.Need-valid-length-requires
 valid-length-requires c κs = search needs
 
--- src/lib.rt:72:9
 returns : tie.Need-returns
 returns c = let e = sym (c .before .valid-length .ensures) ∙ not-true _ (c .if1 .taken) in rw e
 
--- src/lib.rt:68:1
 returns-2 : tie.Need-returns-2
 returns-2 c = let e = sym (c .before .valid-length .ensures) ∙ not-false _ (c .if1 .left) in rw e
 

@@ -5,11 +5,9 @@ use Rattle.map.proofs.lists_fit.Tie as tie
 use Rattle.map.proofs.lists_fit.Reads as reads
 use Rattle.map.proofs.lists_fit.Lts as lts
 
--- src/lib.rt:62:9
 returns : tie.Need-returns
 returns c = rw (lt-ltb 1024 (c .before .args .requests) (c .if1 .taken))
 
--- src/lib.rt:58:1
 returns-2 : tie.Need-returns-2
 returns-2 c = rw (le-ltb 1024 (c .before .args .requests) (omega (arith, c .if1 .left)))
 

@@ -13,37 +13,69 @@ use Rattle.map.proofs.lengths_fit.Reads as lengths-fit-reads
 use Rattle.map.proofs.lists_fit.Reads as lists-fit-reads
 use Rattle.sound.proofs.sound.Reads as sound-reads
 
--- src/lib.rt:81:9
 lists-fit-requires : tie.Need-lists-fit-requires
 lists-fit-requires c κs = search needs
 
--- src/lib.rt:82:9
 lengths-fit-requires : tie.Need-lengths-fit-requires
 lengths-fit-requires c κs = search needs
 
--- src/lib.rt:84:9
+-- the lists do not fit
 returns : tie.Need-returns
-returns c = sym (bad-lists (c .before .before .before .args .pool .now) (c .before .before .before .args .workspace) (c .before .before .before .args .requests) (c .before .before .before .args .answers) (c .before .before .before .args .asked) (sym (c .before .before .lists-fit .ensures) ∙ c .if1 .taken))
+returns c =
+    let lists = c .before .before in
+    let given = lists .before .args in
+    sym (bad-lists (given .pool .now) (given .workspace) (given .requests) (given .answers) (given .asked)
+    (sym (lists .lists-fit .ensures) ∙ c .if1 .taken))
 
--- src/lib.rt:87:9
+-- the lengths do not
 returns-2 : tie.Need-returns-2
-returns-2 c = sym (bad-length (c .before .before .before .before .args .pool .now) (c .before .before .before .before .args .workspace) (c .before .before .before .before .args .requests) (c .before .before .before .before .args .answers) (c .before .before .before .before .args .asked) (sym (c .before .before .before .lists-fit .ensures) ∙ c .before .if1 .left) (sym (c .before .before .lengths-fit .ensures) ∙ c .if2 .taken))
+returns-2 c =
+    let lengths = c .before .before in
+    let lists = lengths .before in
+    let given = lists .before .args in
+    sym (bad-length (given .pool .now) (given .workspace) (given .requests) (given .answers) (given .asked)
+    (sym (lists .lists-fit .ensures) ∙ c .before .if1 .left) (sym (lengths .lengths-fit .ensures) ∙ c .if2 .taken))
 
--- src/lib.rt:89:9
 sound-requires : tie.Need-sound-requires
-sound-requires c κs = right-first (validLength (c .before .before .before .before .args .pool .now)) (eqb (c .before .before .before .before .args .workspace) (length (c .before .before .before .before .args .pool .now))) (sym (c .before .before .lengths-fit .ensures) ∙ c .if2 .left)
+sound-requires c κs =
+    let lengths = c .before .before in
+    let given = lengths .before .before .args in
+    right-first (validLength (given .pool .now)) (eqb (given .workspace) (length (given .pool .now))) (sym (lengths .lengths-fit .ensures) ∙ c .if2 .left)
 
--- src/lib.rt:90:9
+-- the pool is not sound
 returns-3 : tie.Need-returns-3
-returns-3 c = sym (not-sound (c .before .before .before .before .before .before .args .pool .now) (c .before .before .before .before .before .before .args .workspace) (c .before .before .before .before .before .before .args .requests) (c .before .before .before .before .before .before .args .answers) (c .before .before .before .before .before .before .args .asked) (sym (c .before .before .before .before .before .lists-fit .ensures) ∙ c .before .before .before .if1 .left) (sym (c .before .before .before .before .lengths-fit .ensures) ∙ c .before .before .if2 .left) (sym (c .before .sound .ensures) ∙ not-true _ (c .if3 .taken)))
+returns-3 c =
+    let fit = c .before .before in
+    let lengths = fit .before .before in
+    let lists = lengths .before in
+    let given = lists .before .args in
+    sym (not-sound (given .pool .now) (given .workspace) (given .requests) (given .answers) (given .asked)
+    (sym (lists .lists-fit .ensures) ∙ fit .before .if1 .left) (sym (lengths .lengths-fit .ensures) ∙ fit .if2 .left)
+    (sym (c .before .sound .ensures) ∙ not-true _ (c .if3 .taken)))
 
--- src/lib.rt:93:9
+-- something that is asked is no request
 returns-4 : tie.Need-returns-4
-returns-4 c = sym (no-request (c .before .before .before .before .before .before .before .args .pool .now) (c .before .before .before .before .before .before .before .args .workspace) (c .before .before .before .before .before .before .before .args .requests) (c .before .before .before .before .before .before .before .args .answers) (c .before .before .before .before .before .before .before .args .asked) (sym (c .before .before .before .before .before .before .lists-fit .ensures) ∙ c .before .before .before .before .if1 .left) (sym (c .before .before .before .before .before .lengths-fit .ensures) ∙ c .before .before .before .if2 .left) (sym (c .before .before .sound .ensures) ∙ not-false _ (c .before .if3 .left)) (not-true _ (c .if4 .taken)))
+returns-4 c =
+    let is-sound = c .before in
+    let fit = is-sound .before .before in
+    let lengths = fit .before .before in
+    let lists = lengths .before in
+    let given = lists .before .args in
+    sym (no-request (given .pool .now) (given .workspace) (given .requests) (given .answers) (given .asked)
+    (sym (lists .lists-fit .ensures) ∙ fit .before .if1 .left) (sym (lengths .lengths-fit .ensures) ∙ fit .if2 .left)
+    (sym (is-sound .before .sound .ensures) ∙ not-false _ (is-sound .if3 .left)) (not-true _ (c .if4 .taken)))
 
--- src/lib.rt:78:1
+-- nothing refuses
 returns-5 : tie.Need-returns-5
-returns-5 c = sym (none-refuses (c .before .before .before .before .before .before .before .args .pool .now) (c .before .before .before .before .before .before .before .args .workspace) (c .before .before .before .before .before .before .before .args .requests) (c .before .before .before .before .before .before .before .args .answers) (c .before .before .before .before .before .before .before .args .asked) (sym (c .before .before .before .before .before .before .lists-fit .ensures) ∙ c .before .before .before .before .if1 .left) (sym (c .before .before .before .before .before .lengths-fit .ensures) ∙ c .before .before .before .if2 .left) (sym (c .before .before .sound .ensures) ∙ not-false _ (c .before .if3 .left)) (not-false _ (c .if4 .left)))
+returns-5 c =
+    let is-sound = c .before in
+    let fit = is-sound .before .before in
+    let lengths = fit .before .before in
+    let lists = lengths .before in
+    let given = lists .before .args in
+    sym (none-refuses (given .pool .now) (given .workspace) (given .requests) (given .answers) (given .asked)
+    (sym (lists .lists-fit .ensures) ∙ fit .before .if1 .left) (sym (lengths .lengths-fit .ensures) ∙ fit .if2 .left)
+    (sym (is-sound .before .sound .ensures) ∙ not-false _ (is-sound .if3 .left)) (not-false _ (c .if4 .left)))
 
 pub refusal-spec : {M : Type 1} → statement M
 refusal-spec =

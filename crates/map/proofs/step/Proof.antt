@@ -6,15 +6,12 @@ use Rattle.map.proofs.step.Tie as tie
 use Rattle.map.proofs.step.Reads as reads
 use Rattle.map.proofs.step.Lts as lts
 
--- src/lib.rt:175:16
 add-done : tie.Need-add-done
 add-done c = search needs
 
--- src/lib.rt:176:18
 add-filled : tie.Need-add-filled
 add-filled c = search needs
 
--- src/lib.rt:167:1
 returns : tie.Need-returns
 unfolding stepOf
 returns c = refl
