@@ -11,7 +11,7 @@ use Rattle.rules.specs.Geometry.{valid, area, enlargement}
 use Rattle.rules.specs.Choose.{rectFrom}
 use Rattle.choose.specs.declared.Best.{Best}
 
--- there is one at least, and all are valid
+-- there is at least one, and all are valid
 pub record Choosable (rs : List Rect) : Type 0 where
   pub some : 0 < length rs
   pub ok : (i : ℕ) → i < length rs → valid (rectFrom rs i) ≡ true

@@ -65,7 +65,7 @@ module _ {w₀ : List ℤ} {es : List Entry} {ls : List ℕ} {n : ℕ} {w : List
     pub next-level : getD ls (n - m) 0 ≤ read w .height
     next-level = omega (arith, next-waits .low next (List·Memᴰ·head refl))
 
-    -- (what stands behind the last place is no matter)
+    -- (what comes after the last place does not matter)
     there : (d : Entry) → getD es (n - m) d ≡ getD es (n - m) noEntry
     there d = getD-any es (n - m) d noEntry (omega (arith, t .most, t .few, t .entries))
 

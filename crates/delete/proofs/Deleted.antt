@@ -64,7 +64,7 @@ pub record ToDelete (w₀ : List ℤ) (r : Record) (way : Way) : Type 0 where
   pub found : way .found ≡ true
   pub shows : Gives (pathTo (read w₀) r) (read w₀ .height) way
 
--- .. and w₁ is w₀ with a record counted off, h its height
+-- .. and w₁ is w₀ with one record fewer in the count, h its height
 pub record CountedOff (w₀ : List ℤ) (h : ℕ) (w₁ : List ℤ) : Type 0 where
   pub level : h ≡ read w₀ .height
   pub less : read w₁ ≡ putRecords (read w₀) (read w₀ .records - 1)
@@ -101,7 +101,7 @@ module _ {w₀ : List ℤ} {r : Record} {way : Way} (g : ToDelete w₀ r way) wh
   pub records-small : p .records ≤ 2147483647
   records-small = omega (arith, records-few w₀ (g .fit .right) (g .whole))
 
-  -- the pair is counted off
+  -- the count goes down by one
   module _ {h : ℕ} {w₁ : List ℤ} (u : CountedOff w₀ h w₁) where
     pub down-way : ComesDown (read w₁) h way
     unfolding putRecords

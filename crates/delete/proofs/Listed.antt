@@ -39,7 +39,7 @@ module _ (es : List Entry) (ls : List ℕ) where
       (listed-snoc (suc k) n
       ∙ ap (λ (j : ℕ). asidesFrom es ls (suc k) n ++ aside (getD ls j 0) (getD es j noEntry) ∷ []) e)
 
--- what stands at later places does not count
+-- what is at later places does not count
 listed-set : (es : List Entry) (ls : List ℕ) (j : ℕ) (e : Entry) (l : ℕ) (k n : ℕ) → k + n ≤ j
     → asidesFrom (set es j e) (set ls j l) k n ≡ asidesFrom es ls k n
 unfolding asidesFrom
@@ -49,7 +49,7 @@ listed-set es ls j e l k (suc n) h =
     (ap₂ aside (getD-set-other ls j k l 0 (λ q. omega (arith, q))) (getD-set-other es j k e noEntry (λ q. omega (arith, q))))
     (listed-set es ls j e l (suc k) n (omega arith))
 
--- one more is written behind the last
+-- one more is written after the last
 listed-put : (es : List Entry) (ls : List ℕ) (n : ℕ) (e : Entry) (l : ℕ) → n < length es → n < length ls
     → asidesFrom (set es n e) (set ls n l) 0 (suc n) ≡ asidesFrom es ls 0 n ++ aside l e ∷ []
 listed-put es ls n e l h m =
@@ -61,7 +61,7 @@ listed-put es ls n e l h m =
 
 -- ---- those of a node, a turn for each
 
--- the first k of the node's entries are set aside, behind those before
+-- the first k of the node's entries are set aside, after those before
 pub record Setting (all : List Entry) (level : ℕ) (es₀ : List Entry) (ls₀ : List ℕ) (count n : ℕ) (es : List Entry) (ls : List ℕ) (k : ℕ) : Type 0 where
   pub size : n ≡ length all
   pub most : k ≤ n

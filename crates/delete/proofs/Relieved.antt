@@ -42,7 +42,7 @@ child-leads {p} c =
 -- ---- what is known of the free slots
 
 module _ (p : Pool) (f : FreeSlots) (k : Known p f) where
-  -- a node in use has its entries anew
+  -- the entries of a node in use are written again
   entries-known : (s : SlotNumber) → Slot p s → nodeAt p s .level ≢ 0 → (es : List Entry) → Known (putEntries p s es) f
   unfolding putEntries
   entries-known s h u es = known-put p f k s (h .low) (h .high) u (node (nodeAt p s .level) es) u

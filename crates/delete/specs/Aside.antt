@@ -29,7 +29,7 @@ asidesFrom es ls k (suc n) = record { level = getD ls k 0; entry = getD es k noE
 abbrev pub asidesOf : Asides → List Aside
 asidesOf a = asidesFrom (a .entries) (a .levels) 0 (a .count)
 
--- .. with the slot t known to be free besides
+-- .. with the slot t also known to be free
 abbrev pub withFree : Asides → SlotNumber → Asides
 withFree a t = record { entries = a .entries; levels = a .levels; count = a .count; free = moreSlot (a .free) t }
 

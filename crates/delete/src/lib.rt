@@ -1,4 +1,4 @@
-// Delete: the pair goes out of its leaf, CondenseTree goes up the way that FindLeaf came down, and what was set aside goes in again.
+// Delete: the pair is taken out of its leaf, CondenseTree goes up the way that FindLeaf came down, and what was set aside is put in again.
 ghost use mathlib.Core.Path.{_≡_};
 ghost use mathlib.Core.Bool.{true};
 ghost use mathlib.Core.List.{[], _++_};
@@ -26,7 +26,7 @@ use rules::Record;
 use rules::SlotNumber;
 
 // What CondenseTree has in hand on its way up: the entries set aside, each with the level of the node that it was in, and what is known of
-// the free slots. A node that leaves has two entries at most, and 7 levels at most lie below the root.
+// the free slots. A node that leaves has at most two entries, and there are at most 7 levels below the root.
 struct Asides {
     entries: [Entry; 14],
     levels: [usize; 14],
@@ -51,7 +51,7 @@ fn close_up(entries: [Entry; 9], i: usize, n: usize) -> [Entry; 9]
     es
 }
 
-// An entry goes out of its node. "Later entries close up; the freed place is zeroed."
+// An entry is taken out of its node. "Later entries close up; the freed place is zeroed."
 fn take_out(pool: &mut [i32], s: SlotNumber, i: usize)
     requires { ⌜ Fit (now pool) ⌝ }
     requires { ⌜ Rewritable (L.read (now pool)) s ⌝ }
@@ -77,7 +77,7 @@ fn zero_slot(pool: &mut [i32], s: SlotNumber)
     pool::put_node(pool, s, 0, none, 0);
 }
 
-// "its entries are set aside", behind those of the levels below, each with its node's level.
+// "its entries are set aside", after those of the levels below, each with its node's level.
 fn set_aside(pool: &[i32], t: SlotNumber, level: usize, asides: Asides) -> Asides
     requires { ⌜ InPool (now pool) t ⌝ }
     requires { ⌜ level ≡ P.nodeAt (L.read (now pool)) t .level ⌝ }
@@ -106,7 +106,7 @@ fn set_aside(pool: &[i32], t: SlotNumber, level: usize, asides: Asides) -> Aside
     }
 }
 
-// One slot more is known to be free.
+// One more slot is known to be free.
 fn with_free(asides: Asides, t: SlotNumber) -> Asides
     requires { ⌜ asides .free .count ≤ 4096 ⌝ }
     ensures { λ r. ⌜ r ≡ withFree asides t ⌝ }
@@ -232,8 +232,8 @@ fn shorten(pool: &mut [i32], free: FreeSlots) -> FreeSlots
     free
 }
 
-// D1 to D4 for a pair that is held, by the way that FindLeaf found to it. Where it is refused, the pool is left half done, and the caller
-// writes it over: a caller who cannot know that the slots suffice keeps a copy.
+// D1 to D4 for a pair that is held, by the way that FindLeaf found to it. Where this is refused, the pool is left half done, and the caller
+// writes over it: a caller that cannot know that there are enough slots keeps a copy.
 pub fn delete_record(pool: &mut [i32], r: Record, way: Way, free: FreeSlots) -> Outcome
     requires { ⌜ Fit (now pool) ⌝ }
     requires { ⌜ Whole (L.read (now pool)) ⌝ }

@@ -93,7 +93,7 @@ module _ (p : Pool) (w : Standing p []) (two : 2 ≤ p .height → 2 ≤ length 
   records-now : treeRecords q ≡ recordsIn q (p .height) (p .root)
   records-now i = recordsIn q (g .head .height i) (g .head .root i)
 
-  -- how often a slot stands in the tree, and how many of its records a test holds of
+  -- how often a slot occurs in the tree, and how many of its records a test holds for
   shrunk-times : (t : SlotNumber) → times t (treeSlots q) + times t (slotsAside q (x .setAside)) + times t (g .freed) ≡ times t (treeSlots p)
   shrunk-times t =
       omega (

@@ -1,4 +1,4 @@
--- A record goes out of a whole pool, and the pool is whole again: nothing is lost but the pair. With slots enough it is never refused.
+-- A record goes out of a whole pool, and the pool is whole again: nothing is lost but the pair. With enough slots it is never refused.
 use mathlib.Core.Path.{_≡_, refl, sym, ap, subst, _∙_}
 use mathlib.Core.Logic.{_≢_}
 use mathlib.Core.Bool.{Bool, true, false}
@@ -135,7 +135,7 @@ module _ (c : Choice) where
         (each-short (PutBack (out .pool) (out .setAside)) (Deleted p r) now-deleted (reinsert c (out .pool) (out .setAside))
         (reinsert-puts c lawful (out .setAside) (out .pool) waiting))
 
-    -- .. and is sure to be, with slots enough
+    -- .. and is sure to be, with enough slots
     room-short : (q : Pool) → PutBack (out .pool) (out .setAside) q → SlotRoom (out .pool) (length (out .setAside)) q
         → SlotRoom p (2 * (p .height - 1)) (shorten q)
     unfolding putRecords
@@ -203,7 +203,7 @@ module _ (c : Choice) where
               rw (delete-found way h)
               (back-deleted lawful p w r way (subst (EachWay (Leads p r (p .height) (p .root))) h (find-leads p r (p .height) (p .root))))
 
-      -- with slots enough a delete is done, and leaves as many
+      -- with enough slots a delete is done, and leaves as many
       pub delete-room : Lawful c → deleteRoom (p .height) ≤ freeCount p → Sure (SlotRoom p (2 * (p .height - 1))) (deleteRecord c p r)
       delete-room lawful room = go (pathTo p r) refl
         where
@@ -216,7 +216,7 @@ module _ (c : Choice) where
       pub delete-fits : Lawful c → deleteRoom (p .height) ≤ freeCount p → deleteRecord c p r ≢ NoneFree
       delete-fits lawful room e = subst (Sure (SlotRoom p (2 * (p .height - 1)))) e (delete-room lawful room)
 
--- what is so of the pool that a change leaves, where it leaves one
+-- what is true of the pool that a change leaves, where it leaves one
 pub pool-left : (P : Pool → Type 0) (o : Change) → ((q : Pool) → o ≡ Done q → P q) → EachPool P o
 pool-left P (Done q) h = h q refl
 pool-left P NoneFree h = tt

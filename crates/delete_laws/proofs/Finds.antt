@@ -29,7 +29,7 @@ use Rattle.delete_laws.proofs.Clauses.{entry-none, entry-yes, entry-no,
 -- ---- FL2, in a leaf
 
 module _ (r : Record) (s : SlotNumber) where
-  -- the pair stands in the leaf at the place given
+  -- the pair is in the leaf at the place given
   abbrev Here : ℕ → List Entry → Path → Type 0
   Here i es way = (k : ℕ) × (way ≡ place s (i + k) ∷ []) × (k < length es) × (recordOf (entryFrom es k) ≡ r)
 

@@ -68,7 +68,7 @@ module _ (c : Choice) (p : Pool) (old : Record) (new : Rect) where
     pub update-sound : soundPool z ≡ true
     update-sound = whole-sound z update-whole
 
-  -- with slots enough an update is done: those of a delete, and one for each level that the tree may have then and one more
+  -- with enough slots an update is done: those of a delete, and one for each level that the tree may have then and one more
   module _ (lawful : Lawful c) (w : Whole p) (y : held p old ≡ true) (v : valid new ≡ true) where
     pub update-fits : deleteRoom (p .height) + suc (p .height + 2 * (p .height - 1)) ≤ freeCount p → updateRecord c p old new ≢ NoneFree
     unfolding deleteRoom

@@ -19,7 +19,7 @@ use Rattle.insert_laws.proofs.Counts.{countOf}
 abbrev pub condensed : Pool → List Aside → Condensed
 condensed p xs = record { pool = p; setAside = xs }
 
--- what stands under entries set aside
+-- what is below entries that are set aside
 unfoldable pub slotsAside : Pool → List Aside → List SlotNumber
 slotsAside p xs = joined (map (λ (a : Aside). slotsUnder p (a .level) (a .entry)) xs)
 
@@ -27,8 +27,8 @@ unfoldable pub weightAside : Weights → Pool → List Aside → ℕ
 weightAside w p xs = total (map (λ (a : Aside). weightUnder w p (a .level) (a .entry)) xs)
 
 -- the tree of l levels at s, less the pair r, is what d has there, and what it has set aside from lower levels; the slots `freed` are zero,
--- one at most of each level below the top, and each had two entries at most; a slot that is none of the tree's is as it was. The top has
--- one entry less, or as many as before
+-- at most one of each level below the top, and each had at most two entries; a slot outside the tree is as it was. The top has one entry
+-- fewer, or as many as before
 pub record Shrunk (p : Pool) (l : ℕ) (s : SlotNumber) (r : Record) (d : Condensed) : Type 0 where
   pub freed : List SlotNumber
   pub tree : Tree (d .pool) l s
@@ -68,7 +68,7 @@ pub record Shortened (p q : Pool) : Type 0 where
   pub records : q .records ≡ p .records
   pub count : (f : Record → Bool) → length (those f (treeRecords q)) ≡ length (those f (treeRecords p))
 
--- p less the pair r is q: whole, and every test holds of as many of its records and of the pair as before
+-- p less the pair r is q: whole, and every test holds for as many of its records, with the pair, as before
 pub record Deleted (p : Pool) (r : Record) (q : Pool) : Type 0 where
   pub whole : Whole q
   pub stored : (f : Record → Bool) → length (those f (stored q)) + length (those f (r ∷ [])) ≡ length (those f (stored p))
@@ -83,11 +83,11 @@ abbrev pub Sure : (Pool → Type 0) → Change → Type 0
 Sure Good (Done q) = Good q
 Sure Good NoneFree = ⊥
 
--- n entries put into a tree of h levels: each takes a slot for each level and one more at most, and the tree grows by a level at most
+-- n entries put into a tree of h levels: each takes at most a slot for each level and one more, and the tree grows by at most one level
 unfoldable pub roomFor : ℕ → ℕ → ℕ
 roomFor n h = n * (h + n)
 
--- after them the tree is so high at most, and so many slots are left at least
+-- after them the tree is at most so high, and at least so many slots are left
 pub record SlotRoom (p : Pool) (n : ℕ) (q : Pool) : Type 0 where
   pub high : q .height ≤ p .height + n
   pub left : freeCount p ≤ freeCount q + roomFor n (p .height)

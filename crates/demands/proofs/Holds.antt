@@ -37,7 +37,7 @@ module _ (w : List ℤ) where
   unfolding blank
   blank-left h = rw (h, blank)
 
-  -- a blank pool where it is accepted, and else the words as they were
+  -- a blank pool where it is accepted, otherwise the words as they were
   pub blank-cases : (P : Blanked → Type 0) → P (record { number = 0; pool = words (blankPool (slotCount w - 1)) }) → P (record { number = 1; pool = w }) → P (blank w)
   blank-cases P done left = go (validLength w) refl
     where
@@ -45,7 +45,7 @@ module _ (w : List ℤ) where
       go true h = subst P (sym (blank-done h)) done
       go false h = subst P (sym (blank-left h)) left
 
--- ---- what a call leaves that is refused
+-- ---- what a refused call leaves
 
 module _ (l : Lent) where
   call-is : call l ≡ callBy ours l

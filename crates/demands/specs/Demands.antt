@@ -1,4 +1,4 @@
--- The customer's three demands, of every outcome that the promise of `dustmap_call` allows.
+-- The customer's three demands, about every outcome that the promise of `dustmap_call` allows.
 use mathlib.Core.Path.{_≡_}
 use mathlib.Core.Logic.{_≢_}
 use mathlib.Core.Bool.{true}
@@ -56,8 +56,8 @@ pub record Ends (l : Lent) : Type 0 where
   pub only : (o : Left) → Allowed l o → o ≡ outcome
 
 -- "Bad input gets the numbered refusal of document 01 under exactly the conditions given there.": a call is refused by the first row of its
--- table that applies, and then writes nothing, and else it returns 0; each of its requests is answered by the first row of its own table
--- that applies, and else as accepted. "A refused change leaves the pool as it found it."
+-- table that applies, and then writes nothing; otherwise it returns 0. Each of its requests is answered by the first row of its own table
+-- that applies; otherwise it is accepted. "A refused change leaves the pool as it found it."
 pub record Refuses (l : Lent) (o : Left) : Type 0 where
   pub refused : (v : Verdict) → callFault l ≡ some v → (o .number ≡ verdictNumber v) × Untouched l o
   pub served : callFault l ≡ none → o .number ≡ pos 0

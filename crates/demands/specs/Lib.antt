@@ -1,3 +1,3 @@
--- Histories of one pool, and the customer's three demands of them.
+-- Histories of one pool, and the customer's three demands about them.
 pub mod Steps
 pub mod Demands

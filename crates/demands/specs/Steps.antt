@@ -14,7 +14,8 @@ use Rattle.rules.specs.Call.{Lent, Left}
 use Rattle.in_force_laws.specs.Force.{forceAfter}
 use Rattle.map.specs.Asking.{Allowed}
 
--- what `dustmap_blank` promises, of the words lent and of what it returns and leaves. (What `dustmap_call` promises is `Allowed` of crate map)
+-- what `dustmap_blank` promises about the words lent and what it returns and leaves. (What `dustmap_call` promises is `Allowed` of crate
+-- map)
 pub record Blanks (w : List ℤ) (b : Blanked) : Type 0 where
   pub number : b .number ≡ blank w .number
   pub pool : b .pool ≡ blank w .pool
@@ -24,7 +25,7 @@ pub data Step : Type 0 where
   Blank : Blanked → Step
   Call : Lent → Left → Step
 
--- the pool's words after the steps, the latest first in the list: at the start a blank pool of n slots and one more
+-- the pool's words after the steps, the latest first in the list: at the start a blank pool of n + 1 slots
 unfoldable pub poolAfter : ℕ → List Step → List ℤ
 poolAfter n [] = words (blankPool n)
 poolAfter n (Blank b ∷ steps) = b .pool

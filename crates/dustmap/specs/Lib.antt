@@ -1,2 +1,2 @@
--- What holds from step to step of the program.
+-- What stays true from step to step of the program.
 pub mod Running

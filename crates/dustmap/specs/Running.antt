@@ -1,4 +1,4 @@
--- What holds from step to step of the program.
+-- What stays true from step to step of the program.
 use mathlib.Core.Path.{_≡_}
 use mathlib.Core.List.{List, _++_}
 use Prim.Native.Nat.{ℕ, _+_, _*_, _-_, _≤_}
@@ -42,7 +42,7 @@ pub record Comes (before : List ℤ) (input out : List ℕ) (r : Run) (pool : Li
   pub stands : Stands pool input now s
   pub keeps : (arrived printed : List ℕ) → Claims before input out r arrived printed → Claims pool input now s arrived printed
 
--- what is so of each way on. At a bad frame the output holds all that is to be printed, whatever comes
+-- what is true of each way on. At a bad frame the output holds all that is to be printed, whatever comes
 unfoldable pub Onward : List ℤ → List ℕ → List ℕ → Run → List ℤ → List ℕ → Then → Type 0
 Onward before input out r pool now (Goes s) = Comes before input out r pool now s
 Onward before input out r pool now (Waits s) = Comes before input out r pool now s × (framed (heldIn input s) ≡ F.Waits)
@@ -59,7 +59,7 @@ pub record Replies (pool : List ℤ) (q : Request) (before : ℕ) (out : List �
   pub wrote : Wrote out at (replyShown before pool q) now filled
   pub short : filled ≤ at + 7124
 
--- all is as it was but that nothing waits to be written
+-- all is as it was, except that nothing waits to be written
 pub record Flushed (r s : Run) : Type 0 where
   pub before : s .before ≡ r .before
   pub free : s .free ≡ r .free

@@ -26,11 +26,11 @@ const WORDS: usize = pool::HEAD_SIZE + pool::SLOT_SIZE * 128;
 // The lines of one frame take no more bytes of the output than this.
 const ROOM: usize = 7124;
 
-// No run has as many frames.
+// No run has this many frames.
 const FRAMES: u64 = 18446744073709551615;
 
-// How far the run is: so many frames came before, the bytes of the input from `at` up to `end` are not done, and the first `filled` of
-// the output are not written.
+// How far the run has come: so many frames came before, the bytes of the input from `at` up to `end` are not done, and the first `filled`
+// of the output are not written.
 struct Run {
     before: u64,
     free: FreeSlots,

@@ -1,5 +1,5 @@
--- FindLeaf a step at a time, as the code goes: over the entries of a node from a place on, and below one entry. Each step is a clause of the
--- definitions at the entry that stands at the place.
+-- FindLeaf a step at a time, as the code goes: over the entries of a node from a place on, and below one entry. Each step is a clause of
+-- the definitions at the entry that is at the place.
 use mathlib.Core.Path.{_≡_, refl}
 use mathlib.Core.Bool.{Bool, true, false}
 use mathlib.Core.List.{List, [], _∷_}

@@ -18,6 +18,6 @@ findEntryFrom p r s i = findEntry r s i (drop i (entriesAt p s))
 unfoldable pub findChildFrom : Pool → Record → ℕ → SlotNumber → ℕ → Option Path
 findChildFrom p r level s i = findChild (λ t. findLeaf p r level t) (r .rect) s i (drop i (entriesAt p s))
 
--- .. and below one entry: only a child whose rectangle meets the pair's is gone into
+-- .. and below one entry: it goes only into a child whose rectangle meets the pair's
 unfoldable pub findBelow : Pool → Record → ℕ → Entry → Option Path
 findBelow p r level e = elim (meets (e .rect) (r .rect)) [ true ↦ findLeaf p r level (childOf e) | false ↦ none ]

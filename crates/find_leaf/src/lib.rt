@@ -1,5 +1,5 @@
-// FindLeaf, over any words of a valid length: the way down to the first exact pair. The node function calls the entries function, that calls
-// the function of one entry, and that calls the node function; the level and the entries left fall.
+// FindLeaf, over any words of a valid length: the way down to the first exact pair. The node function calls the entries function, which
+// calls the function of one entry, which calls the node function again; the level and the entries left fall.
 ghost use mathlib.Core.Path.{_≡_};
 ghost use mathlib.Core.Bool.{true};
 ghost use mathlib.Core.List.{_∷_};
@@ -35,7 +35,7 @@ fn nowhere() -> Way
     }
 }
 
-// The way w, which goes on below the level given, with place i of the node at s ahead of it.
+// The way w, which goes on below the level given, with place i of the node at s in front of it.
 fn placed(w: Way, level: usize, s: SlotNumber, i: usize) -> Way
     requires { ⌜ Long w ⌝ }
     requires { ⌜ 1 ≤ level ⌝ }
@@ -72,7 +72,7 @@ fn find_entry(pool: &[i32], r: Record, s: SlotNumber, i: usize, n: usize) -> Way
     find_entry(pool, r, s, i + 1, n)
 }
 
-// FindLeaf from the node at s on, which has the level given.
+// FindLeaf from the node at s down, which has the level given.
 fn find_in(pool: &[i32], r: Record, level: usize, s: SlotNumber) -> Way
     requires { ⌜ L.validLength (now pool) ≡ true ⌝ }
     requires { ⌜ level ≤ 8 ⌝ }
@@ -106,7 +106,7 @@ fn find_from(pool: &[i32], r: Record, below: usize, s: SlotNumber, i: usize, n: 
     find_from(pool, r, below, s, i + 1, n)
 }
 
-// FL1: .. below the entry at place i alone. Only a child whose rectangle meets the pair's is gone into; the pointer of any other is not
+// FL1: .. below the entry at place i alone. It goes only into a child whose rectangle meets the pair's; the pointer of any other is not
 // read.
 fn find_below(pool: &[i32], r: Record, below: usize, s: SlotNumber, i: usize) -> Way
     requires { ⌜ L.validLength (now pool) ≡ true ⌝ }

@@ -1,4 +1,4 @@
--- What a program that reads its input piece by piece has to keep so that it prints what `dustmap` says of the whole.
+-- What a program that reads its input piece by piece has to keep true, so that it prints what `dustmap` gives for the whole input.
 use mathlib.Core.Path.{_≡_}
 use mathlib.Core.List.{List, [], _∷_, _++_}
 use Prim.Native.Nat.{ℕ, suc, _≤_}

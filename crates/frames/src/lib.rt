@@ -84,9 +84,9 @@ pub fn rect_at(bytes: &[u8], at: usize) -> Rect
 
 // ---- frames
 
-// What the bytes that are here show of the frame that they begin.
+// What the bytes that have arrived show about the frame that they begin.
 pub enum Framed {
-    // All of it is here: what it asks, and its bytes counted.
+    // All of it is here: what it asks, and how many bytes it has.
     Asks { request: Request, size: usize },
     // Its end, or all of it, has yet to come.
     Waits,
@@ -193,8 +193,8 @@ fn request_in(bytes: &[u8], kind: u64) -> Request
     }
 }
 
-// Reads the frame that the bytes begin: "two bytes length of what follows, two bytes kind, then signed 32-bit words". A length that no
-// kind has is bad before its kind is here, and so is a kind of another length before its words are.
+// Reads the frame that the bytes begin: "two bytes length of what follows, two bytes kind, then signed 32-bit words". A length that no kind
+// has is bad before the kind has arrived, and so is a kind with another length, before its words have.
 pub fn read_frame(bytes: &[u8]) -> Framed
     ensures { λ r. ⌜ r ≡ framed (now (bytes .entry)) ⌝ }
 {
@@ -243,7 +243,7 @@ fn put_number(out: &mut [u8], at: usize, n: u64) -> usize
     last + 1
 }
 
-// A number and the byte that parts it from the next field or ends the line.
+// A number and the byte that separates it from the next field or ends the line.
 fn put_field(out: &mut [u8], at: usize, n: u64, after: u8) -> usize
     requires { ⌜ at + 21 ≤ length (now out) ⌝ }
     ensures wrote { λ r. ⌜ Wrote (now (out .entry)) at (F.natShown n ++ after ∷ []) (now (out .exit)) r ⌝ }
@@ -323,7 +323,7 @@ fn listed_of(answer: Answer) -> usize
     64
 }
 
-// What is printed of a call: the line of its answer, and a line for each record that it lists.
+// What is printed for a call: the line of its answer, and a line for each record that it lists.
 pub fn reply_lines(
     out: &mut [u8],
     at: usize,
@@ -359,7 +359,8 @@ pub fn bad_line(out: &mut [u8], at: usize, before: u64) -> usize
 
 // ---- the bytes that wait
 
-// Moves the bytes from `at` up to `end`, which begin a frame whose end has yet to come, to the start of the buffer. Gives how many they are.
+// Moves the bytes from `at` up to `end`, which begin a frame whose end has yet to come, to the start of the buffer. Gives how many there
+// are.
 pub fn keep_rest(buffer: &mut [u8], at: usize, end: usize) -> usize
     requires { ⌜ (at ≤ end) × (end ≤ length (now buffer)) ⌝ }
     ensures { λ r. ⌜ r ≡ end - at ⌝ }

@@ -51,7 +51,7 @@ fn one_if_free(pool: &[i32], s: SlotNumber) -> usize
     if pool::level_of(pool, s) == 0 { 1 } else { 0 }
 }
 
-// How many slots are free; none, at "a moment when none is free".
+// How many slots are free; 0 at "a moment when none is free".
 pub fn free_count(pool: &[i32]) -> usize
     requires { ⌜ L.validLength (now pool) ≡ true ⌝ }
     ensures { λ r. ⌜ r ≡ P.freeCount (L.read (now (pool .entry))) ⌝ }
@@ -78,7 +78,7 @@ pub fn free_slots(pool: &[i32]) -> FreeSlots
     }
 }
 
-// "the lowest free slot", looked for from the slot on below which none is known to be free.
+// "the lowest free slot". The search starts at the slot below which, as is known, none is free.
 pub fn lowest(pool: &[i32], free: FreeSlots) -> FreeSlot
     requires { ⌜ L.validLength (now pool) ≡ true ⌝ }
     requires { ⌜ Known (L.read (now pool)) free ⌝ }

@@ -86,7 +86,7 @@ size-grows g h = mul-le-mul (omega arith) (omega arith)
 
 -- ---- carried over
 
--- what is so of two numbers in range by their order
+-- what is true of two numbers in range by their order
 by-order : (C : Bool → Type 0) (a b : ℤ) → inRange a ≡ true → inRange b ≡ true → (off a ≤ off b → C true) → (off b < off a → C false) → C (leZ a b)
 by-order C a b h k first second = go (leZ a b) refl
   where

@@ -1,5 +1,5 @@
 -- `less_then` of two comparisons is `lessThen` of what is compared: coordinates, measures or counts, each by the number that it stands for.
--- And one of two things by a test: what is so of both is so of it.
+-- And one of two things by a test: what is true of both is true of it.
 use mathlib.Core.Path.{_≡_, refl, ap, ap₂, _∙_}
 use mathlib.Core.Bool.{Bool, true, false, cond, not, _&&_, _||_}
 use lib.IntN.{ℤ}

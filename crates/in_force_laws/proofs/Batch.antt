@@ -1,4 +1,4 @@
--- The requests of a batch in turn: the pool holds the records in force after each, and each search stands in the lists at the end as it was
+-- The requests of a batch in turn: the pool holds the records in force after each, and each search is in the lists at the end as it was
 -- answered, for later answers go to later places and later searches fill later ones.
 use mathlib.Core.Path.{_≡_, refl, sym, subst, ap, _∙_}
 use mathlib.Core.Bool.{true}

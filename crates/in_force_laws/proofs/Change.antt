@@ -149,7 +149,7 @@ row-or-none : {X : Type 0} (fault : Option Reply) → EachGiven Refused fault �
 row-or-none none g f h = h refl
 row-or-none (some reply) g f h = f reply refl g
 
--- what is so of every turn that refuses, and of every request that is done, is so of every request
+-- what is true of every turn that refuses, and of every request that is done, is true of every request
 module _ (c : Choice) (p : Pool) (filled room : ℕ) (P : Asked → Turn → Type 0)
     (refused : (a : Asked) (reply : Reply) → Refused reply → P a (turn p reply []))
     (inserted : (r : Record) → insertFault p r ≡ none → P (Insert r) (afterChange p (insertRecord c p r)))

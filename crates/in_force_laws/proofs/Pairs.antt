@@ -1,4 +1,5 @@
--- A plain list less a pair: what is left, and the pair, are the list. So what stood once is gone, and every other stands as often as before.
+-- A plain list less a pair: what is left, and the pair, are the list. So what stood once is gone, and every other occurs as often as
+-- before.
 use mathlib.Core.Path.{_≡_, refl, ap, subst}
 use mathlib.Core.Logic.{⊎-elim}
 use mathlib.Core.Bool.{Bool, true, false, cond}

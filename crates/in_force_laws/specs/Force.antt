@@ -14,7 +14,7 @@ use Rattle.rules.specs.Geometry.{samePair}
 use Rattle.rules.specs.Answers.{answer}
 use Rattle.rules.specs.Request.{asked}
 
--- the list less the pair, once
+-- the list with the pair taken out once
 unfoldable pub lessPair : Record → List Record → List Record
 lessPair r [] = []
 lessPair r (x ∷ xs) = cond (samePair r x) xs (x ∷ lessPair r xs)
@@ -43,7 +43,8 @@ forceAfter rs i (q ∷ qs) told = forceAfter (forceBy rs (asked q) (getD told i 
 
 -- ---- the places filled
 
--- how many places of the found list an answer stands for: an accepted search's, and no other's ("8 reports found .. as they would have been")
+-- how many places of the found list an answer accounts for: only an accepted search fills any ("8 reports found .. as they would have
+-- been")
 unfoldable pub placesFilled : Answer → ℕ
 placesFilled told = cond (eqb (told .number) 0) (told .found) 0
 

@@ -11,7 +11,7 @@ use Rattle.rules.specs.Call.{Lent, callBy}
 use Rattle.in_force_laws.specs.Force.{forceAfter}
 
 module _ (c : Choice) where
-  -- the pool that the calls leave, the latest first in the list: at the start a blank one, of n slots and one more
+  -- the pool that the calls leave, the latest first in the list: at the start a blank one, of n + 1 slots
   unfoldable pub poolServed : ℕ → List Lent → List ℤ
   poolServed n [] = words (blankPool n)
   poolServed n (l ∷ ls) = callBy c l .pool

@@ -16,7 +16,7 @@ use Rattle.sound_laws.specs.Tree.{Whole}
 use Rattle.search_laws.specs.Window.{recordMeets, nodeMeets, otherNode}
 use Rattle.search_laws.specs.Order.{Alike}
 
--- no pair stands there twice
+-- no pair occurs there twice
 abbrev pub EachOnce : List Record → Type 0
 EachOnce rs = (x : Record) → length (those (samePair x) rs) ≤ 1
 

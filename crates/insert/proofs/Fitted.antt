@@ -1,4 +1,4 @@
--- An entry that may stand in a node has a pointer of the level's kind that a word holds, and a valid rectangle: a leaf's entry has a number
+-- An entry that may be in a node has a pointer of the level's kind that a word holds, and a valid rectangle: a leaf's entry has a number
 -- from 1 on, which no child slot is, and an inner one leads to a slot from 1 on, which no number does.
 use mathlib.Core.Path.{_≡_, refl, ap, _∙_}
 use mathlib.Core.Bool.{true}

@@ -1,4 +1,4 @@
--- Laws that the proofs of `inserting` and of the crates above it cite.
+-- Laws that the proofs of `insert` and of the crates above it cite.
 pub mod Fitted
 pub mod Nines
 pub mod Divided

@@ -1,4 +1,4 @@
--- Nine entries in an array, their rectangles, and the groups: what stands in the first places, a turn at a time.
+-- Nine entries in an array, their rectangles, and the groups: what is in the first places, a turn at a time.
 use mathlib.Core.Path.{_≡_, sym, ap, ap₂, _∙_}
 use mathlib.Core.List.{List, [], _∷_, _++_, map, map-append}
 use Prim.Native.Nat.{ℕ, suc, _+_, _≤_, _<_}
@@ -72,7 +72,7 @@ taken-more es places group i d t h nine there = record {
       );
 }
 
--- what stands at a place of it
+-- what is at a place of it
 module _ (es group : List Entry) (places : List ℕ) (n : ℕ) (long : n ≤ length places) (is : take n group ≡ map (entryFrom es) (take n places)) where
   group-at : (i : ℕ) → i < n → getD group i noEntry ≡ getD es (getD places i 0) noEntry
   unfolding entryFrom

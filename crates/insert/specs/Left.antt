@@ -1,4 +1,4 @@
--- How what the code leaves stands for what the definitions give, and what a tree must be that an entry goes into.
+-- How what the code leaves represents what the definitions give, and what a tree has to be for an entry to go into it.
 use mathlib.Core.Path.{_≡_}
 use mathlib.Core.List.{List}
 use Prim.Native.Nat.{_≤_, _<_}
@@ -22,7 +22,7 @@ pub record HoldsPool (q : Pool) (f : FreeSlots) (w : List ℤ) : Type 0 where
   pub is : read w ≡ q
   pub known : Known q f
 
--- the node that an entry came to is one node still, or two
+-- the node that was to take an entry is still one node, or two
 abbrev pub GrewTo : I.Grown → Growth → List ℤ → Type 0
 GrewTo (I.Kept q) (One f) w = HoldsPool q f w
 GrewTo (I.Kept q) (Two y f) w = ⊥

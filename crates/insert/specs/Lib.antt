@@ -1,3 +1,3 @@
--- How what the code leaves stands for what the definitions give.
+-- How what the code leaves represents what the definitions give.
 pub mod Left
 pub mod State

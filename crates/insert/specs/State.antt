@@ -18,12 +18,12 @@ use Rattle.insert_laws.specs.Grown.{Fits}
 use Rattle.insert.specs.declared.Growth.{Growth}
 use Rattle.insert.specs.declared.Growth.the-variants.{One, Two, Stuck}
 
--- nine places, of which the first n are places of nine
+-- nine numbers, of which the first n are places among the nine entries
 pub record Inside (places : List ℕ) (n : ℕ) : Type 0 where
   pub nine : length places ≡ 9
   pub inside : (k : ℕ) → k < n → getD places k 0 < 9
 
--- the node at s is the top of a tree, and the entry may stand in it
+-- the node at s is the top of a tree, and the entry may be in it
 pub record Here (p : Pool) (s : SlotNumber) (e : Entry) : Type 0 where
   pub level : ℕ
   pub tree : Tree p level s
@@ -39,7 +39,7 @@ pub record WayDown (p : Pool) (n : ℕ) (s : SlotNumber) (e : Entry) : Type 0 wh
   pub fits : Fits p level e
   pub few : n + level ≤ 64
 
--- the other entry may stand beside the root's own in a new root
+-- the other entry may be beside the root's own in a new root
 pub record Beside (p : Pool) (x : Entry) : Type 0 where
   pub slot : Slot p (p .root)
   pub few : p .height ≤ 64

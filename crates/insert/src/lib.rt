@@ -26,8 +26,8 @@ use rules::Record;
 use rules::Rect;
 use rules::SlotNumber;
 
-// What became of a node that an entry came to: it is one node still; it is two, and the partner's entry is for the parent; or there was no
-// free slot.
+// What became of a node that was to take an entry: it is still one node; it is two, and the partner's entry is for the parent; or there was
+// no free slot.
 pub enum Growth {
     One(FreeSlots),
     Two(Entry, FreeSlots),
@@ -224,7 +224,7 @@ fn new_root(pool: &mut [i32], partner: Entry, free: FreeSlots) -> Outcome
     }
 }
 
-// What became of the root becomes of the pool.
+// What became of the pool, by what became of its root.
 fn grow_tree(pool: &mut [i32], grown: Growth) -> Outcome
     requires { ⌜ Risen (now pool) grown ⌝ }
     ensures { λ r. ⌜ Leaves (now (pool .entry)) (I.growTree (grownOf (L.read (now (pool .entry))) grown)) r (now (pool .exit)) ⌝ }
@@ -247,7 +247,7 @@ fn one_if_full(pool: &[i32], s: SlotNumber) -> usize
     if pool::count_of(pool, s) < 8 { 0 } else { 1 }
 }
 
-// With how many full nodes the way up begins: from the node that the entry goes into, n levels below the node at s, up to that.
+// How many full nodes the way up begins with: from the node that the entry goes into, n levels below the node at s, up to that node.
 fn full_run(pool: &[i32], n: usize, s: SlotNumber, e: Entry) -> usize
     requires { ⌜ L.validLength (now pool) ≡ true ⌝ }
     requires { ⌜ WayDown (L.read (now pool)) n s e ⌝ }
@@ -280,8 +280,8 @@ fn needed(pool: &[i32], level: usize, e: Entry) -> usize
     if r <= n { r } else { r + 1 }
 }
 
-// Whether the free slots are fewer than it takes. No entry takes more than one for each level and one more, so where there are as many the
-// way is not looked at.
+// Whether there are fewer free slots than the insert takes. No entry takes more than one for each level and one more, so where there are
+// that many the way is not looked at.
 fn too_few(pool: &[i32], level: usize, e: Entry, free: FreeSlots) -> bool
     requires { ⌜ L.validLength (now pool) ≡ true ⌝ }
     requires { ⌜ Upright (L.read (now pool)) ⌝ }

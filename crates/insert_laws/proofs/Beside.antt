@@ -1,5 +1,5 @@
--- One child of a node has changed, and its entry is made tight. No node of the other children's trees has changed, since no slot stands in
--- two of them; and the parent, which stands above all of them, is as it was. So the node is the one before, with that one entry replaced.
+-- One child of a node has changed, and its entry is made tight. No node of the other children's trees has changed, since no slot is in two
+-- of them; and the parent, which is above all of them, is as it was. So the node is the one before, with that one entry replaced.
 use mathlib.Core.Path.{_≡_, refl, sym, ap, subst, _∙_}
 use mathlib.Core.Logic.{_≢_, ⊎-elim}
 use mathlib.Core.List.{List, map, Memᴰ·cast}
@@ -20,7 +20,8 @@ use Rattle.sound_laws.proofs.Frame.{entries-same, put-length, put-same, put-oth
 use Rattle.sound_laws.proofs.Apart.{children-apart}
 use Rattle.sound_laws.proofs.Free.{put-used}
 use Rattle.insert_laws.specs.Grown.{Fits, Weights, weightUnder, spot, weightAt, SameHead}
-use Rattle.insert_laws.proofs.Under.{under-inner, under-used, entries-are, tree-fits, tree-made, fits-inner, weight-inner, weight-parts, weight-made, SameUnder, weight-frame, fits-frame, SameBelow, fits-below, total-below}
+use Rattle.insert_laws.proofs.Under.{under-inner, under-used, entries-are, tree-fits, tree-made, fits-inner, weight-inner, weight-parts}
+use Rattle.insert_laws.proofs.Under.{weight-made, SameUnder, weight-frame, fits-frame, SameBelow, fits-below, total-below}
 use Rattle.insert_laws.proofs.Install.{other-level, put-head, put-entries}
 
 -- the child on the way
@@ -41,7 +42,7 @@ module _ (p : Pool) (l : ℕ) (s : SlotNumber) (d : Tree p (suc (suc l)) s) (i :
   pub child-inside : (t : SlotNumber) → Among t (slotsIn p (suc l) (childAt p s i)) → Among t (slotsIn p (suc (suc l)) s)
   child-inside t m = below-among p l s t (entryAt p s i) (among-here i there) m
 
-  -- the parent stands above
+  -- the parent is above
   pub child-above : Among s (slotsIn p (suc l) (childAt p s i)) → ⊥
   child-above m = omega (arith, within p (suc l) (childAt p s i) s (child-entry .child) m .high, parent-node .level)
 

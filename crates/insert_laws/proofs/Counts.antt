@@ -1,5 +1,5 @@
--- What a tree that grew holds: how often each slot stands in it, and how many of its records a test holds of. Both are weights, and a tree
--- that grew weighs more by what came and what was taken.
+-- What a tree that grew holds: how often each slot occurs in it, and how many of its records pass a test. Both are weights, and a tree that
+-- grew weighs more by what came and what was taken.
 use mathlib.Core.Path.{_≡_, refl, sym, _∙_}
 use mathlib.Core.Bool.{Bool}
 use mathlib.Core.List.{List, [], _∷_, map}
@@ -19,7 +19,7 @@ use Rattle.sound_laws.proofs.Walk.{within-used}
 use Rattle.insert_laws.specs.Grown.{slotsUnder, recordsUnder, Fits, Weights, weigh, weightUnder, weightOf, Spot, slotsAt, weightAt, Grew}
 use Rattle.insert_laws.proofs.Under.{under-used}
 
--- each slot counts where it is t; each record counts where the test holds of it
+-- each slot counts where it is t; each record counts where the test holds for it
 pub timesOf : SlotNumber → Weights
 timesOf t = record { ofSlot = λ u. times t (u ∷ []); ofRecord = λ r. 0 }
 
@@ -63,7 +63,7 @@ pub count-taken : (f : Record → Bool) (ts : List SlotNumber) → total (map (c
 unfolding countOf
 count-taken f ts = no-total ts
 
--- a free slot stands in no tree and under no entry that fits
+-- a free slot is in no tree and under no entry that fits
 pub free-out : (p : Pool) (l : ℕ) (s t : SlotNumber) → Tree p l s → nodeAt p t .level ≡ 0 → times t (slotsIn p l s) ≡ 0
 free-out p l s t d h = not-among t _ (λ m. omega (arith, h, within-used p l s t d m .used))
 

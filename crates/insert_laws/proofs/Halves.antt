@@ -1,4 +1,4 @@
--- One node, in full: what stands in its slot, and in the partner's, after an entry came to it. Two slots are written, and they differ, since
+-- One node, in full: what is in its slot, and in the partner's, after an entry came to it. Two slots are written, and they differ, since
 -- the one is in use and the other was free.
 use mathlib.Core.Path.{_≡_, ap, _∙_}
 use mathlib.Core.List.{List, [], _∷_, _++_}

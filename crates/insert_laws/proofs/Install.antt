@@ -1,5 +1,5 @@
--- An entry goes into a node. The nodes that change are the node itself and one that was free, and neither stands under an entry of the
--- node, where all nodes are lower and in use: so the entries fit and weigh as before.
+-- An entry goes into a node. The nodes that change are the node itself and one that was free, and neither is under an entry of the node,
+-- where all nodes are lower and in use: so the entries fit and weigh as before.
 use mathlib.Core.Path.{_≡_, refl, sym, ap, subst, _∙_}
 use mathlib.Core.Logic.{_≢_, ⊎-elim}
 use mathlib.Core.Bool.{Bool, true, false}

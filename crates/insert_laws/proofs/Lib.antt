@@ -1,4 +1,4 @@
--- Laws of inserting.
+-- Inserting keeps the tree.
 pub mod Members
 pub mod Under
 pub mod Install

@@ -1,4 +1,4 @@
--- The two parts of a list have no other members than the list: an entry that stands in a part counts there, and so in the whole.
+-- The two parts of a list have no other members than the list: an entry that is in a part counts there, and so in the whole.
 use mathlib.Core.Path.{_≡_, refl, ap}
 use mathlib.Core.Bool.{Bool, true, false, _&&_}
 use mathlib.Core.List.{List}

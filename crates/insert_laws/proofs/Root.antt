@@ -1,5 +1,5 @@
--- An entry goes into the tree from its root. If the root is split, the new root's slot was free, so nothing stands under its two entries
--- but what stood there.
+-- An entry goes into the tree from its root. If the root is split, the new root's slot was free, so nothing is under its two entries but
+-- what stood there.
 use mathlib.Core.Path.{_≡_, refl, sym, ap, subst, subst₂, _∙_}
 use mathlib.Core.Logic.{_≢_, inl, inr, ⊎-elim}
 use mathlib.Core.List.{List, [], _∷_, List·Memᴰ·head, List·Memᴰ·not-nil, List·Memᴰ·cases-cons, List·Memᴰ·eq-of-singleton}

@@ -1,5 +1,5 @@
 -- A pool whose tree stands, with an entry of those set aside put in, stands again, less the slots under that entry. A slot in use was in
--- use before, and stands where it stood or where the entry went; or it is one of those taken, and stands in the tree once.
+-- use before, and stands where it stood or where the entry went; or it is one of those taken, and occurs in the tree once.
 use mathlib.Core.Path.{_≡_, sym, ap, _∙_}
 use mathlib.Core.Logic.{⊎-elim}
 use mathlib.Core.Bool.{Bool}
@@ -26,7 +26,7 @@ use Rattle.insert_laws.proofs.Under.{weight-none, weight-one, weight-fr
 use Rattle.insert_laws.proofs.Counts.{timesOf, countOf, times-under, count-under, grew-times, grew-count, free-before, free-out}
 use Rattle.insert_laws.proofs.Root.{insert-put}
 
--- no slot of the tree stands there twice
+-- no slot of the tree occurs there twice
 pub standing-once : (p : Pool) (aside : List SlotNumber) → Standing p aside → Once (treeSlots p)
 standing-once p aside w s = go (decLe 1 (times s (treeSlots p)))
   where
@@ -35,12 +35,12 @@ standing-once p aside w s = go (decLe 1 (times s (treeSlots p)))
     go (no h) = omega arith
 
 module _ (p : Pool) (k : ℕ) (e : Entry) (q : Pool) (g : Put p k e q) where
-  -- how often a slot stands in the tree
+  -- how often a slot occurs in the tree
   pub put-times : (t : SlotNumber) → times t (treeSlots q) ≡ times t (treeSlots p) + times t (slotsUnder p k e) + times t (g .taken)
   put-times t =
       omega (arith, grew-times (g .grew) t, weight-none (timesOf t) q 0, weight-one (timesOf t) p k e, times-under p t k e)
 
-  -- how many of its records a test holds of
+  -- how many of its records pass a test
   pub put-count : (f : Record → Bool)
       → length (those f (treeRecords q)) ≡ length (those f (treeRecords p)) + length (those f (recordsUnder p k e))
   put-count f =

@@ -1,4 +1,4 @@
--- A child grew, and its entry is made tight. What came to the child or was left over is so of its parent, since nothing beside it has
+-- A child grew, and its entry is made tight. What came to the child or was left over is true of its parent, since nothing beside it has
 -- changed: the slots that were taken were free, and so none of theirs.
 use mathlib.Core.Path.{_∙_}
 use mathlib.Core.List.{List, Memᴰ·cast}

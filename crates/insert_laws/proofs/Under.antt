@@ -1,6 +1,6 @@
--- An entry of a node, and what stands under it: for a leaf's entry its record, above that the tree at its child. A tree is a node whose
--- entries fit, and weighs what its top and its entries weigh. Under an entry stand lower nodes alone, so a pool that has the same lower
--- nodes has the same under it.
+-- An entry of a node, and what is under it: for a leaf's entry its record, above that the tree at its child. A tree is a node whose entries
+-- fit, and weighs what its top and its entries weigh. Under an entry there are only lower nodes, so a pool that has the same lower nodes
+-- has the same under it.
 use mathlib.Core.Path.{_≡_, refl, ap}
 use mathlib.Core.List.{List, [], _∷_, map, map-map, List·Memᴰ·not-nil}
 use Prim.Native.Nat.{ℕ, zero, suc, _+_, _≤_, _<_}
@@ -78,7 +78,7 @@ module _ (p : Pool) where
       each = λ e m. inner-fits p e l (f e (rw (entries-are (suc (suc l)) s es h) at m));
     })
 
-  -- under an entry stand lower nodes alone
+  -- under an entry there are only lower nodes
   pub under-used : (l : ℕ) (e : Entry) (t : SlotNumber) → Fits p l e → Among t (slotsUnder p l e) → Used p t
   under-used zero e t f m = absurd (no-fit p e f)
   under-used (suc zero) e t f m = absurd (List·Memᴰ·not-nil (rw (under-leaf p e) at m))

@@ -1,4 +1,4 @@
--- What growing does to a tree: entries come to it, some may be left over, free slots may be taken, and nothing else moves.
+-- What an insert does to a tree: entries come to it, some may be left over, free slots may be taken, and nothing else moves.
 use mathlib.Core.Path.{_≡_}
 use mathlib.Core.List.{List, [], _∷_, map}
 use Prim.Native.Nat.{ℕ, zero, suc, _+_, _≤_, min}
@@ -26,7 +26,7 @@ recordsUnder p zero e = []
 recordsUnder p (suc zero) e = recordOf e ∷ []
 recordsUnder p (suc (suc l)) e = recordsIn p (suc l) (childOf e)
 
--- it may stand in a node of the level
+-- it may be in a node of the level
 unfoldable pub Fits : Pool → ℕ → Entry → Type 0
 Fits p zero e = ⊥
 Fits p (suc zero) e = LeafEntry e
@@ -44,7 +44,7 @@ weigh w ss rs = total (map (w .ofSlot) ss) + total (map (w .ofRecord) rs)
 unfoldable pub weightUnder : Weights → Pool → ℕ → Entry → ℕ
 weightUnder w p l e = weigh w (slotsUnder p l e) (recordsUnder p l e)
 
--- entries that stand in no slot, on their way to a node of a level: the slots and records under them all
+-- entries that are in no slot, on their way to a node of a level: the slots and records under them all
 unfoldable pub weightOf : Weights → Pool → Node → ℕ
 weightOf w p n = total (map (weightUnder w p (n .level)) (n .entries))
 
@@ -84,8 +84,9 @@ pub record SameHead (p q : Pool) : Type 0 where
   pub height : q .height ≡ p .height
   pub records : q .records ≡ p .records
 
--- what became of the node at s of level l to which an entry of a node of level k came: it has it, and nothing is left; it was split, and
--- the partner's entry is left for a node one level up; or there was no free slot. It has three entries or more, or if not, as many as before
+-- what became of the node at s of level l that was to take an entry of a node of level k: it has taken it, and nothing is left; it was
+-- split, and the partner's entry is left for a node one level up; or there was no free slot. It has three entries or more, or else as many
+-- as before
 abbrev pub Grows : Pool → ℕ → SlotNumber → ℕ → Entry → List SlotNumber → Grown → Type 0
 Grows p l s k e touched (Kept q) =
     (taken : List SlotNumber) × Grew (spot p l s) (spot q l s) (node k (e ∷ [])) freeNode taken touched × SameHead p q

@@ -1,4 +1,4 @@
--- What growing does to a tree in a pool.
+-- What an insert does to a tree in a pool.
 pub mod Grown
 pub mod Standing
 pub mod Slots

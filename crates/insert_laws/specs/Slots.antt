@@ -1,5 +1,5 @@
--- How many slots an entry takes that goes into the tree: "the run of full nodes from the chosen leaf upward, plus one if the run includes
--- the root".
+-- How many slots an entry takes when it goes into the tree: "the run of full nodes from the chosen leaf upward, plus one if the run
+-- includes the root".
 use mathlib.Core.Bool.{Bool, cond}
 use mathlib.Core.List.{List, [], _∷_, _++_}
 use Prim.Native.Nat.{ℕ, zero, suc, _-_}
@@ -12,7 +12,7 @@ use Rattle.rules.specs.Numbers.{most}
 use Rattle.rules.specs.Pool.{Pool, entriesAt, entryAt, childOf, leafEntry, rects}
 use Rattle.rules.specs.Insert.{Choice}
 
--- with how many members the list begins of which the test holds
+-- how many members at the start of the list pass the test
 unfoldable pub leading : {A : Type 0} → (A → Bool) → List A → ℕ
 leading p [] = 0
 leading p (x ∷ xs) = cond (p x) (suc (leading p xs)) 0

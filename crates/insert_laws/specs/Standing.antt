@@ -12,7 +12,7 @@ use Rattle.rules_laws.proofs.Places.{Among}
 use Rattle.sound_laws.specs.Tree.{treeSlots, times, Slot, Used, Tree}
 use Rattle.insert_laws.specs.Grown.{spot, Grew}
 
--- the pool is one tree from its root, but for the slots `aside`, which stand under entries that are in no node: each slot in use is one of
+-- the pool is one tree from its root, but for the slots `aside`, which are below entries that are in no node: each slot in use is one of
 -- the tree's or one of those, once, and the others are free
 pub record Standing (p : Pool) (aside : List SlotNumber) : Type 0 where
   pub tree : Tree p (p .height) (p .root)

@@ -1,4 +1,4 @@
--- What is lent to a call and what comes back; a check of a pool is a call that asks nothing.
+-- What is lent to a call and what comes back; a check of a pool is a call with no request.
 use mathlib.Core.Path.{_≡_}
 use mathlib.Core.List.{List, []}
 use lib.IntN.{ℤ}
@@ -19,7 +19,7 @@ left number pool work answers found = record { number = number; pool = pool; wor
 abbrev pub nothingAsked : List ℤ → Lent
 nothingAsked w = lent w w [] [] []
 
--- what `dustmap_call` promises, of each thing that comes back
+-- what `dustmap_call` promises about each thing that comes back
 pub record Allowed (l : Lent) (o : Left) : Type 0 where
   pub number : o .number ≡ call l .number
   pub pool : o .pool ≡ call l .pool

@@ -27,7 +27,7 @@ unfoldable pub faultNumber : Option Verdict → ℤ
 faultNumber none = pos 0
 faultNumber (some v) = verdictNumber v
 
--- `callFault`, of the pool's words, of how long the other lists are, and of whether all that is asked is a request
+-- `callFault`, from the pool's words, the lengths of the other lists, and whether everything asked is a request
 unfoldable pub refusalOf : List ℤ → ℕ → ℕ → ℕ → Bool → ℤ
 refusalOf pool workspace requests answers asked =
     faultNumber (firstRow (
@@ -58,7 +58,7 @@ stepOf p s =
 unfoldable pub batchOf : Lent → Batch
 batchOf l = doRequests ours 0 (l .requests) (starting l)
 
--- the batch stands in the lists lent
+-- the lists lent hold what the batch has done
 pub record Batched (b : Batch) (pool : List ℤ) (answers : List Answer) (found : List Record) : Type 0 where
   pub pool-is : pool ≡ words (b .pool)
   pub answers-are : answers ≡ b .answers

@@ -37,7 +37,7 @@ struct Stepped {
     next: Progress,
 }
 
-// Any words: 0 and a blank pool, or 1 for a wrong length, and nothing written.
+// For any words: 0 and a blank pool; or 1 for a wrong length, and nothing is written.
 #[no_mangle]
 pub extern "C" fn dustmap_blank(pool: &mut [i32]) -> i32
     ensures number { λ r. ⌜ r ≡ pos (L.blank (now (pool .entry)) .number) ⌝ }
@@ -46,7 +46,7 @@ pub extern "C" fn dustmap_blank(pool: &mut [i32]) -> i32
     pool::blank::blank(pool)
 }
 
-// What a call would return that asks nothing: 1 for a wrong length, 2 for a pool that is not sound, else 0. Nothing is written.
+// What a call with no request would return: 1 for a wrong length, 2 for a pool that is not sound, else 0. Nothing is written.
 #[no_mangle]
 pub extern "C" fn dustmap_check(pool: &[i32]) -> i32
     ensures { λ r. ⌜ r ≡ C.call (nothingAsked (now (pool .entry))) .number ⌝ }
@@ -138,7 +138,7 @@ fn carry(pool: &[i32], work: &[i32], n: usize, found: &mut [Record], at: usize)
     }
 }
 
-// No request is done: every slot may be the lowest that is free.
+// No request is done yet: any slot may be the lowest free one.
 fn begun(pool: &[i32]) -> Progress
     requires { ⌜ L.validLength (now pool) ≡ true ⌝ }
     ensures { λ r. ⌜ Begun (now (pool .entry)) r ⌝ }
@@ -173,7 +173,8 @@ fn step(at: Progress, s: Served) -> Stepped
     }
 }
 
-// "each request is done in turn over a lent list of request records": a thin loop above `one_request`. What is free is looked through once.
+// "each request is done in turn over a lent list of request records": a thin loop above `one_request`. The free slots are counted once, at
+// the start.
 fn serve(
     pool: &mut [i32],
     work: &mut [i32],
@@ -203,7 +204,7 @@ fn serve(
     }
 }
 
-// One call: a batch over lent lists. For every input whatever the number, the pool, the workspace, the answers and the found list are those
+// One call: a batch over lent lists. For any input at all, the number, the pool, the workspace, the answers and the found list are those
 // that the definition `call` gives.
 #[no_mangle]
 pub extern "C" fn dustmap_call(

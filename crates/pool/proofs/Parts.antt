@@ -1,4 +1,4 @@
--- What `read` reads of a slot stands in the slot's words: runs of a width, one after another, are parts of the list.
+-- What `read` reads of a slot is in the slot's words: runs of a width, one after another, are parts of the list.
 use mathlib.Core.Path.{_≡_, refl, sym, ap, ap₂, subst, _∙_}
 use mathlib.Core.Bool.{true}
 use mathlib.Core.List.{List, [], _∷_, map}

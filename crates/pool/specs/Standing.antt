@@ -1,4 +1,4 @@
--- Words that stand in a list of words from a place on.
+-- Words found in a list of words from a place on.
 use mathlib.Core.Bool.{Bool}
 use mathlib.Core.List.{List}
 use Prim.Native.Nat.{ℕ}

@@ -114,7 +114,7 @@ pub fn valid_length(pool: &[i32]) -> bool
 
 // ---- a word read
 
-// A word as a natural number; below zero there is none, and it is read as 0.
+// A word as a natural number; a word below zero is read as 0.
 fn natural(x: i32) -> usize
     ensures { λ r. ⌜ r ≡ L.natural x ⌝ }
 {
@@ -206,7 +206,7 @@ pub fn rect_of(pool: &[i32], s: SlotNumber, i: usize) -> Rect
     rect_at(pool, spot(s, i))
 }
 
-// A leaf's pointer is a record number, any other a child slot: where a word becomes one of them.
+// A leaf's pointer is a record number, any other a child slot: here a word becomes one of them.
 fn pointer_of(level: usize, z: i32) -> Pointer
     ensures { λ r. ⌜ r ≡ L.pointerOf level z ⌝ }
 {
@@ -281,7 +281,7 @@ pub fn entries_of(pool: &[i32], s: SlotNumber) -> [Entry; MOST + 1]
 
 // ---- the head written
 
-// A node is root, and the tree has a height.
+// Sets the root and the height.
 pub fn put_root(pool: &mut [i32], s: SlotNumber, height: usize)
     requires { ⌜ Fit (now pool) ⌝ }
     requires { ⌜ (s .0 ≤ mostSlots) × (height ≤ mostSlots) ⌝ }
@@ -293,7 +293,7 @@ pub fn put_root(pool: &mut [i32], s: SlotNumber, height: usize)
     pool[HEIGHT_PLACE] = height as i32;
 }
 
-// The number of records.
+// Sets the number of records.
 pub fn put_records(pool: &mut [i32], n: usize)
     requires { ⌜ Fit (now pool) ⌝ }
     requires { ⌜ n ≤ 2147483647 ⌝ }
@@ -305,7 +305,7 @@ pub fn put_records(pool: &mut [i32], n: usize)
 
 // ---- a slot written
 
-// The word of a pointer: where a record number or a slot number is unwrapped.
+// The word for a pointer: here a record number or a slot number is unwrapped.
 fn pointer_word(p: Pointer) -> i32
     requires { ⌜ Small p ⌝ }
     ensures { λ r. ⌜ r ≡ L.pointerWord p ⌝ }

@@ -1,5 +1,4 @@
-// The layout again, as a question: are the words of a valid length those that the pool read from them would be written as, and nothing
-// else?
+// The layout again, as a question: are words of a valid length exactly those that would be written for the pool that is read from them?
 ghost use mathlib.Core.Path.{_≡_};
 ghost use mathlib.Core.Bool.{true, _&&_};
 ghost use mathlib.Core.List.{map};
@@ -137,7 +136,7 @@ fn tidy_places(pool: &[i32], s: SlotNumber) -> bool
     geometry::and(used, rest)
 }
 
-// "M = 8 entries in a node at most": the count is none that `read` cuts off.
+// "M = 8 entries in a node at most": the count is not one that `read` cuts off.
 fn tidy_count(pool: &[i32], at: usize) -> bool
     requires { ⌜ at < length (now pool) ⌝ }
     ensures { λ r. ⌜ r ≡ Li.same (pos (min (L.natural (L.wordAt (now (pool .entry)) at)) most)) (L.wordAt (now (pool .entry)) at) ⌝ }

@@ -76,7 +76,8 @@ abbrev pub TakenBack : Outcome → List ℤ → List ℤ → List ℤ → Type 0
 TakenBack (Made f) changed copy w = w ≡ changed
 TakenBack Refused changed copy w = w ≡ copy
 
--- so many free slots are enough for an update, and for a delete, in a tree of h levels (`update-fits`, `delete-fits` of crate shrinking)
+-- so many free slots are enough for an update, and for a delete, in a tree of h levels (`update-fits`, `delete-fits` of crate
+-- `delete_laws`)
 unfoldable pub enoughFor : ℕ → ℕ
 enoughFor h = deleteRoom h + suc (h + 2 * (h - 1))
 

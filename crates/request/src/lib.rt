@@ -31,14 +31,14 @@ use rules::Rect;
 use rules::Reply;
 use rules::Request;
 
-// What a request came to: its answer, how many items wait in the workspace for the found list, and what is known of the free slots now.
+// The outcome of a request: its answer, how many items wait in the workspace for the found list, and what is known of the free slots now.
 pub struct Served {
     pub answer: Answer,
     pub listed: usize,
     pub free: FreeSlots,
 }
 
-// ---- what is asked, and what is told
+// ---- requests and answers
 
 // "Record numbers: 1 to 2,147,483,647."
 fn good_number(n: RecordNumber) -> bool
@@ -200,8 +200,8 @@ fn most_back(h: usize) -> usize
     if h == 0 { 0 } else { 2 * (h - 1) }
 }
 
-// Whether free slots are so few that an update or a delete may be refused halfway: each entry put back takes a slot for each level and one
-// more at most, and the tree grows by a level at most.
+// Whether free slots are so few that an update or a delete may be refused halfway: each entry put back takes at most a slot for each level
+// and one more, and the tree grows by at most one level.
 fn scarce(pool: &[i32], free: FreeSlots) -> bool
     requires { ⌜ L.validLength (now pool) ≡ true ⌝ }
     requires { ⌜ L.read (now pool) .height ≤ 8 ⌝ }
@@ -268,7 +268,7 @@ fn other_held(pool: &[i32], old: Record, new: Rect) -> bool
     find_leaf::holds(pool, Record { number, rect: new })
 }
 
-// 3, 4, 5 and 6, and then the one pair goes out and the other in.
+// 3, 4, 5 and 6, and then the old pair goes out and the new one goes in.
 fn update(pool: &mut [i32], work: &mut [i32], old: Record, new: Rect, free: FreeSlots) -> Served
     requires { ⌜ Ready (now pool) free ⌝ }
     requires { ⌜ length (now work) ≡ length (now pool) ⌝ }
@@ -301,7 +301,7 @@ fn update(pool: &mut [i32], work: &mut [i32], old: Record, new: Rect, free: Free
 
 // ---- searches
 
-// 3 and 8, and else the records found are left in the workspace, in order. How many there are is known before any goes to the found list.
+// 3 and 8; otherwise the records found are left in the workspace, in order. How many there are is known before any goes to the found list.
 fn search(
     pool: &[i32],
     work: &mut [i32],

@@ -24,7 +24,7 @@ answerOf Held = answer 6 0 0 0
 answerOf NoSlot = answer 7 0 0 0
 answerOf (NoRoom f o) = answer 8 f 0 o
 
--- the number that a call returns. A list with something that is no request of document 01 gets a number that is none of the table's, -1
+-- the number that a call returns. A list with something that is no request of document 01 gets a number that is not in the table, -1
 unfoldable pub verdictNumber : Verdict → ℤ
 verdictNumber Served = pos 0
 verdictNumber BadLists = pos 9
@@ -43,7 +43,7 @@ module _ {A : Type 0} where
   abbrev pub row : Bool → A → Row A
   row b a = record { applies = b; gives = a }
 
-  -- "The table's order is the order of checks.": what the first row gives that applies
+  -- "The table's order is the order of checks.": what the first row that applies gives
   unfoldable pub firstRow : List (Row A) → Option A
   firstRow [] = none
   firstRow (r ∷ rs) = elim (r .applies) [ true ↦ some (r .gives) | false ↦ firstRow rs ]

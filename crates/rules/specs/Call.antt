@@ -1,4 +1,4 @@
--- One call: the batch over lent lists, for every input whatever.
+-- One call: the batch over the lent lists, for any input at all.
 use mathlib.Core.Bool.{Bool, true, false, not, _||_}
 use mathlib.Core.List.{List, [], _∷_}
 use mathlib.Core.Option.{Option, none, some}
@@ -56,7 +56,7 @@ afterTurn i b t =
       filled = b .filled + length (t .listed);
     }
 
--- the request at place i. (`call` has seen that it is one)
+-- the request at place i. (`call` has checked that it is one)
 unfoldable pub doRequest : Choice → ℕ → Batch → Option Asked → Batch
 doRequest c i b none = b
 doRequest c i b (some a) = afterTurn i b (request c (b .pool) (b .filled) (length (b .found) - b .filled) a)

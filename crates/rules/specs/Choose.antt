@@ -16,7 +16,7 @@ unfoldable pub takesBetter : List Rect → Rect → ℕ → ℕ → Bool
 takesBetter rs new i j =
     lessThen (enlargement (rectFrom rs i) new) (enlargement (rectFrom rs j) new) (lessThen (area (rectFrom rs i)) (area (rectFrom rs j)) false)
 
--- the earliest of some places that none is better than; of no places, 0
+-- the earliest of the places given that no other is better than; 0 where none is given
 unfoldable pub earliest : (ℕ → ℕ → Bool) → List ℕ → ℕ
 earliest better [] = 0
 earliest better (i ∷ is) = earliestBest better i is

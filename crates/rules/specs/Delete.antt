@@ -48,13 +48,13 @@ findChild find r s i (e ∷ es) =
       | false ↦ findChild find r s (suc i) es
     ]
 
--- "the first exact pair found", from the node at s on, which has the level given
+-- "the first exact pair found", from the node at s down, which has the level given
 unfoldable pub findLeaf : Pool → Record → ℕ → SlotNumber → Option Path
 findLeaf p r zero s = none
 findLeaf p r (suc zero) s = findEntry r s 0 (entriesAt p s)
 findLeaf p r (suc (suc l)) s = findChild (λ t. findLeaf p r (suc l) t) (r .rect) s 0 (entriesAt p s)
 
--- .. from the root on
+-- .. from the root down
 abbrev pub pathTo : Pool → Record → Option Path
 pathTo p r = findLeaf p r (p .height) (p .root)
 
@@ -115,7 +115,8 @@ module _ (c : Choice) where
   unfoldable pub putBack : Condensed → Change
   putBack d = shortened (reinsert (d .pool) (d .setAside))
 
-  -- D1 to D4: a record goes out, and is counted off. (A pair that is not held changes nothing: Request.antt refuses it before)
+  -- D1 to D4: a record is taken out, and the count goes down by one. (A pair that is not held changes nothing: Request.antt refuses it
+  -- before)
   unfoldable pub deleteRecord : Pool → Record → Change
   deleteRecord p r =
       elim (pathTo p r) [

@@ -34,7 +34,7 @@ pub data Says : Type 0 where
   theAnswers : List Answer → Says
   theAnswer : Answer → List Record → Says
 
--- an example's number, what the rules say of it, and what document 01 says
+-- an example's number, what the rules say about it, and what document 01 says
 pub record Example : Type 0 where
   pub number : ℕ
   pub rules : Says

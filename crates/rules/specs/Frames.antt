@@ -44,7 +44,7 @@ pub record Frame : Type 0 where
   pub kind : ℕ
   pub body : List ℕ
 
--- what stands where the bytes begin: nothing more, a whole frame with the bytes after it, or a frame that is cut
+-- what the bytes begin with: nothing, a whole frame with the bytes after it, or a frame that is cut
 pub data Next : Type 0 where
   Ended : Next
   Complete : Frame → List ℕ → Next
@@ -142,7 +142,7 @@ frameCall pool q =
 unfoldable pub callPrinted : ℕ → Left → (List ℤ → List ℕ) → List ℕ
 callPrinted place l rest = replyLines place (getD (l .answers) 0 (answer 0 0 0 0)) (l .found) ++ rest (l .pool)
 
--- what is printed for the bytes, of n frames at most, the first of them at `place`. "A cut frame, unknown kind or wrong length prints
+-- what is printed for the bytes, for at most n frames, the first of them at `place`. "A cut frame, unknown kind or wrong length prints
 -- `bad frame`, a space and its place, and ends the run."
 unfoldable pub printed : ℕ → ℕ → List ℤ → List ℕ → List ℕ
 printed zero place pool bs = []

@@ -36,7 +36,7 @@ cover a b =
       highY = larger (a .highY) (b .highY);
     }
 
--- the smallest rectangle that holds them all; of none, the point (0, 0)
+-- the smallest rectangle that holds them all; where there are none, the point (0, 0)
 abbrev pub noRect : Rect
 noRect = record { lowX = pos 0; lowY = pos 0; highX = pos 0; highY = pos 0 }
 

@@ -16,7 +16,7 @@ use Rattle.rules.specs.Call.{Left, call}
 
 -- ---- requests
 
--- a whole number below zero, and a rectangle with none
+-- a negative number; a rectangle with no negative coordinate
 abbrev pub minus : ℕ → ℤ
 minus n = negℤ (pos n)
 

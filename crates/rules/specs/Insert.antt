@@ -25,8 +25,8 @@ pub record Choice : Type 0 where
 abbrev pub ours : Choice
 ours = record { child = chooseChild; split = quadraticSplit }
 
--- what became of a node that an entry came to: it has it; it was split, and has a partner whose entry the parent is to have; or "the
--- rules call for a slot at a moment when none is free"
+-- what became of a node that was to take an entry: it has taken it; it was split, and the parent is to have an entry for its partner; or
+-- "the rules call for a slot at a moment when none is free"
 pub data Grown : Type 0 where
   Kept : Pool → Grown
   Split : Pool → Entry → Grown

@@ -1,4 +1,4 @@
--- What a tree asks of the two choices that it leaves open. Nothing above needs to know more of them.
+-- What a tree asks of the two choices that it leaves open. Nothing above needs to know more about them.
 use mathlib.Core.Path.{_≡_}
 use mathlib.Core.Bool.{Bool}
 use mathlib.Core.List.{List}
@@ -11,11 +11,11 @@ use Rattle.rules.specs.Numbers.{most, least}
 use Rattle.rules.specs.Split.{Halves}
 use Rattle.rules.specs.Insert.{Choice}
 
--- the two lists together are the one, each entry as often as it was there: they have as many entries of every sort
+-- the two lists together are the whole, each entry as often as it was there: every test holds for as many entries
 pub record Parted {A : Type 0} (whole one two : List A) : Type 0 where
   pub each : (p : A → Bool) → length (those p one) + length (those p two) ≡ length (those p whole)
 
--- a split of nine: nothing lost, nothing made, and 3 to 6 in each group (6 is what 3 in the other leaves)
+-- a split of nine: nothing lost, nothing added, and 3 to 6 in each group (with 3 in the other, 6 are left)
 pub record LawfulSplit (split : List Entry → Halves) : Type 0 where
   pub parted : (es : List Entry) → length es ≡ suc most → Parted es (split es .one) (split es .two)
   pub one : (es : List Entry) → length es ≡ suc most → least ≤ length (split es .one)

@@ -100,7 +100,7 @@ words p = headWords p ++ joined (map nodeWords (p .slots))
 
 -- ---- read
 
--- a word as a natural number; below zero there is none, and it is read as 0
+-- a word as a natural number; a word below zero is read as 0
 unfoldable pub natural : ℤ → ℕ
 natural (pos n) = n
 natural (negsuc n) = 0

@@ -6,17 +6,17 @@ use lib.IntN.{ℤ}
 use lib.Signed.{leZ, ltZ}
 
 module _ {A : Type 0} where
-  -- those of the list of which p holds, in their order
+  -- the members for which p holds, in their order
   unfoldable pub those : (A → Bool) → List A → List A
   those p [] = []
   those p (x ∷ xs) = cond (p x) (x ∷ those p xs) (those p xs)
 
-  -- p holds of each
+  -- p holds for each
   unfoldable pub every : (A → Bool) → List A → Bool
   every p [] = true
   every p (x ∷ xs) = p x && every p xs
 
-  -- p holds of one at least
+  -- p holds for at least one
   unfoldable pub oneOf : (A → Bool) → List A → Bool
   oneOf p [] = false
   oneOf p (x ∷ xs) = p x || oneOf p xs
@@ -32,7 +32,7 @@ module _ {A : Type 0} where
   without zero (x ∷ xs) = xs
   without (suc i) (x ∷ xs) = x ∷ without i xs
 
-  -- the earliest of x and the xs that none of them is better than. `better` is strict, so a tie stays with the earlier
+  -- the earliest of x and the xs that none of them is better than. `better` is strict, so in a tie the earlier one stays
   unfoldable pub earliestBest : (A → A → Bool) → A → List A → A
   earliestBest better x [] = x
   earliestBest better x (y ∷ ys) = earliestBest better (cond (better y x) y x) ys

@@ -14,8 +14,8 @@ use Rattle.rules.specs.Pool.{Pool, entriesAt, childOf, recordOf}
 unfoldable pub meeting : Rect → List Entry → List Entry
 meeting window es = those (λ (e : Entry). meets (e .rect) window) es
 
--- S1 and S2: "Search descends from the root and opens every child whose entry rectangle meets the window": what it finds from the node
--- at s on, which has the level given
+-- S1 and S2: "Search descends from the root and opens every child whose entry rectangle meets the window": what it finds from the node at s
+-- down, which has the level given
 unfoldable pub foundIn : Pool → Rect → ℕ → SlotNumber → List Record
 foundIn p window zero s = []
 foundIn p window (suc zero) s = map recordOf (meeting window (entriesAt p s))
@@ -44,7 +44,7 @@ unfoldable pub ordered : List Record → List Record
 ordered [] = []
 ordered (r ∷ rs) = placed r (ordered rs)
 
--- what is found from the root on, in the order in which search comes to it
+-- what is found from the root down, in the order in which the search meets it
 abbrev pub foundFromRoot : Pool → Rect → List Record
 foundFromRoot p window = foundIn p window (p .height) (p .root)
 

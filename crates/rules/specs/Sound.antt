@@ -56,7 +56,7 @@ parents p s = length (those (λ (e : Entry). sameSlot (childOf e) s) (innerEntri
 unfoldable pub oneParent : Pool → SlotNumber → Bool
 oneParent p s = not (inUse (nodeAt p s)) || isRoot p s || eqb (parents p s) 1
 
--- "free slots are all zero" (that unused entries are, and the rest of the head, is `nothingElse` below)
+-- "free slots are all zero" (for unused entries and the rest of the head, that is `nothingElse` below)
 unfoldable pub freeEmpty : Node → Bool
 freeEmpty n = inUse n || eqb (length (n .entries)) 0
 
@@ -93,7 +93,8 @@ shapeSound p =
     heightSound p && rootSound p && levelsSound p && every (countSound p) (slotNumbers p) && every (oneParent p) (slotNumbers p)
     && every freeEmpty (p .slots) && recordsSound p
 
--- .. and the walk. It is asked last, since with one parent each it visits no node twice
+-- .. and the walk down from each node in use. It is asked last: with one parent each, the walk from one node meets no node twice, so that
+-- all the walks together meet a node once from itself and once from each node above it
 unfoldable pub soundPool : Pool → Bool
 soundPool p = elim (shapeSound p) [ true ↦ every (usedSound p) (slotNumbers p) | false ↦ false ]
 

@@ -50,7 +50,7 @@ pub record Groups : Type 0 where
 unfoldable pub coverGroup : List Rect → List ℕ → Rect
 coverGroup rs group = coverAll (map (rectFrom rs) group)
 
--- the places of the list but i
+-- the places of the list other than i
 unfoldable pub leaving : ℕ → List ℕ → List ℕ
 leaving i is = those (λ j. not (eqb j i)) is
 

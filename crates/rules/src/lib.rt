@@ -20,7 +20,7 @@ pub struct Rect {
     pub highY: i32,
 }
 
-// The paper's tuple-identifier. It never meets a slot number.
+// The paper's tuple-identifier. It is never mixed with a slot number.
 #[repr(C)]
 pub struct RecordNumber(pub i32);
 
@@ -70,7 +70,7 @@ pub enum Asked {
     Search(Rect),
 }
 
-// What a request came to: each row of the table of document 01 that speaks of a request.
+// The outcome of a request: a case for each row of the table of document 01 that speaks of requests.
 pub enum Reply {
     Changed,
     Listed { found: u32, start: u32, opened: u32 },
@@ -91,8 +91,8 @@ pub struct Answer {
     pub opened: u32,
 }
 
-// What a call came to: each row of the table that speaks of a call, and a request list that holds
-// something which is no request.
+// The outcome of a call: a case for each row of the table that speaks of calls, and one for a request list that holds something which is no
+// request.
 pub enum Verdict {
     Served,
     BadLists,

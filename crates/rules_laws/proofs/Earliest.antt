@@ -12,9 +12,10 @@ use Rattle.rules.specs.Lists.{earliestBest, upFrom}
 use Rattle.rules.specs.Choose.{earliest}
 use Rattle.rules.specs.Split.{Seeds, seeds, pairsFrom}
 use Rattle.rules_laws.proofs.Orders.{Strict, never-both, not-itself, beats, beats-too}
-use Rattle.rules_laws.proofs.Places.{Among, place-of, length-upFrom, getD-upFrom, upFrom-among, Each, each-at, each-append, each-also, each-upFrom, Ordered, ordered-append, ordered-at, ordered-upFrom}
+use Rattle.rules_laws.proofs.Places.{Among, place-of, length-upFrom, getD-upFrom, upFrom-among, Each, each-at, each-append}
+use Rattle.rules_laws.proofs.Places.{each-also, each-upFrom, Ordered, ordered-append, ordered-at, ordered-upFrom}
 
--- x stands among the candidates; none is better; it is better than each before it. (d is what stands beyond a list's end)
+-- x is among the candidates; none is better; it is better than each before it. (d is what is read beyond a list's end)
 pub record Earliest {A : Type 0} (better : A → A → Bool) (candidates : List A) (d x : A) : Type 0 where
   pub place : ℕ
   pub there : place < length candidates
@@ -120,7 +121,7 @@ earliest-place {better} s n some = record {
 abbrev pub NotAfter : Seeds → Seeds → Type 0
 NotAfter s t = (s .first < t .first) ⊎ ((s .first ≡ t .first) × (s .second ≤ t .second))
 
--- each of the pairs is one of the places from i on; they are in order; every pair of those places stands there
+-- each of the pairs is one of the places from i on; they are in order; every pair of those places is there
 record PairFrom (i n : ℕ) (s : Seeds) : Type 0 where
   from : i ≤ s .first
   apart : s .first < s .second

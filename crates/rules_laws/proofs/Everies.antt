@@ -1,4 +1,4 @@
--- `every`: a test holds of every member where it holds of each, a member at a time; and two tests may be asked together.
+-- `every`: a test holds for every member where it holds for each, a member at a time; and two tests may be asked together.
 use mathlib.Core.Path.{_≡_, refl, ap, _∙_}
 use mathlib.Core.Logic.{_↔_, ⊎-elim}
 use mathlib.Core.Bool.{Bool, true, false, _&&_}

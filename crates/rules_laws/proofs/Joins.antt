@@ -1,4 +1,4 @@
--- Lists joined: what is so of the parts is so of the whole, a part at a time.
+-- Lists joined: what is true of the parts is true of the whole, a part at a time.
 use mathlib.Core.Path.{_≡_, refl, sym, ap, _∙_}
 use mathlib.Core.Logic.{_⊎_, inl, inr}
 use mathlib.Core.Bool.{Bool, true, false, cond}
@@ -30,7 +30,7 @@ module _ {A B : Type 0} where
   pub joined-append : (f : A → List B) (xs ys : List A) → joined (map f (xs ++ ys)) ≡ joined (map f xs) ++ joined (map f ys)
   joined-append f xs ys = ap joined (map-append f xs ys) ∙ joined-both (map f xs) (map f ys)
 
-  -- a member stands in a part
+  -- a member is in a part
   pub among-joined : (f : A → List B) (y : B) (xs : List A) → Among y (joined (map f xs)) → (x : A) × Among x xs × Among y (f x)
   unfolding joined
   among-joined f y [] m = absurd (List·Memᴰ·not-nil m)
@@ -85,7 +85,7 @@ module _ {A B : Type 0} (f : A → List B) where
   joined-set xs i y h =
       rw (getD-set-same xs i y y, without-set xs i y) at (joined-parted (set xs i y) i y (rw length-set h))
 
-  -- the parts of those of which a test holds: the others' parts are empty
+  -- the parts of those for which a test holds: the others' parts are empty
   pub joined-those : (t : A → Bool) (xs : List A) → joined (map f (those t xs)) ≡ joined (map (λ x. cond (t x) (f x) []) xs)
   joined-those t [] = rw (those-none t)
   joined-those t (x ∷ xs) = rw (joined-more (λ y. cond (t y) (f y) []) x xs) (go (t x) refl (joined-those t xs))

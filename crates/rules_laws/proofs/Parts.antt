@@ -1,5 +1,5 @@
--- Which members of a list a test holds of. Two lists together are a third where every test holds of as many, so a part is proved by
--- counting: a member counts alike wherever it stands.
+-- Which members of a list pass a test. Two lists together are a third where every test holds for as many members, so a part is proved by
+-- counting: a member counts the same wherever it is.
 use mathlib.Core.Path.{_≡_, refl, sym, ap, _∙_}
 use mathlib.Core.Logic.{_↔_, _≢_, _⊎_, inl, inr, ⊎-elim}
 use mathlib.Core.Bool.{Bool, true, false, not, _&&_}
@@ -48,12 +48,12 @@ module _ {A : Type 0} where
   those-all [] = refl
   those-all (x ∷ xs) = ap (λ (l : List A). x ∷ l) (those-all xs)
 
-  -- a test that holds of a member holds of one at least
+  -- a test that holds for a member holds for at least one
   pub counted : (p : A → Bool) {x : A} {xs : List A} → Among x xs → p x ≡ true → 0 < length (those p xs)
   counted p {xs = y ∷ ys} (List·Memᴰ·head e) h = rw (those-yes p y ys (ap p (sym e) ∙ h)) (omega arith)
   counted p {xs = y ∷ ys} (List·Memᴰ·tail m) h = omega (arith, count-cons p y ys, counted p m h)
 
-  -- a member of those is a member of which the test holds
+  -- a member of those is a member for which the test holds
   among-those-to : (p : A → Bool) {x : A} (xs : List A) → Among x (those p xs) → Among x xs × (p x ≡ true)
   among-those-to p [] m = absurd (List·Memᴰ·not-nil (rw (those-none p) at m))
   among-those-to p {x} (y ∷ ys) m = go (p y) refl (among-those-to p ys)
@@ -197,7 +197,7 @@ module _ {A B : Type 0} (f : A → B) where
   pub parted-map : {whole one two : List A} → Parted whole one two → Parted (map f whole) (map f one) (map f two)
   parted-map {whole} {one} {two} h = record { each = λ p. rw (count-map p one, count-map p two, count-map p whole) (h .each (λ x. p (f x))) }
 
--- ---- how often a number stands in a list
+-- ---- how often a number occurs in a list
 
 -- the test whether it is i
 abbrev pub is : ℕ → ℕ → Bool

@@ -1,4 +1,4 @@
--- What stands at the places of a list, and what is so of each member. All is by induction on the list, a place at a time.
+-- What is at the places of a list, and what is true of each member. All of it is by induction on the list, a place at a time.
 use mathlib.Core.Path.{_≡_, refl, sym, ap, ap₂, subst, _∙_}
 use mathlib.Core.List.{List, [], _∷_, _++_, map, List·Memᴰ, List·Memᴰ·head, List·Memᴰ·tail, Memᴰ·cast}
 use Prim.Native.Nat.{ℕ, zero, suc, _+_, _-_, _≤_, _<_}
@@ -11,7 +11,7 @@ module _ {A : Type 0} where
   abbrev pub Among : A → List A → Type 0
   Among x xs = List·Memᴰ x xs
 
-  -- what stands at a place is a member, and a member stands at a place
+  -- what is at a place is a member, and a member is at a place
   pub at-place : (xs : List A) (k : ℕ) (d : A) → k < length xs → Among (getD xs k d) xs
   at-place [] k d h = absurd (omega arith)
   at-place (x ∷ xs) zero d h = List·Memᴰ·head refl
@@ -58,7 +58,7 @@ unfolding upFrom
 map-next f i zero = refl
 map-next {A} f i (suc n) = ap (λ (l : List A). f (suc i) ∷ l) (map-next f (suc i) n)
 
--- a list is what stands at its places
+-- a list is what is at its places
 pub map-upFrom : {A : Type 0} (d : A) (xs : List A) → map (λ i. getD xs i d) (upFrom 0 (length xs)) ≡ xs
 unfolding upFrom
 map-upFrom d [] = refl

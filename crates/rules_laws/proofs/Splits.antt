@@ -14,7 +14,8 @@ use Rattle.rules.specs.Lists.{those, upFrom}
 use Rattle.rules.specs.Numbers.{most, least}
 use Rattle.rules.specs.Pool.{noEntry, entryFrom, rects}
 use Rattle.rules.specs.Choose.{chooseChild}
-use Rattle.rules.specs.Split.{seeds, Groups, leaving, opening, joinOne, joinTwo, allJoinOne, allJoinTwo, needsAll, distribute, pickSeeds, pickNext, joinsTwo, coverGroup, quadraticGroups, Halves, halves, quadraticSplit}
+use Rattle.rules.specs.Split.{seeds, Groups, leaving, opening, joinOne, joinTwo, allJoinOne, allJoinTwo, needsAll, distribute}
+use Rattle.rules.specs.Split.{pickSeeds, pickNext, joinsTwo, coverGroup, quadraticGroups, Halves, halves, quadraticSplit}
 use Rattle.rules.specs.Insert.{ours}
 use Rattle.rules.specs.Lawful.{Parted, LawfulSplit, LawfulChild, Lawful}
 use Rattle.rules_laws.proofs.Places.{Among, nothing, length-upFrom, map-upFrom, upFrom-among}
@@ -79,12 +80,12 @@ parting-flipped s = record {
   two = s .one;
 }
 
--- it needs not all: it can do with one less
+-- it does not need all: it can do with one fewer
 pub can-spare : (group left : List ℕ) → least ≤ length group + length left → needsAll group left ≡ false → least < length group + length left
 unfolding needsAll
 can-spare group left l h = let n = eqb-false (length group + length left) least h in omega arith
 
--- no place stands twice in the whole, and there are enough for both groups
+-- no place occurs twice in the whole, and there are enough for both groups
 module _ (whole : List ℕ) (once : (i : ℕ) → length (those (is i) whole) ≤ 1) (enough : least + least ≤ length whole) where
   pub join-one : {n : ℕ} {g : Groups} → Parting whole (suc n) g → (i : ℕ) → Among i (g .left) → least < length (g .two) + length (g .left)
       → Parting whole n (joinOne i g)
@@ -180,7 +181,7 @@ module _ (n i j : ℕ) (i-there : i < n) (j-there : j < n) (apart : i ≢ j) whe
           × (suc (length (leaving j (leaving i (upFrom 0 n)))) ≡ length (leaving i (upFrom 0 n)))
       lengths = (length-leaving i (upFrom 0 n) first-single, length-leaving j (leaving i (upFrom 0 n)) second-single)
 
--- nothing is left, lost or made, and each group has enough
+-- nothing is left, lost or added, and each group has enough
 pub record Divided (whole : List ℕ) (g : Groups) : Type 0 where
   pub none : g .left ≡ []
   pub parted : Parted whole (g .one) (g .two)
@@ -238,7 +239,7 @@ quadratic-lawful = record {
         let e : length (rects es) ≡ length es = unfold rects in length-map es _ in
         rw e at (quadratic-divided (rects es) (omega arith))
 
--- 6 is what 3 in the other leaves
+-- with 3 in the other, 6 are left
 pub at-most-six : {split : List Entry → Halves} → LawfulSplit split → (es : List Entry) → length es ≡ suc most
     → (length (split es .one) ≤ 6) × (length (split es .two) ≤ 6)
 at-most-six l es nine = let n = parted-length (l .parted es nine) in (omega (arith, l .two es nine), omega (arith, l .one es nine))

@@ -81,7 +81,7 @@ module _ {A : Type 0} where
 
   -- ---- sums and tests
 
-  -- how many of a list: one at a time; and how many of those of which a test holds
+  -- how many of a list: one at a time; and how many of those for which a test holds
   pub count-total : (q : A → Bool) (xs : List A) → length (those q xs) ≡ total (map (λ x. length (those q (x ∷ []))) xs)
   count-total q [] = rw (those-none q) (sym (total-none (λ (x : A). length (those q (x ∷ [])))))
   count-total q (x ∷ xs) = omega (arith, count-cons q x xs, total-more (λ (y : A). length (those q (y ∷ []))) x xs, count-total q xs)
@@ -97,7 +97,7 @@ module _ {A : Type 0} where
         count-those q t xs,
       ))
 
-  -- the sum over those of which a test holds: the others add nothing
+  -- the sum over those for which a test holds: the others add nothing
   pub total-those : (f : A → ℕ) (t : A → Bool) (xs : List A) → total (map f (those t xs)) ≡ total (map (λ x. cond (t x) (f x) 0) xs)
   total-those f t [] = rw (those-none t) (total-none f ∙ sym (total-none (λ x. cond (t x) (f x) 0)))
   total-those f t (x ∷ xs) = go (t x) refl (total-those f t xs)

@@ -1,4 +1,4 @@
--- Sums and joined lists over a list, as a recursion goes through it: from a place on, and over those of which a test holds. All is by
+-- Sums and joined lists over a list, as a recursion goes through it: from a place on, and over those for which a test holds. All is by
 -- induction on the list, a member at a time.
 use mathlib.Core.Path.{_≡_, ap, _∙_}
 use mathlib.Core.List.{List, [], _∷_, _++_, map}

@@ -17,7 +17,7 @@ use Rattle.rules.specs.Search.{foundIn, openedIn}
 unfoldable pub openedBelow : Pool → Rect → ℕ → Entry → ℕ
 openedBelow p window level e = cond (meets (e .rect) window) (openedIn p window level (childOf e)) 0
 
--- what an entry that meets the window leads to: its own record where it stands in a leaf (level 0 is below a leaf), or what its child holds
+-- what an entry that meets the window leads to: its own record where it is in a leaf (level 0 is below a leaf), or what its child holds
 unfoldable pub heldBelow : Pool → Rect → ℕ → Entry → List Record
 heldBelow p window zero e = recordOf e ∷ []
 heldBelow p window (suc l) e = foundIn p window (suc l) (childOf e)

@@ -1,5 +1,5 @@
 // Search, over any words of a valid length: what it finds and how many nodes it opens, in one pass. The node function calls the entries
-// function, that calls the function of one entry, and that calls the node function; the level and the entries left fall.
+// function, which calls the function of one entry, which calls the node function again; the level and the entries left fall.
 ghost use mathlib.Core.Path.{_≡_};
 ghost use mathlib.Core.Bool.{true};
 ghost use mathlib.Core.List.{[], _∷_};
@@ -47,7 +47,7 @@ fn list_record(pool: &[i32], s: SlotNumber, i: usize, items: &mut [i32], done: W
     Walked { next, opened }
 }
 
-// The records that search finds from the node at s on, which has the level given, become items, and each node that it opens is counted.
+// The records that search finds from the node at s down, which has the level given, become items, and each node that it opens is counted.
 fn list_node(
     pool: &[i32],
     window: Rect,
@@ -97,7 +97,7 @@ fn list_entries(
 }
 
 // "opens every child whose entry rectangle meets the window": .. below the entry at place i alone. A leaf's entry is a record (level 0 is
-// below a leaf), another leads to its child. An entry that does not meet the window has no more read of it than its rectangle.
+// below a leaf), another leads to its child. Of an entry that does not meet the window, only the rectangle is read.
 fn list_entry(
     pool: &[i32],
     window: Rect,
@@ -124,7 +124,7 @@ fn list_entry(
 }
 
 // "Search descends from the root and opens every child whose entry rectangle meets the window." "The root is always opened." The records
-// found become items, in the order in which search comes to them.
+// found become items, in the order in which the search meets them.
 pub fn list(pool: &[i32], window: Rect, items: &mut [i32]) -> Walked
     requires { ⌜ L.validLength (now pool) ≡ true ⌝ }
     requires { ⌜ L.read (now pool) .height ≤ 8 ⌝ }

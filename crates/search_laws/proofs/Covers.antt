@@ -73,7 +73,7 @@ holds-on {a} {b} {c} h k = record {
   highY = at-most-on (c .highY) (b .highY) (a .highY) (k .highY) (h .highY);
 }
 
--- what meets a window, meets it held by a larger one
+-- what holds something that meets a window meets it too
 pub holds-meets : {a b : Rect} (window : Rect) → HoldsRect a b → meets b window ≡ true → meets a window ≡ true
 unfolding meets
 holds-meets {a} {b} w h m =

@@ -46,7 +46,7 @@ module _ (p : Pool) (w : Whole p) (window : Rect) where
       other : SlotNumber → Bool
       other s = not (isRoot p s)
 
-  -- ---- what follows of what is found
+  -- ---- what follows from this
 
   found-stored : Alike (found p window) (those (recordMeets window) (stored p))
   found-stored = rw search-exact (ordered-alike (those (recordMeets window) (stored p)))

@@ -49,7 +49,7 @@ module _ (p : Pool) where
   slots-top (suc zero) s d = ([], slots-leaf p s)
   slots-top (suc (suc l)) s d = (joined (map (λ (e : Entry). slotsIn p (suc l) (childOf e)) (entriesAt p s)), slots-inner p s l)
 
-  -- the root stands in the tree once
+  -- the root occurs in the tree once
   root-once : Whole p → those (isRoot p) (treeSlots p) ≡ p .root ∷ []
   unfolding isRoot
   root-once w =

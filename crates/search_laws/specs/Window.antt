@@ -1,4 +1,4 @@
--- What has to do with a window, asked of one record and of one slot, wherever the tree has it.
+-- Whether a record, or the node of a slot, meets a window, wherever it is in the tree.
 use mathlib.Core.Bool.{Bool, not, _&&_}
 use Rattle.rules.specs.declared.Rect.{Rect}
 use Rattle.rules.specs.declared.SlotNumber.{SlotNumber}

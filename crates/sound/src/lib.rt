@@ -22,7 +22,7 @@ fn leaf_entry_sound(e: Entry) -> bool
     geometry::and(geometry::valid(r), ok)
 }
 
-// The leaf entries of a node, each of them.
+// Whether each entry of a leaf is sound.
 fn leaf_sound(pool: &[i32], s: SlotNumber) -> bool
     requires { ⌜ InPool (now pool) s ⌝ }
     ensures { λ r. ⌜ r ≡ every S.leafEntrySound (P.entriesAt (L.read (now (pool .entry))) s) ⌝ }
@@ -103,8 +103,8 @@ fn used_sound(pool: &[i32], s: SlotNumber) -> bool
     node_sound(pool, level, s)
 }
 
-// "every node in use is sound". Each is asked by itself: with one parent each, which is asked before, a node is met once for each node
-// above it, and a sound tree is at most 8 high.
+// "every node in use is sound". Each is asked by itself. That each has one parent, and that the height is at most 8, has been asked before:
+// so a node is met once from itself and once from each node above it, 8 times at most.
 fn all_sound(pool: &[i32]) -> bool
     requires { ⌜ L.validLength (now pool) ≡ true ⌝ }
     ensures { λ r. ⌜ r ≡ every (S.usedSound (L.read (now (pool .entry)))) (P.slotNumbers (L.read (now (pool .entry)))) ⌝ }
@@ -120,8 +120,8 @@ fn all_sound(pool: &[i32]) -> bool
     true
 }
 
-// "A pool is sound when ..": each part of the sentence. A sound tree is at most 8 high, so a higher one is refused before the walk, which
-// then goes no deeper than that, whatever the words are.
+// "A pool is sound when ..": each part of the sentence. A sound tree is at most 8 high, so a higher one is refused before the walk. The
+// walk then goes no deeper than that, whatever the words are.
 pub fn sound(pool: &[i32]) -> bool
     requires { ⌜ L.validLength (now pool) ≡ true ⌝ }
     ensures { λ r. ⌜ r ≡ S.sound (now (pool .entry)) ⌝ }

@@ -1,4 +1,4 @@
--- A tree in which no slot stands twice. What stands once in the whole stands at most once in a part, and in one part alone.
+-- A tree in which no slot occurs twice. What occurs once in the whole occurs at most once in a part, and in one part alone.
 use mathlib.Core.Path.{_≡_}
 use mathlib.Core.Logic.{_≢_, _⊎_, inl, inr}
 use mathlib.Core.List.{List, [], _∷_, map, List·Memᴰ·eq-of-singleton}
@@ -20,7 +20,7 @@ module _ (p : Pool) (l : ℕ) (s : SlotNumber) (once : Once (slotsIn p (suc (suc
   below : Entry → List SlotNumber
   below e = slotsIn p (suc l) (childOf e)
 
-  -- how often a slot stands in the tree: as the top, and in the tree at each child
+  -- how often a slot occurs in the tree: as the top, and in the tree at each child
   parts : (t : SlotNumber) → times t (slotsIn p (suc (suc l)) s) ≡ times t (s ∷ []) + total (map (λ e. times t (below e)) (entriesAt p s))
   unfolding below
   parts t =
@@ -31,7 +31,7 @@ module _ (p : Pool) (l : ℕ) (s : SlotNumber) (once : Once (slotsIn p (suc (suc
   unfolding below
   once-child e m t = omega (arith, once t, parts t, total-member (λ f. times t (below f)) m)
 
-  -- the top stands in no child's tree
+  -- the top is in no child's tree
   pub top-apart : (e : Entry) → Among e (entriesAt p s) → Among s (slotsIn p (suc l) (childOf e)) → ⊥
   unfolding below
   top-apart e m n = omega (arith, once s, parts s, times-self s, total-member (λ f. times s (below f)) m, among-times s n)

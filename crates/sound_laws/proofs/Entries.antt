@@ -1,5 +1,5 @@
 -- The entries of a tree: their rectangles are valid, since a cover of valid rectangles is, and their pointers are of their node's kind,
--- since slot 0 is no slot and number 0 no record's.
+-- since there is no slot 0 and no record number 0.
 use mathlib.Core.Path.{_≡_, refl, sym, ap, _∙_}
 use mathlib.Core.Bool.{true}
 use mathlib.Core.List.{List, [], _∷_, foldl, map, List·Memᴰ·head, List·Memᴰ·tail, Memᴰ·of-map}

@@ -55,7 +55,7 @@ slot-once {p} {s} h = omega (arith, times-slots p s, among-times s (slot-among h
 pub slot-never : (p : Pool) (s : SlotNumber) → (Slot p s → ⊥) → times s (slotNumbers p) ≡ 0
 slot-never p s n = not-among s (slotNumbers p) (λ m. n (among-slot p s m))
 
--- a slot that stands in a tree once, where it is a slot at all, stands there as often as among the numbers
+-- a slot that is in a tree once, where it is a slot at all, occurs there as often as among the numbers
 pub times-alike : (p : Pool) (l : ℕ) (s t : SlotNumber) → Tree p l s → (Slot p t → times t (slotsIn p l s) ≡ 1)
     → times t (slotsIn p l s) ≡ times t (slotNumbers p)
 times-alike p l s t d h = go (slot-or-not p t)
@@ -75,7 +75,7 @@ nodes-are p =
     (λ k m. ap (λ (j : ℕ). getD (p .slots) j freeNode) (omega arith))
     ∙ map-upFrom freeNode (p .slots)
 
--- a node of the list stands in a slot
+-- a node of the list is in a slot
 pub node-among : {p : Pool} {s : SlotNumber} → Slot p s → Among (nodeAt p s) (p .slots)
 node-among {p} {s} h = subst (Among (nodeAt p s)) (nodes-are p) (Memᴰ·map (nodeAt p) (slot-among h))
 

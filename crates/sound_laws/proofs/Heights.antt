@@ -1,4 +1,4 @@
--- How high a tree can be: a tree whose nodes have three entries at least has three times as many leaves for each level more.
+-- How high a tree can be: a tree whose nodes have at least three entries has three times as many leaves for each further level.
 use mathlib.Core.Path.{_≡_, refl, sym}
 use mathlib.Core.Logic.{_⊎_, inl, inr, ⊎-elim}
 use mathlib.Core.List.{List, map}
@@ -61,7 +61,7 @@ module _ (p : Pool) where
       (many-parts (λ (e : Entry). recordsIn p (suc l) (childOf e)) (3 ^ suc l) 3 (entriesAt p s) h
       (λ e m. let i = inner-of p l s d .each e m in tree-records l (childOf e) (i .child) (i .enough)))
 
-  -- the root, with two entries at least where it is no leaf
+  -- the root, with at least two entries where it is no leaf
   module _ (s : SlotNumber) (two : 2 ≤ length (entriesAt p s)) where
     root-slots : (l : ℕ) → Tree p (suc (suc l)) s → 3 ^ suc l ≤ length (slotsIn p (suc (suc l)) s)
     root-slots l d =

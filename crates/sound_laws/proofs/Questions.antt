@@ -12,7 +12,8 @@ use Rattle.rules.specs.Lists.{every}
 use Rattle.rules.specs.Numbers.{most}
 use Rattle.rules.specs.Geometry.{sameRect}
 use Rattle.rules.specs.Pool.{Node, Pool, freeNode, slotNumbers, nodeAt, entriesAt, childOf, coverOf, isLeaf, stored}
-use Rattle.rules.specs.Sound.{isSlot, inUse, isRoot, heightSound, rootSound, levelsSound, fewest, countSound, parents, oneParent, freeEmpty, recordsSound, leafEntrySound, innerEntrySound, nodeSound, usedSound, shapeSound, soundPool}
+use Rattle.rules.specs.Sound.{isSlot, inUse, isRoot, heightSound, rootSound, levelsSound, fewest, countSound, parents, oneParent}
+use Rattle.rules.specs.Sound.{freeEmpty, recordsSound, leafEntrySound, innerEntrySound, nodeSound, usedSound, shapeSound, soundPool}
 use Rattle.rules_laws.proofs.Bools.{and-both, both-and}
 use Rattle.rules_laws.proofs.Orders.{never-both}
 use Rattle.rules_laws.proofs.Places.{Among}

@@ -1,6 +1,6 @@
 -- A pool is sound just where it is whole. Levels fall by one from a node to its children, so each node in use has a tree below it. Each
--- other than the root is the child of one entry: so from the root down, a level at a time, each slot in use stands in the tree as often
--- as its one parent does, once. Back, each question asks what the tree, or the count of a slot in it, tells.
+-- other than the root is the child of one entry: so from the root down, a level at a time, each slot in use occurs in the tree as often as
+-- its one parent does, once. The other way, the tree, or the count of a slot in it, answers each question.
 use mathlib.Core.Path.{_≡_, refl, sym, ap, subst, _∙_}
 use mathlib.Core.Logic.{_↔_, _≢_}
 use mathlib.Core.Bool.{Bool, true, false}
@@ -75,9 +75,9 @@ module _ (p : Pool) (w : Sound p) where
   tree : Tree p (p .height) (p .root)
   tree = rw (w .top) at (tree-up (p .root) root-used)
 
-  -- ---- each slot in use stands in it once
+  -- ---- each slot in use occurs in it once
 
-  -- where each parent stands in it once
+  -- where each parent occurs in it once
   once-below : (s : SlotNumber) → Used p s → ((t : SlotNumber) → Used p t → nodeAt p t .level ≡ suc (nodeAt p s .level) → times t (treeSlots p) ≡ 1)
       → times s (treeSlots p) ≡ 1
   once-below s u above = go (slot-discrete s (p .root))

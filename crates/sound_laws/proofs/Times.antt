@@ -1,5 +1,5 @@
--- How often slots stand in a list. A sum over a list is made of what each slot adds, as often as it stands there: so it suffices to know
--- how often each stands.
+-- How often slots occur in a list. A sum over a list is made of what each slot adds, as often as it occurs there: so it suffices to know
+-- how often each occurs.
 use mathlib.Core.Path.{_≡_, refl, sym, ap}
 use mathlib.Core.Logic.{_≢_}
 use mathlib.Core.Bool.{Bool, true, false}
@@ -53,7 +53,7 @@ module _ (s : SlotNumber) where
       go (yes e) = rw e (omega (arith, times-self))
       go (no n) = omega (arith, times-other t n)
 
-  -- it stands there where it counts
+  -- it occurs there where it counts
   pub among-times : {ts : List SlotNumber} → Among s ts → 0 < times s ts
   among-times m = counted (λ t. sameSlot t s) m (same-slot s s .1 refl)
 
@@ -74,7 +74,7 @@ module _ (s : SlotNumber) where
 
 -- ---- sums
 
--- where each slot that counts stands no more often, the sum is no greater
+-- where each slot that counts occurs no more often, the sum is no greater
 pub total-le : (f : SlotNumber → ℕ) (xs ys : List SlotNumber) → ((s : SlotNumber) → 0 < f s → times s xs ≤ times s ys)
     → total (map f xs) ≤ total (map f ys)
 total-le f [] ys h = omega (arith, total-none f)

@@ -117,7 +117,7 @@ module _ (p : Pool) where
   among-cases l s t m =
       ⊎-elim inl (λ n. inr (among-joined (λ (f : Entry). slotsIn p (suc l) (childOf f)) t (entriesAt p s) n)) (List·Memᴰ·cases-cons m)
 
-  -- t is a slot of the tree of l levels at s: a tree stands at t
+  -- t is a slot of the tree of l levels at s: a tree is at t
   pub record Within (l : ℕ) (s t : SlotNumber) : Type 0 where
     pub tree : Tree p (nodeAt p t .level) t
     pub high : nodeAt p t .level ≤ l

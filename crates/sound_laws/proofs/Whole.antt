@@ -67,7 +67,7 @@ module _ (p : Pool) (w : Whole p) where
 
   -- ---- sums
 
-  -- what is nothing in free slots sums up alike over the slots and over the tree
+  -- what is 0 in free slots has the same sum over the slots and over the tree
   pub whole-total : (f : SlotNumber → ℕ) → ((s : SlotNumber) → Slot p s → nodeAt p s .level ≡ 0 → f s ≡ 0)
       → total (map f (treeSlots p)) ≡ total (map f (slotNumbers p))
   whole-total f h =

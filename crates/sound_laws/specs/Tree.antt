@@ -16,7 +16,7 @@ use Rattle.rules_laws.proofs.Places.{Among}
 
 -- ---- read off the pool
 
--- the slots of the tree of so many levels at s: s, then those of its children in stored order
+-- the slots of the tree with so many levels at s: s, then those of its children in stored order
 unfoldable pub slotsIn : Pool → ℕ → SlotNumber → List SlotNumber
 slotsIn p zero s = []
 slotsIn p (suc zero) s = s ∷ []
@@ -28,7 +28,7 @@ recordsIn p zero s = []
 recordsIn p (suc zero) s = map recordOf (entriesAt p s)
 recordsIn p (suc (suc l)) s = joined (map (λ (e : Entry). recordsIn p (suc l) (childOf e)) (entriesAt p s))
 
--- those of the tree from the root on
+-- those of the tree from the root down
 abbrev pub treeSlots : Pool → List SlotNumber
 treeSlots p = slotsIn p (p .height) (p .root)
 
@@ -42,11 +42,11 @@ childrenAt p s = cond (leb 2 (nodeAt p s .level)) (map childOf (entriesAt p s)) 
 unfoldable pub recordsAt : Pool → SlotNumber → List Record
 recordsAt p s = cond (isLeaf (nodeAt p s)) (map recordOf (entriesAt p s)) []
 
--- how often a slot stands among some
+-- how often a slot occurs in a list
 abbrev pub times : SlotNumber → List SlotNumber → ℕ
 times s ss = length (those (λ t. sameSlot t s) ss)
 
--- none stands there twice
+-- none occurs there twice
 abbrev pub Once : List SlotNumber → Type 0
 Once ss = (s : SlotNumber) → times s ss ≤ 1
 
@@ -78,7 +78,7 @@ pub record InnerEntry (p : Pool) (Below : SlotNumber → Type 0) (e : Entry) : T
   pub enough : least ≤ length (entriesAt p (childOf e))
   pub tight : e .rect ≡ coverOf (entriesAt p (childOf e))
 
--- a node of which each entry is sound
+-- a node whose entries are each sound
 pub record NodeOf (p : Pool) (l : ℕ) (Sound : Entry → Type 0) (s : SlotNumber) : Type 0 where
   pub node : NodeIn p l s
   pub each : (e : Entry) → Among e (entriesAt p s) → Sound e
@@ -89,7 +89,7 @@ Tree p zero s = ⊥
 Tree p (suc zero) s = NodeOf p 1 LeafEntry s
 Tree p (suc (suc l)) s = NodeOf p (suc (suc l)) (InnerEntry p (λ t. Tree p (suc l) t)) s
 
--- the pool is one tree from its root: each slot in use stands in it once, and the others are free
+-- the pool is one tree from its root: each slot in use occurs in it once, and the others are free
 pub record Whole (p : Pool) : Type 0 where
   pub tree : Tree p (p .height) (p .root)
   pub two : 2 ≤ p .height → 2 ≤ length (entriesAt p (p .root))

@@ -47,7 +47,11 @@ pub counting-none : (a : List ℕ) → Counting [] a a
 counting-none a = record { size = refl; on = λ before k. subst (λ (es : List Entry). Counted es a) (sym (append-nil before)) k }
 
 pub counting-more : {xs ys : List Entry} {a b c : List ℕ} → Counting xs a b → Counting ys b c → Counting (xs ++ ys) a c
-counting-more {xs} {ys} {a} {b} {c} f g = record { size = g .size ∙ f .size; on = λ before k. subst (λ (es : List Entry). Counted es c) (append-assoc before xs ys) (g .on (before ++ xs) (f .on before k)) }
+counting-more {xs} {ys} {a} {b} {c} f g =
+    record {
+      size = g .size ∙ f .size;
+      on = λ before k. subst (λ (es : List Entry). Counted es c) (append-assoc before xs ys) (g .on (before ++ xs) (f .on before k));
+    }
 
 pub counting-one : {e : Entry} {a b : List ℕ} → OneMore (childOf e) a b → Counting (e ∷ []) a b
 counting-one {e} {a} {b} o = record { size = o .size; on = λ before k. record { is = λ t low high. at before k t low high (eqb (childOf e .0) t) refl } }

@@ -1,3 +1,3 @@
--- Laws that the proofs of `shape` and of the crates above it cite.
+-- Laws that the proofs of `sound_shape` and of the crates above it cite.
 pub mod Counts
 pub mod Asked

@@ -31,7 +31,7 @@ recordCounts ns = length (joined (map (λ (n : Node). n .entries) (those isLeaf 
 unfoldable pub parentsAmong : SlotNumber → List Entry → ℕ
 parentsAmong s es = length (those (λ (e : Entry). sameSlot (childOf e) s) es)
 
--- of each slot, how many of the entries lead there: none, one, or more, which is 2
+-- for each slot, how many of the entries lead there: none, one, or more, which is 2
 pub record Counted (es : List Entry) (counts : List ℕ) : Type 0 where
   pub is : (t : ℕ) → 1 ≤ t → t ≤ mostSlots → getD counts (t - 1) 0 ≡ min (parentsAmong (slot t) es) 2
 

@@ -1,4 +1,4 @@
-// The questions of soundness that need no walk down a tree, of any words of a valid length. Each asks of a word a bounded number of
+// The questions of soundness that need no walk down a tree, about any words of a valid length. Each looks at a word a bounded number of
 // times, whatever the words are.
 ghost use mathlib.Core.Path.{_≡_};
 ghost use mathlib.Core.Bool.{true, false};
@@ -109,7 +109,8 @@ fn fewest(root: bool, leaf: bool) -> usize
     if leaf { 0 } else { 2 }
 }
 
-// "with a count of 3 to 8, but for the root 0 to 8 if a leaf and 2 to 8 otherwise": no more than 8 are read, and `tidy` refuses the rest.
+// "with a count of 3 to 8, but for the root 0 to 8 if a leaf and 2 to 8 otherwise": no more than 8 are read, and `tidy` refuses a larger
+// count.
 fn count_sound(pool: &[i32], s: SlotNumber) -> bool
     requires { ⌜ InPool (now pool) s ⌝ }
     ensures { λ r. ⌜ r ≡ S.countSound (L.read (now (pool .entry))) s ⌝ }
@@ -175,7 +176,7 @@ fn shaped_slots(pool: &[i32], counts: &[u32; MOST_SLOTS]) -> bool
     true
 }
 
-// The questions of the slots, with the parents of each counted first.
+// The questions asked of each slot, with its parents counted first.
 fn shaped_nodes(pool: &[i32]) -> bool
     requires { ⌜ L.validLength (now pool) ≡ true ⌝ }
     ensures { λ r. ⌜ r ≡ Li.every (slotShaped (L.read (now (pool .entry)))) (P.slotNumbers (L.read (now (pool .entry)))) ⌝ }

@@ -1,4 +1,4 @@
--- A place joins a group: its mark is set, it stands last in the group, and the group's cover grows by it.
+-- A place joins a group: its mark is set, it is last in the group, and the group's cover grows by it.
 use mathlib.Core.Path.{_≡_, refl, sym, ap, _∙_}
 use mathlib.Core.Bool.{Bool, true, false, cond}
 use mathlib.Core.List.{List, [], _∷_, _++_, map, foldl}

@@ -1,2 +1,2 @@
--- How the structs of `split` stand for the places and groups of document 01.
+-- How the structs of `split` represent the places and groups of document 01.
 pub mod State

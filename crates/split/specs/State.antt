@@ -1,5 +1,5 @@
--- How the structs of `split` stand for the places and groups of document 01. A reader of `quadraticGroups` needs none of this: the
--- contract of `split` is on the groups themselves.
+-- How the structs of `split` represent the places and groups of document 01. A reader of `quadraticGroups` needs none of this: the contract
+-- of `split_nine` speaks of the groups themselves.
 use mathlib.Core.Path.{_≡_}
 use mathlib.Core.Bool.{Bool, true, false, cond}
 use mathlib.Core.List.{List, [], _∷_}
@@ -65,12 +65,12 @@ pub record Free (t : Grouping) (k : ℕ) : Type 0 where
   pub inside : k < 9
   pub free : getD (t .joined) k false ≡ false
 
--- each group can still come to three
+-- each group can still reach three
 pub record Fill (t : Grouping) : Type 0 where
   pub one : 3 ≤ t .ones + remaining t
   pub two : 3 ≤ t .twos + remaining t
 
--- the struct is whole: every place has its mark, the covers are those of the groups
+-- the struct is complete: every place has its mark, and the covers are those of the groups
 pub record Ok (rs : List Rect) (t : Grouping) : Type 0 where
   pub joined9 : length (t .joined) ≡ 9
   pub one9 : length (t .one) ≡ 9
@@ -111,11 +111,11 @@ withOne rs t k =
       coverTwo = t .coverTwo;
     }
 
--- what the groups come to when all have joined
+-- what the groups are when all have joined
 unfoldable pub ends : List Rect → Grouping → S.Groups
 ends rs t = S.distribute (S.pickNext rs) (S.joinsTwo rs) (remaining t) (groupsOf t)
 
--- what a caller may go by: 3 to 6 places in each group, all of them places of the nine
+-- what a caller may rely on: 3 to 6 places in each group, all of them places of the nine
 pub record GroupsWhole (t : Grouping) : Type 0 where
   pub all : t .ones + t .twos ≡ 9
   pub ones : 3 ≤ t .ones

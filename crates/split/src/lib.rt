@@ -181,7 +181,7 @@ fn pick_next(nine: [Rect; 9], joined: [bool; 9], one: Rect, two: Rect) -> usize
 
 // ---- the groups grow
 
-// Group 1 and group 2 change names.
+// Group 1 and group 2 swap names.
 fn swapped(t: Grouping) -> Grouping
     ensures { λ r. ⌜ r ≡ flipped t ⌝ }
 {

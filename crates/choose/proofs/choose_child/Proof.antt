@@ -51,41 +51,63 @@ Inv-loop pool s new n best₀ i₀ best i = Turn (rectsOf pool s) new n best i
 abbrev μ-loop : tie.MeasureT-loop
 μ-loop pool s new n best₀ i₀ best i = n - i
 
--- src/lib.rt:58:9
 count-of-requires : tie.Need-count-of-requires Inv-loop μ-loop
 count-of-requires c κs = c .pre .0
 
--- src/lib.rt:59:9
 measured-requires : tie.Need-measured-requires Inv-loop μ-loop
-measured-requires c κs = let s = c .before in let es = entriesAt (read (s .args .pool .now)) (s .args .s) in let z = length-rects es in (s .pre .0, (s .pre .1 .0, (omega (arith, s .pre .1 .0 .some), s .pre .1 .1)))
+measured-requires c κs =
+    let start = c .before in
+    let es = entriesAt (read (start .args .pool .now)) (start .args .s) in
+    let z = length-rects es in
+    (start .pre .0, (start .pre .1 .0, (omega (arith, start .pre .1 .0 .some), start .pre .1 .1)))
 
--- src/lib.rt:61:5
 loop-holds : tie.Need-loop-holds Inv-loop μ-loop
-loop-holds c = let s = c .before .before in let es = entriesAt (read (s .args .pool .now)) (s .args .s) in let z = length-rects es in record { size = c .before .count-of .ensures .0 ∙ sym z; low = omega arith; most = omega (arith, c .before .count-of .ensures .0, s .pre .1 .0 .some); held = c .measured .ensures .1; rest = rw (c .measured .ensures .0) (first (rects es) (s .args .new) (s .pre .1 .0 .some)) }
+loop-holds c =
+    let start = c .before .before in
+    let count-of = c .before .count-of in
+    let es = entriesAt (read (start .args .pool .now)) (start .args .s) in
+    let z = length-rects es in
+    record {
+      size = count-of .ensures .0 ∙ sym z;
+      low = omega arith;
+      most = omega (arith, count-of .ensures .0, start .pre .1 .0 .some);
+      held = c .measured .ensures .1;
+      rest = rw (c .measured .ensures .0) (first (rects es) (start .args .new) (start .pre .1 .0 .some));
+    }
 
--- src/lib.rt:62:27
 measured-requires-2 : tie.Need-measured-requires-2 Inv-loop μ-loop
-measured-requires-2 c κs = let s = c .before .before .before .before in let es = entriesAt (read (s .args .pool .now)) (s .args .s) in let z = length-rects es in (s .pre .0, (s .pre .1 .0, (omega (arith, c .loop-test .taken, c .before .loop .inv .size), s .pre .1 .1)))
+measured-requires-2 c κs =
+    let start = c .before .before .before .before in
+    let es = entriesAt (read (start .args .pool .now)) (start .args .s) in
+    let z = length-rects es in
+    (start .pre .0, (start .pre .1 .0, (omega (arith, c .loop-test .taken, c .before .loop .inv .size), start .pre .1 .1)))
 
--- src/lib.rt:62:9
 keep-requires : tie.Need-keep-requires Inv-loop μ-loop
 keep-requires c κs = search needs
 
--- src/lib.rt:63:9
 add-i : tie.Need-add-i Inv-loop μ-loop
 add-i c = search needs
 
--- src/lib.rt:61:5
 loop-less : tie.Need-loop-less Inv-loop μ-loop
 loop-less c = search needs
 
--- src/lib.rt:61:5
 loop-again : tie.Need-loop-again Inv-loop μ-loop
-loop-again c = rw (c .keep .ensures) (turn (c .before .before .before .loop .inv) (c .before .before .loop-test .taken) (c .before .measured2 .ensures .1) (c .before .measured2 .ensures .0))
+loop-again c =
+    let loop = c .before .before .before .loop in
+    let loop-test = c .before .before .loop-test in
+    let measured2 = c .before .measured2 in
+    rw (c .keep .ensures) (turn (loop .inv) (loop-test .taken) (measured2 .ensures .1) (measured2 .ensures .0))
 
--- src/lib.rt:51:1
 returns : tie.Need-returns Inv-loop μ-loop
-returns c = let s = c .before .before .before .before in let es = entriesAt (read (s .args .pool .now)) (s .args .s) in let z = length-rects es in let t = c .before .loop .inv in (sym (last (rects es) (s .args .new) (c .before .loop .best .at) (c .before .loop .i) (omega (arith, c .loop-test .left, t .size))) ∙ t .rest, omega (arith, t .held .there))
+returns c =
+    let start = c .before .before .before .before in
+    let loop = c .before .loop in
+    let es = entriesAt (read (start .args .pool .now)) (start .args .s) in
+    let z = length-rects es in
+    let t = loop .inv in (
+      sym (last (rects es) (start .args .new) (loop .best .at) (loop .i) (omega (arith, c .loop-test .left, t .size))) ∙ t .rest,
+      omega (arith, t .held .there),
+    )
 
 pub choose-child-spec : {M : Type 1} → statement M
 choose-child-spec =

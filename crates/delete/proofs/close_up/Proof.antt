@@ -1,4 +1,4 @@
--- `removing::close_up` meets its contract: each turn puts the next entry one place down.
+-- `delete::close_up` meets its contract: each turn puts the next entry one place down.
 use borrow.Author.Needs.{needs}
 use Prim.Native.Nat.{_-_}
 use native.Mathlib.Omega.{arith}
@@ -14,47 +14,36 @@ Inv-loop i n es₀ k₀ es k = Closing es₀ i n es k
 abbrev μ-loop : tie.MeasureT-loop
 μ-loop i n es₀ k₀ es k = n - k
 
--- src/lib.rt:62:17
 add-k : tie.Need-add-k Inv-loop μ-loop
 add-k c = omega arith
 
--- src/lib.rt:63:5
 loop-holds : tie.Need-loop-holds Inv-loop μ-loop
 loop-holds c = closing-first (c .args .entries) (c .args .i) (c .args .n) (search needs) (c .pre .1) (c .pre .0)
 
--- src/lib.rt:64:17
 mul-e : tie.Need-mul-e Inv-loop μ-loop
 mul-e c = omega (arith, c .loop-test .taken, c .before .loop .inv .few, c .before .loop .inv .low)
 
--- src/lib.rt:64:17
 array-copy-out-e : tie.Need-array-copy-out-e Inv-loop μ-loop
 array-copy-out-e c = omega (arith, c .loop-test .taken, c .before .loop .inv .few, c .before .loop .inv .low)
 
--- src/lib.rt:65:12
 sub-es : tie.Need-sub-es Inv-loop μ-loop
 sub-es c = omega (arith, c .before .before .loop .inv .low)
 
--- src/lib.rt:65:9
 mul-es : tie.Need-mul-es Inv-loop μ-loop
 mul-es c = omega (arith, c .before .loop-test .taken, c .before .before .loop .inv .few, c .before .before .loop .inv .low)
 
--- src/lib.rt:65:9
 array-set-from-es : tie.Need-array-set-from-es Inv-loop μ-loop
 array-set-from-es c = omega (arith, c .before .loop-test .taken, c .before .before .loop .inv .few, c .before .before .loop .inv .low)
 
--- src/lib.rt:66:9
 add-k-2 : tie.Need-add-k-2 Inv-loop μ-loop
 add-k-2 c = omega (arith, c .before .loop-test .taken, c .before .before .loop .inv .few, c .before .before .loop .inv .low)
 
--- src/lib.rt:63:5
 loop-less : tie.Need-loop-less Inv-loop μ-loop
 loop-less c = omega (arith, c .before .loop-test .taken)
 
--- src/lib.rt:63:5
 loop-again : tie.Need-loop-again Inv-loop μ-loop
 loop-again c = closing-next _ (c .before .before .loop .inv) (c .before .loop-test .taken)
 
--- src/lib.rt:57:1
 returns : tie.Need-returns Inv-loop μ-loop
 returns c = closing-last (c .before .loop .inv) (c .loop-test .left)
 

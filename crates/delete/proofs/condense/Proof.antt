@@ -1,4 +1,4 @@
--- `removing::condense` meets its contract: the leaf's entry is out, and each turn relieves the node one level up.
+-- `delete::condense` meets its contract: the leaf's entry is out, and each turn relieves the node one level up.
 use borrow.Author.Needs.{needs}
 use mathlib.Core.Path.{_≡_, _∙_}
 use lib.ListN.{length}
@@ -21,82 +21,92 @@ Inv-loop pool₀ height nodes places asides₀ l₀ pool asides l = Climbing poo
 abbrev μ-loop : tie.MeasureT-loop
 μ-loop pool₀ height nodes places asides₀ l₀ pool asides l = height - l
 
--- src/lib.rt:205:20
 array-copy-out-take-out : tie.Need-array-copy-out-take-out Inv-loop μ-loop
 array-copy-out-take-out c = omega arith
 
--- src/lib.rt:205:30
 array-read-take-out : tie.Need-array-read-take-out Inv-loop μ-loop
 array-read-take-out c = omega arith
 
--- src/lib.rt:205:5
 take-out-requires : tie.Need-take-out-requires Inv-loop μ-loop
-take-out-requires c κs = let s = c .before .before .before .before in let p = read (s .args .pool .now) in
-    (s .pre .0, (leaf-rewritable p (s .args .way) (s .args .height) (s .pre .1 .0) (few-read (s .pre .0)), leaf-there p (s .args .way) (s .args .height) (s .pre .1 .0)))
+take-out-requires c κs =
+    let start = c .before .before .before .before in
+    let p = read (start .args .pool .now) in (
+      start .pre .0,
+      (
+        leaf-rewritable p (start .args .way) (start .args .height) (start .pre .1 .0) (few-read (start .pre .0)),
+        leaf-there p (start .args .way) (start .args .height) (start .pre .1 .0),
+      ),
+    )
 
--- src/lib.rt:206:9
 none-aside-requires : tie.Need-none-aside-requires Inv-loop μ-loop
 none-aside-requires c κs = search needs
 
--- src/lib.rt:208:5
 loop-holds : tie.Need-loop-holds Inv-loop μ-loop
-loop-holds c = let s = c .before .before .before .before .before .before .before in let p = read (s .args .pool .now) in
-    climbing-first p (s .args .way) (s .args .height) (s .pre .1 .0) (c .before .before .take-out .last .0) (c .before .before .take-out .ensures .0) (few-read (s .pre .0)) (c .before .before .take-out .ensures .1)
-    (s .args .free) (s .pre .1 .1) (c .none-aside .result) (c .none-aside .ensures .0) (c .none-aside .ensures .1 .0) (c .none-aside .ensures .1 .1)
+loop-holds c =
+    let start = c .before .before .before .before .before .before .before in
+    let take-out = c .before .before .take-out in
+    let p = read (start .args .pool .now) in
+    climbing-first p (start .args .way) (start .args .height) (start .pre .1 .0) (take-out .last .0) (take-out .ensures .0)
+    (few-read (start .pre .0)) (take-out .ensures .1) (start .args .free) (start .pre .1 .1) (c .none-aside .result)
+    (c .none-aside .ensures .0) (c .none-aside .ensures .1 .0) (c .none-aside .ensures .1 .1)
 
--- src/lib.rt:209:32
 mul-relieve : tie.Need-mul-relieve Inv-loop μ-loop
 mul-relieve c = omega (arith, c .before .loop-test .taken, c .before .before .loop .inv .levels)
 
--- src/lib.rt:209:32
 array-copy-out-relieve : tie.Need-array-copy-out-relieve Inv-loop μ-loop
 array-copy-out-relieve c = omega (arith, c .before .loop-test .taken, c .before .before .loop .inv .levels)
 
--- src/lib.rt:209:42
 mul-relieve-2 : tie.Need-mul-relieve-2 Inv-loop μ-loop
 mul-relieve-2 c = omega (arith, c .before .before .loop-test .taken, c .before .before .before .loop .inv .levels)
 
--- src/lib.rt:209:42
 array-read-relieve : tie.Need-array-read-relieve Inv-loop μ-loop
 array-read-relieve c = omega (arith, c .before .before .loop-test .taken, c .before .before .before .loop .inv .levels)
 
--- src/lib.rt:209:59
 sub-relieve : tie.Need-sub-relieve Inv-loop μ-loop
 sub-relieve c = omega (arith, c .before .before .before .loop .inv .low)
 
--- src/lib.rt:209:53
 mul-relieve-3 : tie.Need-mul-relieve-3 Inv-loop μ-loop
 mul-relieve-3 c = omega (arith, c .before .before .loop-test .taken, c .before .before .before .loop .inv .levels)
 
--- src/lib.rt:209:53
 array-copy-out-relieve-2 : tie.Need-array-copy-out-relieve-2 Inv-loop μ-loop
 array-copy-out-relieve-2 c = omega (arith, c .before .before .loop-test .taken, c .before .before .before .loop .inv .levels)
 
--- src/lib.rt:209:9
 relieve-requires : tie.Need-relieve-requires Inv-loop μ-loop
 relieve-requires c κs = let t = c .before .before .before .before .loop .inv in let h = c .before .before .before .loop-test .taken in
     (t .has .pool .fit, (climbing-child t h, (climbing-known t, (t .has .roomy, climbing-few t h))))
 
--- src/lib.rt:210:9
 add-l : tie.Need-add-l Inv-loop μ-loop
-add-l c = omega (arith, c .before .before .before .before .before .loop-test .taken, c .before .before .before .before .before .before .loop .inv .levels)
+add-l c =
+    let loop = c .before .before .before .before .before .before .loop in
+    let loop-test = c .before .before .before .before .before .loop-test in
+    omega (arith, loop-test .taken, loop .inv .levels)
 
--- src/lib.rt:208:5
 loop-less : tie.Need-loop-less Inv-loop μ-loop
-loop-less c = omega (arith, c .before .before .before .before .before .loop-test .taken)
+loop-less c =
+    let loop-test = c .before .before .before .before .before .loop-test in
+    omega (arith, loop-test .taken)
 
--- src/lib.rt:208:5
 loop-again : tie.Need-loop-again Inv-loop μ-loop
-loop-again c = climbing-next (c .before .before .before .before .before .before .loop .inv) (c .before .before .before .before .before .loop-test .taken) (c .before .relieve .last .0) (search needs) (c .before .relieve .result) (c .before .relieve .ensures)
+loop-again c =
+    let loop = c .before .before .before .before .before .before .loop in
+    let loop-test = c .before .before .before .before .before .loop-test in
+    let relieve = c .before .relieve in
+    climbing-next (loop .inv) (loop-test .taken) (relieve .last .0) (search needs) (relieve .result) (relieve .ensures)
 
--- src/lib.rt:197:1
 same-length : tie.Need-same-length Inv-loop μ-loop
-same-length c = let b : length (c .before .before .before .before .take-out .last .0) ≡ length (c .before .before .before .before .before .before .before .before .before .args .pool .now) = search needs in c .before .loop .inv .long ∙ b
+same-length c =
+    let start = c .before .before .before .before .before .before .before .before .before in
+    let take-out = c .before .before .before .before .take-out in
+    let b : length (take-out .last .0) ≡ length (start .args .pool .now) = search needs in
+    c .before .loop .inv .long ∙ b
 
--- src/lib.rt:197:1
 returns : tie.Need-returns Inv-loop μ-loop
-returns c = let s = c .before .before .before .before .before .before .before .before .before in
-    climbing-last (read (s .args .pool .now)) (s .args .way) (s .args .height) (s .pre .1 .0) (c .before .before .before .before .take-out .last .0) (c .before .before .before .before .take-out .ensures .0) (c .before .loop .pool) (c .before .loop .asides) (c .before .loop .l) (c .before .loop .inv) (c .loop-test .left)
+returns c =
+    let start = c .before .before .before .before .before .before .before .before .before in
+    let take-out = c .before .before .before .before .take-out in
+    let loop = c .before .loop in
+    climbing-last (read (start .args .pool .now)) (start .args .way) (start .args .height) (start .pre .1 .0) (take-out .last .0)
+    (take-out .ensures .0) (loop .pool) (loop .asides) (loop .l) (loop .inv) (c .loop-test .left)
 
 pub condense-spec : {M : Type 1} → statement M
 condense-spec =

@@ -1,4 +1,4 @@
--- `removing::none_aside` meets its contract: none is counted.
+-- `delete::none_aside` meets its contract: none is counted.
 use mathlib.Core.Path.{refl}
 use Rattle.delete.proofs.Listed.{listed-none}
 use borrow.Author.Needs.{needs}
@@ -8,11 +8,9 @@ use Rattle.delete.proofs.none_aside.Reads as reads
 use Rattle.delete.proofs.none_aside.Lts as lts
 use Rattle.pool.proofs.no_entry.Reads as no-entry-reads
 
--- src/lib.rt:186:20
 no-entry-requires : tie.Need-no-entry-requires
 no-entry-requires c κs = search needs
 
--- src/lib.rt:181:1
 returns : tie.Need-returns
 returns c = (listed-none _ _ 0, (record { entries = refl; levels = refl }, refl))
 

@@ -1,4 +1,4 @@
--- `removing::relieve` meets its contract: fewer than three entries: out, set aside and zeroed; else tight.
+-- `delete::relieve` meets its contract: fewer than three entries: out, set aside and zeroed; else tight.
 use mathlib.Core.Path.{sym, ap, subst}
 use native.Mathlib.Omega.{arith}
 use Rattle.rules.specs.Pool.{Pool}
@@ -20,56 +20,83 @@ use Rattle.nodes.proofs.tighten.Reads as tighten-reads
 use Rattle.delete.proofs.with_free.Reads as with-free-reads
 use Rattle.delete.proofs.zero_slot.Reads as zero-slot-reads
 
--- src/lib.rt:167:8
 count-of-requires : tie.Need-count-of-requires
 count-of-requires c κs = in-pool (c .before .pre .0) (c .before .pre .1 .0 .slot)
 
--- src/lib.rt:168:13
 level-of-requires : tie.Need-level-of-requires
-level-of-requires c κs = in-pool (c .before .before .before .before .pre .0) (c .before .before .before .before .pre .1 .0 .slot)
+level-of-requires c κs =
+    let start = c .before .before .before .before in
+    in-pool (start .pre .0) (start .pre .1 .0 .slot)
 
--- src/lib.rt:169:13
 set-aside-requires : tie.Need-set-aside-requires
-set-aside-requires c κs = let s = c .before .before .before .before .before .before in (in-pool (s .pre .0) (s .pre .1 .0 .slot), (c .before .level-of .ensures, (s .pre .1 .1 .1 .0, omega (arith, c .before .before .before .before .count-of .ensures .0, c .before .before .before .if1 .taken, s .pre .1 .1 .1 .1))))
+set-aside-requires c κs =
+    let start = c .before .before .before .before .before .before in
+    let count-of = c .before .before .before .before .count-of in
+    let if1 = c .before .before .before .if1 in (
+      in-pool (start .pre .0) (start .pre .1 .0 .slot),
+      (c .before .level-of .ensures, (start .pre .1 .1 .1 .0, omega (arith, count-of .ensures .0, if1 .taken, start .pre .1 .1 .1 .1))),
+    )
 
--- src/lib.rt:170:9
 take-out-requires : tie.Need-take-out-requires
-take-out-requires c κs = let s = c .before .before .before .before .before .before .before .before in (s .pre .0, (s .pre .1 .0 .parent, s .pre .1 .0 .there))
+take-out-requires c κs =
+    let start = c .before .before .before .before .before .before .before .before in
+    (start .pre .0, (start .pre .1 .0 .parent, start .pre .1 .0 .there))
 
--- src/lib.rt:171:9
 zero-slot-requires : tie.Need-zero-slot-requires
-zero-slot-requires c κs = let s = c .before .before .before .before .before .before .before .before .before .before .before in let p = read (s .args .pool .now) in
-    (c .before .before .take-out .ensures .1, in-pool (c .before .before .take-out .ensures .1) (subst (λ (q : Pool). Slot q (s .args .t)) (sym (c .before .before .take-out .ensures .0)) (out-slot p (s .args .asides .free) (s .pre .1 .1 .0) (s .args .s) (s .args .i) (s .args .t) (s .pre .1 .0))))
+zero-slot-requires c κs =
+    let start = c .before .before .before .before .before .before .before .before .before .before .before in
+    let take-out = c .before .before .take-out in
+    let p = read (start .args .pool .now) in (
+      take-out .ensures .1,
+      in-pool (take-out .ensures .1)
+          (subst (λ (q : Pool). Slot q (start .args .t)) (sym (take-out .ensures .0))
+          (out-slot p (start .args .asides .free) (start .pre .1 .1 .0) (start .args .s) (start .args .i) (start .args .t) (start .pre .1 .0))),
+    )
 
--- src/lib.rt:172:9
 with-free-requires : tie.Need-with-free-requires
-with-free-requires c κs = let s = c .before .before .before .before .before .before .before .before .before .before .before .before .before in let same = ap (λ (f : FreeSlots). f .count) (c .before .before .before .before .before .before .set-aside .ensures .1 .1) in
-    omega (arith, same, free-few (read (s .args .pool .now)) (s .args .asides .free) (s .pre .1 .1 .0) (few-read (s .pre .0)))
+with-free-requires c κs =
+    let at-set-aside = c .before .before .before .before .before .before in
+    let start = at-set-aside .before .before .before .before .before .before .before in
+    let set-aside = at-set-aside .set-aside in
+    let same = ap (λ (f : FreeSlots). f .count) (set-aside .ensures .1 .1) in
+    omega (
+      arith,
+      same,
+      free-few (read (start .args .pool .now)) (start .args .asides .free) (start .pre .1 .1 .0) (few-read (start .pre .0)),
+    )
 
--- src/lib.rt:172:9
 same-length : tie.Need-same-length
 same-length c = search needs
 
--- src/lib.rt:172:9
 returns : tie.Need-returns
-returns c = let s = c .before .before .before .before .before .before .before .before .before .before .before .before .before .before in
-    has-gone (s .args .pool .now) (s .args .s) (s .args .i) (s .args .t) (s .args .asides) (s .pre .1 .0) (s .pre .1 .1 .0) (omega (arith, c .before .before .before .before .before .before .before .before .before .before .before .before .count-of .ensures .0, c .before .before .before .before .before .before .before .before .before .before .before .if1 .taken))
-    (c .before .before .before .before .before .before .before .set-aside .result) (c .before .before .before .before .before .before .before .set-aside .ensures .0) (c .before .before .before .before .before .before .before .set-aside .ensures .1 .0) (c .before .before .before .before .before .before .before .set-aside .ensures .1 .1) (read (c .before .before .before .before .before .take-out .last .0)) (c .before .before .before .before .before .take-out .ensures .0)
-    (c .before .before .zero-slot .last .0) (c .before .before .zero-slot .ensures .0) (c .before .before .zero-slot .ensures .1) (c .with-free .result) (c .with-free .ensures)
+returns c =
+    let at-set-aside = c .before .before .before .before .before .before .before in
+    let start = at-set-aside .before .before .before .before .before .before .before in
+    let count-of = at-set-aside .before .before .before .before .before .count-of in
+    let if1 = at-set-aside .before .before .before .before .if1 in
+    let set-aside = at-set-aside .set-aside in
+    let take-out = c .before .before .before .before .before .take-out in
+    let zero-slot = c .before .before .zero-slot in
+    has-gone (start .args .pool .now) (start .args .s) (start .args .i) (start .args .t) (start .args .asides) (start .pre .1 .0)
+    (start .pre .1 .1 .0) (omega (arith, count-of .ensures .0, if1 .taken)) (set-aside .result) (set-aside .ensures .0)
+    (set-aside .ensures .1 .0) (set-aside .ensures .1 .1) (read (take-out .last .0)) (take-out .ensures .0) (zero-slot .last .0)
+    (zero-slot .ensures .0) (zero-slot .ensures .1) (c .with-free .result) (c .with-free .ensures)
 
--- src/lib.rt:174:5
 tighten-requires : tie.Need-tighten-requires
 tighten-requires c κs = let s = c .before .before .before .before in (s .pre .0, child-leads (s .pre .1 .0))
 
--- src/lib.rt:159:1
 same-length-2 : tie.Need-same-length-2
 same-length-2 c = search needs
 
--- src/lib.rt:159:1
 returns-2 : tie.Need-returns-2
-returns-2 c = let s = c .before .before .before .before .before .before in
-    has-tight (s .args .pool .now) (s .args .s) (s .args .i) (s .args .t) (s .args .asides) (s .pre .1 .0) (s .pre .1 .1 .0) (omega (arith, c .before .before .before .before .count-of .ensures .0, c .before .before .before .if1 .left))
-    (s .pre .1 .1 .1 .0) (c .before .tighten .last .0) (c .before .tighten .ensures .0) (c .before .tighten .ensures .1)
+returns-2 c =
+    let start = c .before .before .before .before .before .before in
+    let count-of = c .before .before .before .before .count-of in
+    let if1 = c .before .before .before .if1 in
+    let tighten = c .before .tighten in
+    has-tight (start .args .pool .now) (start .args .s) (start .args .i) (start .args .t) (start .args .asides) (start .pre .1 .0)
+    (start .pre .1 .1 .0) (omega (arith, count-of .ensures .0, if1 .left)) (start .pre .1 .1 .1 .0) (tighten .last .0) (tighten .ensures .0)
+    (tighten .ensures .1)
 
 pub relieve-spec : {M : Type 1} → statement M
 relieve-spec =

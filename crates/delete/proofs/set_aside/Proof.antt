@@ -1,4 +1,4 @@
--- `removing::set_aside` meets its contract: each turn sets the next entry aside, behind those before.
+-- `delete::set_aside` meets its contract: each turn sets the next entry aside, after those before.
 use mathlib.Core.Path.{refl, ap, _∙_}
 use mathlib.Core.List.{List, _++_}
 use Prim.Native.Nat.{_-_}
@@ -22,65 +22,63 @@ Inv-loop pool t level entries₀ levels₀ count free n k₀ entries levels k =
 abbrev μ-loop : tie.MeasureT-loop
 μ-loop pool t level entries₀ levels₀ count free n k₀ entries levels k = n - k
 
--- src/lib.rt:124:9
 count-of-requires : tie.Need-count-of-requires Inv-loop μ-loop
 count-of-requires c κs = c .before .before .before .pre .0
 
--- src/lib.rt:126:5
 loop-holds : tie.Need-loop-holds Inv-loop μ-loop
-loop-holds c = let s = c .before .before .before .before in setting-first (c .count-of .ensures .0) (omega (arith, c .count-of .ensures .0, s .pre .1 .1 .1)) (s .pre .1 .1 .0 .entries) (s .pre .1 .1 .0 .levels)
+loop-holds c =
+    let start = c .before .before .before .before in
+    setting-first (c .count-of .ensures .0) (omega (arith, c .count-of .ensures .0, start .pre .1 .1 .1)) (start .pre .1 .1 .0 .entries)
+    (start .pre .1 .1 .0 .levels)
 
--- src/lib.rt:127:30
 entry-of-requires : tie.Need-entry-of-requires Inv-loop μ-loop
-entry-of-requires c κs = (c .before .before .before .before .before .before .pre .0, omega (arith, c .loop-test .taken, c .before .loop .inv .size))
+entry-of-requires c κs =
+    let start = c .before .before .before .before .before .before in
+    (start .pre .0, omega (arith, c .loop-test .taken, c .before .loop .inv .size))
 
--- src/lib.rt:127:17
 add-entries : tie.Need-add-entries Inv-loop μ-loop
 add-entries c = omega (arith, c .before .loop-test .taken, c .before .before .loop .inv .room)
 
--- src/lib.rt:127:9
 mul-entries : tie.Need-mul-entries Inv-loop μ-loop
 mul-entries c = omega (arith, c .before .loop-test .taken, c .before .before .loop .inv .room)
 
--- src/lib.rt:127:9
 array-set-from-entries : tie.Need-array-set-from-entries Inv-loop μ-loop
 array-set-from-entries c = omega (arith, c .before .loop-test .taken, c .before .before .loop .inv .room)
 
--- src/lib.rt:128:16
 add-levels : tie.Need-add-levels Inv-loop μ-loop
 add-levels c = omega (arith, c .before .loop-test .taken, c .before .before .loop .inv .room)
 
--- src/lib.rt:128:9
 mul-levels : tie.Need-mul-levels Inv-loop μ-loop
 mul-levels c = omega (arith, c .before .loop-test .taken, c .before .before .loop .inv .room)
 
--- src/lib.rt:128:9
 array-write-levels : tie.Need-array-write-levels Inv-loop μ-loop
 array-write-levels c = omega (arith, c .before .loop-test .taken, c .before .before .loop .inv .room)
 
--- src/lib.rt:129:9
 add-k : tie.Need-add-k Inv-loop μ-loop
 add-k c = omega (arith, c .before .loop-test .taken, c .before .before .loop .inv .room)
 
--- src/lib.rt:126:5
 loop-less : tie.Need-loop-less Inv-loop μ-loop
 loop-less c = omega (arith, c .before .loop-test .taken)
 
--- src/lib.rt:126:5
 loop-again : tie.Need-loop-again Inv-loop μ-loop
 unfolding entryAt entryFrom
-loop-again c = setting-next (c .before .before .loop .inv) (c .before .loop-test .taken) (c .entry-of .result) (c .entry-of .ensures) (c .before .before .before .before .before .before .before .args .level) refl
+loop-again c =
+    let start = c .before .before .before .before .before .before .before in
+    let loop = c .before .before .loop in
+    setting-next (loop .inv) (c .before .loop-test .taken) (c .entry-of .result) (c .entry-of .ensures) (start .args .level) refl
 
--- src/lib.rt:134:16
 add-t21 : tie.Need-add-t21 Inv-loop μ-loop
 add-t21 c = omega (arith, c .before .loop .inv .room)
 
--- src/lib.rt:111:1
 returns : tie.Need-returns Inv-loop μ-loop
-returns c = let s = c .before .before .before .before .before .before in let t = c .before .loop .inv in (
-  setting-last t (c .loop-test .left) ∙ ap (λ (xs : List Aside). asidesOf (s .args .asides) ++ xs) (asides-are (read (s .args .pool .now)) (s .args .t) (s .args .level) (s .pre .1 .0)),
-  (record { entries = t .entries; levels = t .levels }, refl),
-)
+returns c =
+    let start = c .before .before .before .before .before .before in
+    let t = c .before .loop .inv in (
+      setting-last t (c .loop-test .left)
+          ∙ ap (λ (xs : List Aside). asidesOf (start .args .asides) ++ xs)
+          (asides-are (read (start .args .pool .now)) (start .args .t) (start .args .level) (start .pre .1 .0)),
+      (record { entries = t .entries; levels = t .levels }, refl),
+    )
 
 pub set-aside-spec : {M : Type 1} → statement M
 set-aside-spec =

@@ -1,4 +1,4 @@
--- `removing::shorten` meets its contract: the root is a leaf, or has one child, or has more.
+-- `delete::shorten` meets its contract: the root is a leaf, or has one child, or has more.
 use mathlib.Core.Path.{_≡_, sym, ap, subst, _∙_}
 use mathlib.Core.Logic.{_≢_}
 use mathlib.Core.Bool.{false}
@@ -24,78 +24,134 @@ use Rattle.pool.proofs.root_of.Reads as root-of-reads
 use Rattle.delete.proofs.zero_slot.Reads as zero-slot-reads
 use Rattle.free_slots.proofs.more_slot.Reads as more-slot-reads
 
--- src/lib.rt:251:9
 root-of-requires : tie.Need-root-of-requires
 root-of-requires c κs = search needs
 
--- src/lib.rt:252:9
 height-of-requires : tie.Need-height-of-requires
 height-of-requires c κs = search needs
 
--- src/lib.rt:254:9
 same-length : tie.Need-same-length
 same-length c = search needs
 
--- src/lib.rt:254:9
 returns : tie.Need-returns
-returns c = let s = c .before .before .before .before .before in let p = read (s .args .pool .now) in
-    holds-same (s .args .pool .now) (s .args .free) (s .pre .1 .1 .1) (s .pre .0) (short-leaf p (s .pre .1 .0) (sym (c .before .height-of .ensures) ∙ c .if1 .taken))
+returns c =
+    let start = c .before .before .before .before .before in
+    let p = read (start .args .pool .now) in
+    holds-same (start .args .pool .now) (start .args .free) (start .pre .1 .1 .1) (start .pre .0)
+    (short-leaf p (start .pre .1 .0) (sym (c .before .height-of .ensures) ∙ c .if1 .taken))
 
--- src/lib.rt:256:8
 count-of-requires : tie.Need-count-of-requires
-count-of-requires c κs = let s = c .before .before .before .before .before .before in let p = read (s .args .pool .now) in in-pool (s .pre .0) (subst (Slot p) (sym (c .before .before .before .before .root-of .ensures)) (root-slot p (s .pre .1 .0)))
+count-of-requires c κs =
+    let start = c .before .before .before .before .before .before in
+    let root-of = c .before .before .before .before .root-of in
+    let p = read (start .args .pool .now) in
+    in-pool (start .pre .0) (subst (Slot p) (sym (root-of .ensures)) (root-slot p (start .pre .1 .0)))
 
--- src/lib.rt:257:13
 child-of-requires : tie.Need-child-of-requires
-child-of-requires c κs = let s = c .before .before .before .before .before .before .before .before .before in let p = read (s .args .pool .now) in (
-  in-pool (s .pre .0) (subst (Slot p) (sym (c .before .before .before .before .before .before .before .root-of .ensures)) (root-slot p (s .pre .1 .0))),
-  (
-    omega (arith, c .before .before .count-of .ensures .0, c .before .if2 .taken),
-    subst (λ (x : SlotNumber). isLeaf (nodeAt p x) ≡ false) (sym (c .before .before .before .before .before .before .before .root-of .ensures)) (root-inner p (s .pre .1 .0) (λ e. c .before .before .before .before .if1 .left (c .before .before .before .before .before .height-of .ensures ∙ e))),
-  ),
-)
+child-of-requires c κs =
+    let start = c .before .before .before .before .before .before .before .before .before in
+    let root-of = c .before .before .before .before .before .before .before .root-of in
+    let height-of = c .before .before .before .before .before .height-of in
+    let if1 = c .before .before .before .before .if1 in
+    let count-of = c .before .before .count-of in
+    let p = read (start .args .pool .now) in (
+      in-pool (start .pre .0) (subst (Slot p) (sym (root-of .ensures)) (root-slot p (start .pre .1 .0))),
+      (
+        omega (arith, count-of .ensures .0, c .before .if2 .taken),
+        subst (λ (x : SlotNumber). isLeaf (nodeAt p x) ≡ false) (sym (root-of .ensures))
+            (root-inner p (start .pre .1 .0) (λ e. if1 .left (height-of .ensures ∙ e))),
+      ),
+    )
 
--- src/lib.rt:258:9
 zero-slot-requires : tie.Need-zero-slot-requires
-zero-slot-requires c κs = let s = c .before .before .before .before .before .before .before .before .before .before .before in let p = read (s .args .pool .now) in (s .pre .0, in-pool (s .pre .0) (subst (Slot p) (sym (c .before .before .before .before .before .before .before .before .before .root-of .ensures)) (root-slot p (s .pre .1 .0))))
+zero-slot-requires c κs =
+    let start = c .before .before .before .before .before .before .before .before .before .before .before in
+    let root-of = c .before .before .before .before .before .before .before .before .before .root-of in
+    let p = read (start .args .pool .now) in
+    (start .pre .0, in-pool (start .pre .0) (subst (Slot p) (sym (root-of .ensures)) (root-slot p (start .pre .1 .0))))
 
--- src/lib.rt:259:33
 sub-put-root : tie.Need-sub-put-root
-sub-put-root c = let s = c .before .before .before .before .before .before .before .before .before .before .before .before .before .before in let p = read (s .args .pool .now) in omega (arith, c .before .before .before .before .before .before .before .before .before .before .height-of .ensures, tree-positive p (p .height) (p .root) (s .pre .1 .0 .tree))
+sub-put-root c =
+    let at-height-of = c .before .before .before .before .before .before .before .before .before .before in
+    let start = at-height-of .before .before .before .before in
+    let height-of = at-height-of .height-of in
+    let p = read (start .args .pool .now) in
+    omega (arith, height-of .ensures, tree-positive p (p .height) (p .root) (start .pre .1 .0 .tree))
 
--- src/lib.rt:259:9
 put-root-requires : tie.Need-put-root-requires
-put-root-requires c κs = let s = c .before .before .before .before .before .before .before .before .before .before .before .before .before .before in let p = read (s .args .pool .now) in
-    let one : length (entriesAt p (p .root)) ≡ 1 = subst (λ (x : SlotNumber). length (entriesAt p x) ≡ 1) (c .before .before .before .before .before .before .before .before .before .before .before .before .root-of .ensures) (sym (c .before .before .before .before .before .before .before .count-of .ensures .0) ∙ c .before .before .before .before .before .before .if2 .taken) in
-    let k = only-slot p (s .pre .1 .0) (λ e. c .before .before .before .before .before .before .before .before .before .if1 .left (c .before .before .before .before .before .before .before .before .before .before .height-of .ensures ∙ e)) one in
-    let child : c .before .before .before .before .child-of .result ≡ childOf (entryAt p (p .root) 0) = c .before .before .before .before .child-of .ensures ∙ ap (λ (x : SlotNumber). childOf (entryAt p x 0)) (c .before .before .before .before .before .before .before .before .before .before .before .before .root-of .ensures) in
-    (c .before .before .zero-slot .ensures .1, (omega (arith, ap (λ (x : SlotNumber). x .0) child, k .high, few-read (s .pre .0), ap (λ (x : SlotNumber). x .0) (c .before .before .before .before .before .before .before .before .before .before .before .before .root-of .ensures), root-slot p (s .pre .1 .0) .high), omega (arith, c .before .before .before .before .before .before .before .before .before .before .height-of .ensures, s .pre .1 .1 .0)))
+put-root-requires c κs =
+    let at-count-of = c .before .before .before .before .before .before .before in
+    let start = at-count-of .before .before .before .before .before .before .before in
+    let root-of = at-count-of .before .before .before .before .before .root-of in
+    let height-of = at-count-of .before .before .before .height-of in
+    let if1 = at-count-of .before .before .if1 in
+    let count-of = at-count-of .count-of in
+    let if2 = c .before .before .before .before .before .before .if2 in
+    let child-of = c .before .before .before .before .child-of in
+    let zero-slot = c .before .before .zero-slot in
+    let p = read (start .args .pool .now) in
+    let one : length (entriesAt p (p .root)) ≡ 1 =
+    subst (λ (x : SlotNumber). length (entriesAt p x) ≡ 1) (root-of .ensures) (sym (count-of .ensures .0) ∙ if2 .taken) in
+    let k = only-slot p (start .pre .1 .0) (λ e. if1 .left (height-of .ensures ∙ e)) one in
+    let child : child-of .result ≡ childOf (entryAt p (p .root) 0) =
+    child-of .ensures ∙ ap (λ (x : SlotNumber). childOf (entryAt p x 0)) (root-of .ensures) in (
+      zero-slot .ensures .1,
+      (
+        omega (
+          arith,
+          ap (λ (x : SlotNumber). x .0) child,
+          k .high,
+          few-read (start .pre .0),
+          ap (λ (x : SlotNumber). x .0) (root-of .ensures),
+          root-slot p (start .pre .1 .0) .high,
+        ),
+        omega (arith, height-of .ensures, start .pre .1 .1 .0),
+      ),
+    )
 
--- src/lib.rt:260:9
 more-slot-requires : tie.Need-more-slot-requires
-more-slot-requires c κs = let s = c .before .before .before .before .before .before .before .before .before .before .before .before .before .before .before .before in let p = read (s .args .pool .now) in free-few p (s .args .free) (s .pre .1 .1 .1) (few-read (s .pre .0))
+more-slot-requires c κs =
+    let start = c .before .before .before .before .before .before .before .before .before .before .before .before .before .before .before .before in
+    let p = read (start .args .pool .now) in
+    free-few p (start .args .free) (start .pre .1 .1 .1) (few-read (start .pre .0))
 
--- src/lib.rt:260:9
 same-length-2 : tie.Need-same-length-2
 same-length-2 c = search needs
 
--- src/lib.rt:260:9
 returns-2 : tie.Need-returns-2
-returns-2 c = let s = c .before .before .before .before .before .before .before .before .before .before .before .before .before .before .before .before .before in let p = read (s .args .pool .now) in
-    let one : length (entriesAt p (p .root)) ≡ 1 = subst (λ (x : SlotNumber). length (entriesAt p x) ≡ 1) (c .before .before .before .before .before .before .before .before .before .before .before .before .before .before .before .root-of .ensures) (sym (c .before .before .before .before .before .before .before .before .before .before .count-of .ensures .0) ∙ c .before .before .before .before .before .before .before .before .before .if2 .taken) in
-    holds-lower (s .args .pool .now) (s .args .free) (s .pre .1 .1 .1) (s .pre .1 .0) (λ e. c .before .before .before .before .before .before .before .before .before .before .before .before .if1 .left (c .before .before .before .before .before .before .before .before .before .before .before .before .before .height-of .ensures ∙ e)) one
-    (c .before .before .before .before .before .before .before .before .before .before .before .before .before .before .before .root-of .result) (c .before .before .before .before .before .before .before .before .before .before .before .before .before .before .before .root-of .ensures) (c .before .before .before .before .before .before .before .child-of .result) (c .before .before .before .before .before .before .before .child-of .ensures) (c .before .before .before .before .before .before .before .before .before .before .before .before .before .height-of .result) (c .before .before .before .before .before .before .before .before .before .before .before .before .before .height-of .ensures)
-    (read (c .before .before .before .before .before .zero-slot .last .0)) (c .before .before .before .before .before .zero-slot .ensures .0) (c .before .before .put-root .last .0) (c .before .before .put-root .ensures .0) (c .before .before .put-root .ensures .1) (c .more-slot .result) (c .more-slot .ensures)
+returns-2 c =
+    let at-if2 = c .before .before .before .before .before .before .before .before .before in
+    let start = at-if2 .before .before .before .before .before .before .before .before in
+    let root-of = at-if2 .before .before .before .before .before .before .root-of in
+    let height-of = at-if2 .before .before .before .before .height-of in
+    let if1 = at-if2 .before .before .before .if1 in
+    let count-of = at-if2 .before .count-of in
+    let if2 = at-if2 .if2 in
+    let child-of = c .before .before .before .before .before .before .before .child-of in
+    let zero-slot = c .before .before .before .before .before .zero-slot in
+    let put-root = c .before .before .put-root in
+    let p = read (start .args .pool .now) in
+    let one : length (entriesAt p (p .root)) ≡ 1 =
+    subst (λ (x : SlotNumber). length (entriesAt p x) ≡ 1) (root-of .ensures) (sym (count-of .ensures .0) ∙ if2 .taken) in
+    holds-lower (start .args .pool .now) (start .args .free) (start .pre .1 .1 .1) (start .pre .1 .0)
+    (λ e. if1 .left (height-of .ensures ∙ e)) one (root-of .result) (root-of .ensures) (child-of .result) (child-of .ensures)
+    (height-of .result) (height-of .ensures) (read (zero-slot .last .0)) (zero-slot .ensures .0) (put-root .last .0) (put-root .ensures .0)
+    (put-root .ensures .1) (c .more-slot .result) (c .more-slot .ensures)
 
--- src/lib.rt:244:1
 same-length-3 : tie.Need-same-length-3
 same-length-3 c = search needs
 
--- src/lib.rt:244:1
 returns-3 : tie.Need-returns-3
-returns-3 c = let s = c .before .before .before .before .before .before .before .before in let p = read (s .args .pool .now) in
-    let more : length (entriesAt p (p .root)) ≢ 1 = λ e. c .if2 .left (c .before .count-of .ensures .0 ∙ ap (λ (x : SlotNumber). length (entriesAt p x)) (c .before .before .before .before .before .before .root-of .ensures) ∙ e) in
-    holds-same (s .args .pool .now) (s .args .free) (s .pre .1 .1 .1) (s .pre .0) (short-more p (s .pre .1 .0) (λ e. c .before .before .before .if1 .left (c .before .before .before .before .height-of .ensures ∙ e)) more)
+returns-3 c =
+    let start = c .before .before .before .before .before .before .before .before in
+    let root-of = c .before .before .before .before .before .before .root-of in
+    let height-of = c .before .before .before .before .height-of in
+    let if1 = c .before .before .before .if1 in
+    let p = read (start .args .pool .now) in
+    let more : length (entriesAt p (p .root)) ≢ 1 =
+    λ e. c .if2 .left (c .before .count-of .ensures .0 ∙ ap (λ (x : SlotNumber). length (entriesAt p x)) (root-of .ensures) ∙ e) in
+    holds-same (start .args .pool .now) (start .args .free) (start .pre .1 .1 .1) (start .pre .0)
+    (short-more p (start .pre .1 .0) (λ e. if1 .left (height-of .ensures ∙ e)) more)
 
 pub shorten-spec : {M : Type 1} → statement M
 shorten-spec =

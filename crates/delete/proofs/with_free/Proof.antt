@@ -1,4 +1,4 @@
--- `removing::with_free` meets its contract: the free slots are those of `more_slot`.
+-- `delete::with_free` meets its contract: the free slots are those of `more_slot`.
 use mathlib.Core.Path.{ap}
 use Rattle.free_slots.specs.declared.FreeSlots.{FreeSlots}
 use borrow.Author.Needs.{needs}
@@ -8,13 +8,18 @@ use Rattle.delete.proofs.with_free.Reads as reads
 use Rattle.delete.proofs.with_free.Lts as lts
 use Rattle.free_slots.proofs.more_slot.Reads as more-slot-reads
 
--- src/lib.rt:148:9
 more-slot-requires : tie.Need-more-slot-requires
 more-slot-requires c κs = search needs
 
--- src/lib.rt:140:1
 returns : tie.Need-returns
-returns c = let s = c .before .before .before .before in ap (λ (f : FreeSlots). record { entries = s .args .asides .entries; levels = s .args .asides .levels; count = s .args .asides .count; free = f }) (c .more-slot .ensures)
+returns c =
+    let start = c .before .before .before .before in
+    ap (λ (f : FreeSlots). record {
+      entries = start .args .asides .entries;
+      levels = start .args .asides .levels;
+      count = start .args .asides .count;
+      free = f;
+    }) (c .more-slot .ensures)
 
 pub with-free-spec : {M : Type 1} → statement M
 with-free-spec = tie.close (tie.spec more-slot-requires returns)

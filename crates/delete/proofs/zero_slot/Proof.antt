@@ -1,4 +1,4 @@
--- `removing::zero_slot` meets its contract: a node of level 0 with no entries is written.
+-- `delete::zero_slot` meets its contract: a node of level 0 with no entries is written.
 use native.Mathlib.Omega.{arith}
 use Rattle.rules.specs.Pool.{zeroSlot}
 use borrow.Author.Needs.{needs}
@@ -9,19 +9,22 @@ use Rattle.delete.proofs.zero_slot.Lts as lts
 use Rattle.pool.proofs.put_node.Reads as put-node-reads
 use Rattle.pool.proofs.no_entry.Reads as no-entry-reads
 
--- src/lib.rt:93:17
 no-entry-requires : tie.Need-no-entry-requires
 no-entry-requires c κs = search needs
 
--- src/lib.rt:94:5
 put-node-requires : tie.Need-put-node-requires
-put-node-requires c κs = (c .before .before .pre .0, (c .before .before .pre .1, (omega arith, (omega arith, (record { small = λ i h. absurd (omega arith) }, record { kind = λ i h. absurd (omega arith) })))))
+put-node-requires c κs =
+    let start = c .before .before in (
+      start .pre .0,
+      (
+        start .pre .1,
+        (omega arith, (omega arith, (record { small = λ i h. absurd (omega arith) }, record { kind = λ i h. absurd (omega arith) }))),
+      ),
+    )
 
--- src/lib.rt:87:1
 same-length : tie.Need-same-length
 same-length c = search needs
 
--- src/lib.rt:87:1
 returns : tie.Need-returns
 unfolding zeroSlot
 returns c = (c .before .put-node .ensures .0, c .before .put-node .ensures .1)

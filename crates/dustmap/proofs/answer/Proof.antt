@@ -8,10 +8,17 @@ use Rattle.dustmap.proofs.answer.Tie as tie
 use Rattle.request.proofs.Cases.{asks-something}
 
 one-request-requires : tie.Need-one-request-requires
-one-request-requires c κs = (c .before .before .before .pre .0, (c .before .before .before .pre .1 .1 .0 ∙ sym (c .before .before .before .pre .1 .0), (c .before .before .before .pre .1 .1 .1 .0, omega arith)))
+one-request-requires c κs =
+    let start = c .before .before .before in
+    (start .pre .0, (start .pre .1 .1 .0 ∙ sym (start .pre .1 .0), (start .pre .1 .1 .1 .0, omega arith)))
 
 found-list-requires : tie.Need-found-list-requires
-found-list-requires c κs = let x = asks-something (c .before .before .before .before .before .before .before .before .before .before .args .q) (c .before .before .before .before .before .before .before .before .before .before .pre .1 .1 .1 .0) in let v = c .before .before .before .before .before .before .one-request .ensures (x .0) (x .1) in (v .same ∙ c .before .before .before .before .before .before .before .before .before .before .pre .1 .0, (v .work ∙ c .before .before .before .before .before .before .before .before .before .before .pre .1 .0, v .pointing))
+found-list-requires c κs =
+    let start = c .before .before .before .before .before .before .before .before .before .before in
+    let one-request = c .before .before .before .before .before .before .one-request in
+    let x = asks-something (start .args .q) (start .pre .1 .1 .1 .0) in
+    let v = one-request .ensures (x .0) (x .1) in
+    (v .same ∙ start .pre .1 .0, (v .work ∙ start .pre .1 .0, v .pointing))
 
 reply-lines-requires : tie.Need-reply-lines-requires
 reply-lines-requires c κs = search needs
@@ -26,7 +33,18 @@ same-length-3 : tie.Need-same-length-3
 same-length-3 c = search needs
 
 returns : tie.Need-returns
-returns c = let x = asks-something (c .before .before .before .before .before .before .before .before .before .before .before .before .before .before .before .args .q) (c .before .before .before .before .before .before .before .before .before .before .before .before .before .before .before .pre .1 .1 .1 .0) in let v = c .before .before .before .before .before .before .before .before .before .before .before .one-request .ensures (x .0) (x .1) in replies-by (c .before .before .before .before .before .before .before .before .before .before .before .before .before .before .before .args .pool .now) (c .before .before .before .before .before .before .before .before .before .before .before .before .before .before .before .args .q) (x .0) (c .before .before .before .before .before .before .before .before .before .before .before .before .before .before .before .args .before) (c .before .before .before .before .before .before .before .before .before .before .before .before .before .before .before .args .at) (c .before .before .before .before .before .before .before .before .before .before .before .before .before .before .before .args .out .now) (c .before .before .reply-lines .last .0) (c .before .before .before .before .before .before .before .before .before .before .before .one-request .last .0) (c .before .before .before .before .before .before .before .before .before .before .before .one-request .last .1 .0) (c .before .before .before .before .before .before .before .before .before .before .before .one-request .result) (c .before .before .reply-lines .result) (c .before .before .before .before .found-list .result) (c .before .before .before .before .before .before .before .before .before .before .before .before .before .before .before .pre .0 .right) (c .before .before .before .before .before .before .before .before .before .before .before .before .before .before .before .pre .0 .sound) (c .before .before .before .before .before .before .before .before .before .before .before .before .before .before .before .pre .1 .1 .1 .0) (x .1) v (c .before .before .before .before .found-list .ensures) (c .before .before .reply-lines .ensures .0) (c .before .before .reply-lines .ensures .1)
+returns c =
+    let at-found-list = c .before .before .before .before in
+    let start = at-found-list .before .before .before .before .before .before .before .before .before .before .before in
+    let one-request = at-found-list .before .before .before .before .before .before .before .one-request in
+    let found-list = at-found-list .found-list in
+    let reply-lines = c .before .before .reply-lines in
+    let x = asks-something (start .args .q) (start .pre .1 .1 .1 .0) in
+    let v = one-request .ensures (x .0) (x .1) in
+    replies-by (start .args .pool .now) (start .args .q) (x .0) (start .args .before) (start .args .at) (start .args .out .now)
+    (reply-lines .last .0) (one-request .last .0) (one-request .last .1 .0) (one-request .result) (reply-lines .result) (found-list .result)
+    (start .pre .0 .right) (start .pre .0 .sound) (start .pre .1 .1 .1 .0) (x .1) v (found-list .ensures) (reply-lines .ensures .0)
+    (reply-lines .ensures .1)
 
 pub answer-spec : {M : Type 1} → statement M
 answer-spec =

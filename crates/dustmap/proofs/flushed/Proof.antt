@@ -6,7 +6,9 @@ use Rattle.dustmap.proofs.flushed.Statement.{statement}
 use Rattle.dustmap.proofs.flushed.Tie as tie
 
 slice-aggregate-write-all : tie.Need-slice-aggregate-write-all
-slice-aggregate-write-all c = sym (length-take-le (c .before .before .before .args .run .filled) (c .before .before .before .args .out .now) (c .before .before .before .pre))
+slice-aggregate-write-all c =
+    let start = c .before .before .before in
+    sym (length-take-le (start .args .run .filled) (start .args .out .now) (start .pre))
 
 write-all-requires : tie.Need-write-all-requires
 write-all-requires c κs = search needs

@@ -35,28 +35,67 @@ least-requires : tie.Need-least-requires Inv-loop μ-loop
 least-requires c κs = search needs
 
 loop-holds : tie.Need-loop-holds Inv-loop μ-loop
-loop-holds c = record { most = omega arith; few = c .least .ensures; size = search needs; filled = rw (c .before .no-record .ensures) (empties-none (c .before .before .args .pool .now) (c .before .before .args .work .now)) }
+loop-holds c =
+    let start = c .before .before in
+    record {
+      most = omega arith;
+      few = c .least .ensures;
+      size = search needs;
+      filled = rw (c .before .no-record .ensures) (empties-none (start .args .pool .now) (start .args .work .now));
+    }
 
 item-requires : tie.Need-item-requires Inv-loop μ-loop
-item-requires c κs = let m = min-le-left (c .before .before .before .before .args .listed) 64 in let n = min-le-right (c .before .before .before .before .args .listed) 64 in let t = c .before .loop .inv in (omega arith, c .before .before .before .before .pre .1 .1 .inside (c .before .loop .k) (omega arith) (omega arith))
+item-requires c κs =
+    let start = c .before .before .before .before in
+    let loop = c .before .loop in
+    let m = min-le-left (start .args .listed) 64 in
+    let n = min-le-right (start .args .listed) 64 in
+    let t = loop .inv in
+    (omega arith, start .pre .1 .1 .inside (loop .k) (omega arith) (omega arith))
 
 mul-found : tie.Need-mul-found Inv-loop μ-loop
-mul-found c = let m = min-le-left (c .before .before .before .before .before .args .listed) 64 in let n = min-le-right (c .before .before .before .before .before .args .listed) 64 in omega arith
+mul-found c =
+    let start = c .before .before .before .before .before in
+    let m = min-le-left (start .args .listed) 64 in
+    let n = min-le-right (start .args .listed) 64 in
+    omega arith
 
 array-set-from-found : tie.Need-array-set-from-found Inv-loop μ-loop
-array-set-from-found c = let m = min-le-left (c .before .before .before .before .before .args .listed) 64 in let n = min-le-right (c .before .before .before .before .before .args .listed) 64 in omega arith
+array-set-from-found c =
+    let start = c .before .before .before .before .before in
+    let m = min-le-left (start .args .listed) 64 in
+    let n = min-le-right (start .args .listed) 64 in
+    omega arith
 
 add-k : tie.Need-add-k Inv-loop μ-loop
-add-k c = let m = min-le-left (c .before .before .before .before .before .args .listed) 64 in let n = min-le-right (c .before .before .before .before .before .args .listed) 64 in omega arith
+add-k c =
+    let start = c .before .before .before .before .before in
+    let m = min-le-left (start .args .listed) 64 in
+    let n = min-le-right (start .args .listed) 64 in
+    omega arith
 
 loop-less : tie.Need-loop-less Inv-loop μ-loop
 loop-less c = omega arith
 
 loop-again : tie.Need-loop-again Inv-loop μ-loop
-loop-again c = let t = c .before .before .loop .inv in record { most = omega arith; few = t .few; size = simp length-set (t .size); filled = rw (c .item .ensures, t .filled) (empties-more (c .before .before .before .before .before .args .pool .now) (c .before .before .before .before .before .args .work .now) (c .before .before .loop .k)) }
+loop-again c =
+    let start = c .before .before .before .before .before in
+    let loop = c .before .before .loop in
+    let t = loop .inv in
+    record {
+      most = omega arith;
+      few = t .few;
+      size = simp length-set (t .size);
+      filled = rw (c .item .ensures, t .filled) (empties-more (start .args .pool .now) (start .args .work .now) (loop .k));
+    }
 
 returns : tie.Need-returns Inv-loop μ-loop
-returns c = let t = c .before .loop .inv in let e : c .before .loop .k ≡ min (c .before .before .before .before .args .listed) 64 = omega arith in t .filled ∙ ap (λ (k : ℕ). sets (replicate 64 noRecord) 0 (itemsFrom (c .before .before .before .before .args .pool .now) (c .before .before .before .before .args .work .now) 0 k)) e
+returns c =
+    let start = c .before .before .before .before in
+    let loop = c .before .loop in
+    let t = loop .inv in
+    let e : loop .k ≡ min (start .args .listed) 64 = omega arith in
+    t .filled ∙ ap (λ (k : ℕ). sets (replicate 64 noRecord) 0 (itemsFrom (start .args .pool .now) (start .args .work .now) 0 k)) e
 
 pub found-list-spec : {M : Type 1} → statement M
 found-list-spec =

@@ -4,7 +4,6 @@ use Rattle.rules.specs.Layout.{validLength}
 use Rattle.rules.specs.Sound.{sound}
 use Rattle.dustmap.proofs.First.{first-long, first-right, first-sound}
 use Rattle.dustmap.proofs.Rests.{rounds-stands}
-use mathlib.Core.Path.{_≡_}
 use mathlib.Core.List.{List}
 use Prim.Native.Nat.{ℕ}
 use lib.ListN.{length}
@@ -48,7 +47,24 @@ free-slots-requires : tie.Need-free-slots-requires Inv-loop μ-loop
 free-slots-requires c κs = ap validLength (c .before .before .blank .ensures .1) ∙ first-right
 
 loop-holds : tie.Need-loop-holds Inv-loop μ-loop
-loop-holds c = record { words = ap length (c .before .before .before .blank .ensures .1) ∙ first-long; space = search needs; inputs = search needs; outs = search needs; stands = record { ready = record { right = ap validLength (c .before .before .before .blank .ensures .1) ∙ first-right; sound = ap sound (c .before .before .before .blank .ensures .1) ∙ first-sound; known = c .free-slots .ensures }; low = omega arith; high = omega arith; room = omega arith } }
+loop-holds c =
+    let blank = c .before .before .before .blank in
+    record {
+      words = ap length (blank .ensures .1) ∙ first-long;
+      space = search needs;
+      inputs = search needs;
+      outs = search needs;
+      stands = record {
+        ready = record {
+          right = ap validLength (blank .ensures .1) ∙ first-right;
+          sound = ap sound (blank .ensures .1) ∙ first-sound;
+          known = c .free-slots .ensures;
+        };
+        low = omega arith;
+        high = omega arith;
+        room = omega arith;
+      };
+    }
 
 slice-aggregate-round : tie.Need-slice-aggregate-round Inv-loop μ-loop
 slice-aggregate-round c = search needs
@@ -78,7 +94,19 @@ loop-less : tie.Need-loop-less Inv-loop μ-loop
 loop-less c = omega arith
 
 loop-again : tie.Need-loop-again Inv-loop μ-loop
-loop-again c = let t = c .before .before .before .before .before .before .before .before .before .before .before .before .before .loop .inv in record { words = c .before .before .before .before .before .before .before .round .kept .0 ∙ t .words; space = c .before .before .before .before .before .before .before .round .kept .1 .0 ∙ t .space; inputs = c .before .before .before .before .before .before .before .round .kept .1 .1 .0 ∙ t .inputs; outs = c .before .before .before .before .before .before .before .round .kept .1 .1 .1 .0 ∙ t .outs; stands = rounds-stands _ _ _ (c .before .before .before .before .before .before .before .round .result) (c .before .next .given .0 .0) (c .before .before .before .before .before .before .before .round .ensures) (c .before .next .given .1) }
+loop-again c =
+    let at-round = c .before .before .before .before .before .before .before in
+    let loop = at-round .before .before .before .before .before .before .loop in
+    let round = at-round .round in
+    let next = c .before .next in
+    let t = loop .inv in
+    record {
+      words = round .kept .0 ∙ t .words;
+      space = round .kept .1 .0 ∙ t .space;
+      inputs = round .kept .1 .1 .0 ∙ t .inputs;
+      outs = round .kept .1 .1 .1 .0 ∙ t .outs;
+      stands = rounds-stands _ _ _ (round .result) (next .given .0 .0) (round .ensures) (next .given .1);
+    }
 
 returns-2 : tie.Need-returns-2 Inv-loop μ-loop
 returns-2 c = tt

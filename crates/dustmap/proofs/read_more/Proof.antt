@@ -41,11 +41,13 @@ same-length c = search needs
 returns : tie.Need-returns
 unfolding runOf
 returns c =
-    let s = c .before .before .before .before .before .before .before .before .before .before .before .before .before .before in
-    let kept = c .before .before .before .before .before .before .before .before .before .before .keep-rest in
+    let at-read = c .before .before .before .before .before .before in
+    let start = at-read .before .before .before .before .before .before .before .before in
+    let keep-rest = at-read .before .before .before .before .keep-rest in
+    let read = at-read .read in
     let count = c .before .count in
-    came-now (kept .last .0) (c .before .before .before .before .before .before .read .last .1 .0) (kept .result) (count .result) (s .pre .0) (s .pre .1) (kept .ensures .0) (kept .kept .0) (kept .ensures .1)
-    (search needs) (count .ensures .0 .0)
+    came-now (keep-rest .last .0) (read .last .1 .0) (keep-rest .result) (count .result) (start .pre .0) (start .pre .1)
+    (keep-rest .ensures .0) (keep-rest .kept .0) (keep-rest .ensures .1) (search needs) (count .ensures .0 .0)
 
 same-length-2 : tie.Need-same-length-2
 same-length-2 c = search needs
@@ -53,11 +55,13 @@ same-length-2 c = search needs
 returns-2 : tie.Need-returns-2
 unfolding runOf
 returns-2 c =
-    let s = c .before .before .before .before .before .before .before .before .before .before .before .before .before .before in
-    let kept = c .before .before .before .before .before .before .before .before .before .before .keep-rest in
+    let at-read = c .before .before .before .before .before .before in
+    let start = at-read .before .before .before .before .before .before .before .before in
+    let keep-rest = at-read .before .before .before .before .keep-rest in
+    let read = at-read .read in
     let count = c .before .count in
-    came-now (kept .last .0) (c .before .before .before .before .before .before .read .last .1 .0) (kept .result) (count .result) (s .pre .0) (s .pre .1) (kept .ensures .0) (kept .kept .0) (kept .ensures .1)
-    (search needs) (count .ensures .0 .0)
+    came-now (keep-rest .last .0) (read .last .1 .0) (keep-rest .result) (count .result) (start .pre .0) (start .pre .1)
+    (keep-rest .ensures .0) (keep-rest .kept .0) (keep-rest .ensures .1) (search needs) (count .ensures .0 .0)
 
 pub read-more-spec : {M : Type 1} → statement M
 read-more-spec =

@@ -15,19 +15,38 @@ enum-known-r-2 : tie.Need-enum-known-r-2
 enum-known-r-2 c = search needs
 
 flushed-requires : tie.Need-flushed-requires
-flushed-requires c κs = full-stands (c .before .before .before .before .before .before .before .before .before .before .before .before .before .before .before .args .pool .now) (c .before .before .before .before .before .before .before .before .before .before .before .before .before .before .before .args .input .now) (c .before .before .before .before .before .before .before .before .before .before .before .before .before .before .before .args .out .now) (c .before .before .before .before .before .before .before .before .before .before .before .before .before .before .before .args .run) (c .before .before .before .before .before .before .before .before .turn .last .0) (c .before .before .before .before .before .before .before .before .turn .last .1 .1 .1 .1 .0) (c .before .before .before .before .before .before .before .before .turn .result) (c .before .before .r2 .given .0 .0) (c .before .before .before .before .before .before .before .before .turn .ensures) (c .before .before .r2 .given .1) .room
+flushed-requires c κs =
+    let at-turn = c .before .before .before .before .before .before .before .before in
+    let start = at-turn .before .before .before .before .before .before .before in
+    let turn = at-turn .turn in
+    let r2 = c .before .before .r2 in
+    full-stands (start .args .pool .now) (start .args .input .now) (start .args .out .now) (start .args .run) (turn .last .0)
+    (turn .last .1 .1 .1 .1 .0) (turn .result) (r2 .given .0 .0) (turn .ensures) (r2 .given .1) .room
 
 enum-known-r-3 : tie.Need-enum-known-r-3
 enum-known-r-3 c = search needs
 
 wait-requires : tie.Need-wait-requires
-wait-requires c κs = let h = waits-stands (c .before .before .before .before .before .before .before .before .before .before .before .before .before .before .before .before .args .pool .now) (c .before .before .before .before .before .before .before .before .before .before .before .before .before .before .before .before .args .input .now) (c .before .before .before .before .before .before .before .before .before .before .before .before .before .before .before .before .args .out .now) (c .before .before .before .before .before .before .before .before .before .before .before .before .before .before .before .before .args .run) (c .before .before .before .before .before .before .before .before .before .turn .last .0) (c .before .before .before .before .before .before .before .before .before .turn .last .1 .1 .1 .1 .0) (c .before .before .before .before .before .before .before .before .before .turn .result) (c .before .before .before .r3 .given .0 .0) (c .before .before .before .before .before .before .before .before .before .turn .ensures) (c .before .before .before .r3 .given .1) in ((h .low, h .high), (h .room, omega (arith, c .before .before .before .before .before .before .before .before .before .before .before .before .before .before .before .before .pre .1 .1 .1, c .before .before .before .before .before .before .before .before .before .turn .kept .1 .1 .1 .1 .0)))
+wait-requires c κs =
+    let at-turn = c .before .before .before .before .before .before .before .before .before in
+    let start = at-turn .before .before .before .before .before .before .before in
+    let turn = at-turn .turn in
+    let r3 = c .before .before .before .r3 in
+    let h = waits-stands (start .args .pool .now) (start .args .input .now) (start .args .out .now) (start .args .run) (turn .last .0)
+    (turn .last .1 .1 .1 .1 .0) (turn .result) (r3 .given .0 .0) (turn .ensures) (r3 .given .1) in
+    ((h .low, h .high), (h .room, omega (arith, start .pre .1 .1 .1, turn .kept .1 .1 .1 .1 .0)))
 
 enum-known-r-4 : tie.Need-enum-known-r-4
 enum-known-r-4 c = search needs
 
 flushed-requires-2 : tie.Need-flushed-requires-2
-flushed-requires-2 c κs = ends-within (c .before .before .before .before .before .before .before .before .before .before .before .before .before .before .before .args .pool .now) (c .before .before .before .before .before .before .before .before .before .before .before .before .before .before .before .args .input .now) (c .before .before .before .before .before .before .before .before .before .before .before .before .before .before .before .args .out .now) (c .before .before .before .before .before .before .before .before .before .before .before .before .before .before .before .args .run) (c .before .before .before .before .before .before .before .before .turn .last .0) (c .before .before .before .before .before .before .before .before .turn .last .1 .1 .1 .1 .0) (c .before .before .before .before .before .before .before .before .turn .result) (c .before .before .r4 .given .0 .0) (c .before .before .before .before .before .before .before .before .turn .ensures) (c .before .before .r4 .given .1)
+flushed-requires-2 c κs =
+    let at-turn = c .before .before .before .before .before .before .before .before in
+    let start = at-turn .before .before .before .before .before .before .before in
+    let turn = at-turn .turn in
+    let r4 = c .before .before .r4 in
+    ends-within (start .args .pool .now) (start .args .input .now) (start .args .out .now) (start .args .run) (turn .last .0)
+    (turn .last .1 .1 .1 .1 .0) (turn .result) (r4 .given .0 .0) (turn .ensures) (r4 .given .1)
 
 same-length : tie.Need-same-length
 same-length c = search needs
@@ -42,7 +61,13 @@ same-length-4 : tie.Need-same-length-4
 same-length-4 c = search needs
 
 returns : tie.Need-returns
-returns c = rounds-goes (goes-stands (c .before .before .before .before .before .before .before .before .before .before .before .before .before .before .args .pool .now) (c .before .before .before .before .before .before .before .before .before .before .before .before .before .before .args .input .now) (c .before .before .before .before .before .before .before .before .before .before .before .before .before .before .args .out .now) (c .before .before .before .before .before .before .before .before .before .before .before .before .before .before .args .run) (c .before .before .before .before .before .before .before .turn .last .0) (c .before .before .before .before .before .before .before .turn .last .1 .1 .1 .1 .0) (c .before .before .before .before .before .before .before .turn .result) (c .before .r .given .0 .0) (c .before .before .before .before .before .before .before .turn .ensures) (c .before .r .given .1))
+returns c =
+    let at-turn = c .before .before .before .before .before .before .before in
+    let start = at-turn .before .before .before .before .before .before .before in
+    let turn = at-turn .turn in
+    let r = c .before .r in
+    rounds-goes (goes-stands (start .args .pool .now) (start .args .input .now) (start .args .out .now) (start .args .run) (turn .last .0)
+    (turn .last .1 .1 .1 .1 .0) (turn .result) (r .given .0 .0) (turn .ensures) (r .given .1))
 
 same-length-5 : tie.Need-same-length-5
 same-length-5 c = search needs
@@ -57,7 +82,14 @@ same-length-8 : tie.Need-same-length-8
 same-length-8 c = search needs
 
 returns-2 : tie.Need-returns-2
-returns-2 c = rounds-flushed (full-stands (c .before .before .before .before .before .before .before .before .before .before .before .before .before .before .before .before .args .pool .now) (c .before .before .before .before .before .before .before .before .before .before .before .before .before .before .before .before .args .input .now) (c .before .before .before .before .before .before .before .before .before .before .before .before .before .before .before .before .args .out .now) (c .before .before .before .before .before .before .before .before .before .before .before .before .before .before .before .before .args .run) (c .before .before .before .before .before .before .before .before .before .turn .last .0) (c .before .before .before .before .before .before .before .before .before .turn .last .1 .1 .1 .1 .0) (c .before .before .before .before .before .before .before .before .before .turn .result) (c .before .before .before .r2 .given .0 .0) (c .before .before .before .before .before .before .before .before .before .turn .ensures) (c .before .before .before .r2 .given .1)) (c .flushed .ensures)
+returns-2 c =
+    let at-turn = c .before .before .before .before .before .before .before .before .before in
+    let start = at-turn .before .before .before .before .before .before .before in
+    let turn = at-turn .turn in
+    let r2 = c .before .before .before .r2 in
+    rounds-flushed
+    (full-stands (start .args .pool .now) (start .args .input .now) (start .args .out .now) (start .args .run) (turn .last .0)
+    (turn .last .1 .1 .1 .1 .0) (turn .result) (r2 .given .0 .0) (turn .ensures) (r2 .given .1)) (c .flushed .ensures)
 
 same-length-9 : tie.Need-same-length-9
 same-length-9 c = search needs
@@ -72,7 +104,15 @@ same-length-12 : tie.Need-same-length-12
 same-length-12 c = search needs
 
 returns-3 : tie.Need-returns-3
-returns-3 c = rounds-waited (c .before .before .before .before .wait .last .0) (c .before .before .before .before .wait .last .1 .0) (c .before .before .before .before .wait .result) (waits-stands (c .before .before .before .before .before .before .before .before .before .before .before .before .before .before .before .before .before .before .before .before .before .args .pool .now) (c .before .before .before .before .before .before .before .before .before .before .before .before .before .before .before .before .before .before .before .before .before .args .input .now) (c .before .before .before .before .before .before .before .before .before .before .before .before .before .before .before .before .before .before .before .before .before .args .out .now) (c .before .before .before .before .before .before .before .before .before .before .before .before .before .before .before .before .before .before .before .before .before .args .run) (c .before .before .before .before .before .before .before .before .before .before .before .before .before .before .turn .last .0) (c .before .before .before .before .before .before .before .before .before .before .before .before .before .before .turn .last .1 .1 .1 .1 .0) (c .before .before .before .before .before .before .before .before .before .before .before .before .before .before .turn .result) (c .before .before .before .before .before .before .before .before .r3 .given .0 .0) (c .before .before .before .before .before .before .before .before .before .before .before .before .before .before .turn .ensures) (c .before .before .before .before .before .before .before .before .r3 .given .1)) (c .before .before .before .before .wait .ensures)
+returns-3 c =
+    let at-r3 = c .before .before .before .before .before .before .before .before in
+    let start = at-r3 .before .before .before .before .before .before .before .before .before .before .before .before .before in
+    let turn = at-r3 .before .before .before .before .before .before .turn in
+    let r3 = at-r3 .r3 in
+    let wait = c .before .before .before .before .wait in
+    rounds-waited (wait .last .0) (wait .last .1 .0) (wait .result)
+    (waits-stands (start .args .pool .now) (start .args .input .now) (start .args .out .now) (start .args .run) (turn .last .0)
+    (turn .last .1 .1 .1 .1 .0) (turn .result) (r3 .given .0 .0) (turn .ensures) (r3 .given .1)) (wait .ensures)
 
 same-length-13 : tie.Need-same-length-13
 same-length-13 c = search needs

@@ -12,10 +12,14 @@ sub-if1 : tie.Need-sub-if1
 sub-if1 c = search needs
 
 returns : tie.Need-returns
-returns c = onward-full (c .before .before .before .before .pre .0)
+returns c =
+    let start = c .before .before .before .before in
+    onward-full (start .pre .0)
 
 returns-2 : tie.Need-returns-2
-returns-2 c = onward-full (c .before .before .before .before .before .pre .0)
+returns-2 c =
+    let start = c .before .before .before .before .before in
+    onward-full (start .pre .0)
 
 sub-read-frame : tie.Need-sub-read-frame
 sub-read-frame c = search needs
@@ -33,13 +37,40 @@ enum-known-request : tie.Need-enum-known-request
 enum-known-request c = search needs
 
 answer-requires : tie.Need-answer-requires
-answer-requires c κs = let e = sym (c .before .before .before .before .before .before .read-frame .ensures) ∙ c .before .before .before .before .request .given .1 in (c .before .before .before .before .before .before .before .before .before .before .before .before .before .pre .0 .ready, (c .before .before .before .before .before .before .before .before .before .before .before .before .before .pre .1 .0, (c .before .before .before .before .before .before .before .before .before .before .before .before .before .pre .1 .1, (asks-request (heldIn (c .before .before .before .before .before .before .before .before .before .before .before .before .before .args .input .now) (c .before .before .before .before .before .before .before .before .before .before .before .before .before .args .run)) (c .before .before .before .before .request .given .0 .0) (c .before .before .before .before .request .given .0 .1 .0) e, (omega (arith, c .before .before .before .before .before .before .before .before .before .if1 .left, c .before .before .before .before .before .before .before .before .before .before .before .before .before .pre .0 .room), c .before .before .before .before .before .before .before .before .if2 .left)))))
+answer-requires c κs =
+    let at-read-frame = c .before .before .before .before .before .before in
+    let start = at-read-frame .before .before .before .before .before .before .before in
+    let if1 = at-read-frame .before .before .before .if1 in
+    let if2 = at-read-frame .before .before .if2 in
+    let read-frame = at-read-frame .read-frame in
+    let request = c .before .before .before .before .request in
+    let e = sym (read-frame .ensures) ∙ request .given .1 in (
+      start .pre .0 .ready,
+      (
+        start .pre .1 .0,
+        (
+          start .pre .1 .1,
+          (
+            asks-request (heldIn (start .args .input .now) (start .args .run)) (request .given .0 .0) (request .given .0 .1 .0) e,
+            (omega (arith, if1 .left, start .pre .0 .room), if2 .left),
+          ),
+        ),
+      ),
+    )
 
 add-t30 : tie.Need-add-t30
-add-t30 c = omega (arith, c .before .before .before .before .before .before .before .before .before .before .before .before .before .before .if2 .left)
+add-t30 c =
+    let if2 = c .before .before .before .before .before .before .before .before .before .before .before .before .before .before .if2 in
+    omega (arith, if2 .left)
 
 add-t31 : tie.Need-add-t31
-add-t31 c = let e = sym (c .before .before .before .before .before .before .before .before .before .before .before .before .read-frame .ensures) ∙ c .before .before .before .before .before .before .before .before .before .before .request .given .1 in let g = c .before .before .before .before .before .before .before .before .before .before .before .before .before .before .before .before .before .before .before .good in omega (arith, asks-in (c .before .before .before .before .before .before .before .before .before .before .before .before .before .before .before .before .before .before .before .pre .0) (c .before .before .before .before .before .before .before .before .before .before .request .given .0 .0) (c .before .before .before .before .before .before .before .before .before .before .request .given .0 .1 .0) e, c .before .before .before .before .before .before .before .before .before .before .before .before .before .before .before .before .before .before .before .pre .0 .high)
+add-t31 c =
+    let at-request = c .before .before .before .before .before .before .before .before .before .before in
+    let start = at-request .before .before .before .before .before .before .before .before .before in
+    let read-frame = at-request .before .before .read-frame in
+    let request = at-request .request in
+    let e = sym (read-frame .ensures) ∙ request .given .1 in
+    omega (arith, asks-in (start .pre .0) (request .given .0 .0) (request .given .0 .1 .0) e, start .pre .0 .high)
 
 enum-told : tie.Need-enum-told
 enum-told c = search needs
@@ -60,16 +91,37 @@ same-length-3 : tie.Need-same-length-3
 same-length-3 c = search needs
 
 returns-3 : tie.Need-returns-3
-returns-3 c = let e = sym (c .before .before .before .before .before .before .before .before .before .before .before .before .read-frame .ensures) ∙ c .before .before .before .before .before .before .before .before .before .before .request .given .1 in onward-goes (c .before .before .before .before .before .before .before .before .before .before .before .before .before .before .before .before .before .before .before .pre .0) (c .before .before .before .before .before .before .before .before .before .before .request .given .0 .0) (c .before .before .before .before .before .before .before .before .before .before .request .given .0 .1 .0) e (omega (arith, c .before .before .before .before .before .before .before .before .before .before .before .before .before .before .before .if1 .left, c .before .before .before .before .before .before .before .before .before .before .before .before .before .before .before .before .before .before .before .pre .0 .room)) (c .before .before .before .before .before .answer .ensures)
+returns-3 c =
+    let at-request = c .before .before .before .before .before .before .before .before .before .before in
+    let start = at-request .before .before .before .before .before .before .before .before .before in
+    let if1 = at-request .before .before .before .before .before .if1 in
+    let read-frame = at-request .before .before .read-frame in
+    let request = at-request .request in
+    let answer = c .before .before .before .before .before .answer in
+    let e = sym (read-frame .ensures) ∙ request .given .1 in
+    onward-goes (start .pre .0) (request .given .0 .0) (request .given .0 .1 .0) e (omega (arith, if1 .left, start .pre .0 .room))
+    (answer .ensures)
 
 returns-4 : tie.Need-returns-4
-returns-4 c = let e = sym (c .before .before .read-frame .ensures) ∙ c .enum-told .given .1 in onward-waits (c .before .before .before .before .before .before .before .before .before .pre .0) e
+returns-4 c =
+    let start = c .before .before .before .before .before .before .before .before .before in
+    let read-frame = c .before .before .read-frame in
+    let e = sym (read-frame .ensures) ∙ c .enum-told .given .1 in
+    onward-waits (start .pre .0) e
 
 same-length-4 : tie.Need-same-length-4
 same-length-4 c = search needs
 
 returns-5 : tie.Need-returns-5
-returns-5 c = let e = sym (c .before .before .before .before .before .before .read-frame .ensures) ∙ c .before .before .before .before .enum-told2 .given .1 in onward-ends (c .before .before .before .before .before .before .before .before .before .before .before .before .before .pre .0) _ e (omega (arith, c .before .before .before .before .before .before .before .before .before .if1 .left, c .before .before .bad-line .ensures .1, c .before .before .before .before .before .before .before .before .before .before .before .before .before .pre .0 .room)) (c .before .before .bad-line .ensures .0)
+returns-5 c =
+    let at-read-frame = c .before .before .before .before .before .before in
+    let start = at-read-frame .before .before .before .before .before .before .before in
+    let if1 = at-read-frame .before .before .before .if1 in
+    let read-frame = at-read-frame .read-frame in
+    let enum-told2 = c .before .before .before .before .enum-told2 in
+    let bad-line = c .before .before .bad-line in
+    let e = sym (read-frame .ensures) ∙ enum-told2 .given .1 in
+    onward-ends (start .pre .0) _ e (omega (arith, if1 .left, bad-line .ensures .1, start .pre .0 .room)) (bad-line .ensures .0)
 
 pub turn-spec : {M : Type 1} → statement M
 turn-spec =

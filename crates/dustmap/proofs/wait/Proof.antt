@@ -19,9 +19,12 @@ enum-known-r c = search needs
 last-line-requires : tie.Need-last-line-requires
 unfolding runOf
 last-line-requires c κs =
-    let read = c .before .before .before .before .before .before .read-more in
-    let came = came-as (read .result) (c .before .before .before .before .before .before .before .before .flushed .ensures) (read .ensures) (ap runOf (c .before .before .r .given .1)) in
-    (omega (arith, came .filled), c .before .before .before .before .before .before .before .before .before .before .before .before .pre .1 .1)
+    let start = c .before .before .before .before .before .before .before .before .before .before .before .before in
+    let flushed = c .before .before .before .before .before .before .before .before .flushed in
+    let read-more = c .before .before .before .before .before .before .read-more in
+    let r = c .before .before .r in
+    let came = came-as (read-more .result) (flushed .ensures) (read-more .ensures) (ap runOf (r .given .1)) in
+    (omega (arith, came .filled), start .pre .1 .1)
 
 flushed-requires-2 : tie.Need-flushed-requires-2
 flushed-requires-2 c κs = search needs
@@ -43,8 +46,10 @@ same-length-2 c = search needs
 
 returns : tie.Need-returns
 returns c =
-    let s = c .before .before .before .before .before .before .before .before .before .before .before .before .before .before .before .before .before .args in
-    waited-ends (s .input .now) (c .before .before .before .before .before .before .before .before .before .before .before .read-more .last .0) (s .run) (c .flushed2 .result)
+    let at-read-more = c .before .before .before .before .before .before .before .before .before .before .before in
+    let start = at-read-more .before .before .before .before .before .before in
+    let read-more = at-read-more .read-more in
+    waited-ends (start .args .input .now) (read-more .last .0) (start .args .run) (c .flushed2 .result)
 
 same-length-3 : tie.Need-same-length-3
 same-length-3 c = search needs
@@ -55,8 +60,9 @@ same-length-4 c = search needs
 returns-2 : tie.Need-returns-2
 unfolding runOf
 returns-2 c =
-    let read = c .before .before .before .before .before .read-more in
-    waited-goes (read .result) (c .before .before .before .before .before .before .before .flushed .ensures) (read .ensures) (ap runOf (c .before .r2 .given .1))
+    let flushed = c .before .before .before .before .before .before .before .flushed in
+    let read-more = c .before .before .before .before .before .read-more in
+    waited-goes (read-more .result) (flushed .ensures) (read-more .ensures) (ap runOf (c .before .r2 .given .1))
 
 same-length-5 : tie.Need-same-length-5
 same-length-5 c = search needs
@@ -67,8 +73,9 @@ same-length-6 c = search needs
 returns-3 : tie.Need-returns-3
 unfolding runOf
 returns-3 c =
-    let read = c .before .before .before .before .before .read-more in
-    waited-goes (read .result) (c .before .before .before .before .before .before .before .flushed .ensures) (read .ensures) (ap runOf (c .before .r3 .given .1))
+    let flushed = c .before .before .before .before .before .before .before .flushed in
+    let read-more = c .before .before .before .before .before .read-more in
+    waited-goes (read-more .result) (flushed .ensures) (read-more .ensures) (ap runOf (c .before .r3 .given .1))
 
 same-length-7 : tie.Need-same-length-7
 same-length-7 c = search needs
@@ -79,8 +86,9 @@ same-length-8 c = search needs
 returns-4 : tie.Need-returns-4
 unfolding runOf
 returns-4 c =
-    let read = c .before .before .before .before .before .read-more in
-    waited-goes (read .result) (c .before .before .before .before .before .before .before .flushed .ensures) (read .ensures) (ap runOf (c .before .r4 .given .1))
+    let flushed = c .before .before .before .before .before .before .before .flushed in
+    let read-more = c .before .before .before .before .before .read-more in
+    waited-goes (read-more .result) (flushed .ensures) (read-more .ensures) (ap runOf (c .before .r4 .given .1))
 
 pub wait-spec : {M : Type 1} → statement M
 wait-spec =

@@ -61,7 +61,8 @@ find-in-at t = and 1 find-in-kinds.ps (is 1 find-in-kinds.ps μ-find-in t) find-
 abbrev find-in-below : ℕ → In 1 find-in-kinds.ps
 find-in-below t = and 1 find-in-kinds.ps (falls 1 find-in-kinds.ps _<_ μ-find-in t) find-in.Pre
 
-find-below-rect-at-requires : (t : ℕ) → find-below-lts.Need-rect-at-requires (
+abbrev find-below-calls : ℕ → find-below-lts.Claims
+find-below-calls t = (
   rect-at-reads.Asked,
   rect-at-reads.Learnt,
   meets-reads.Asked,
@@ -72,96 +73,33 @@ find-below-rect-at-requires : (t : ℕ) → find-below-lts.Need-rect-at-requires
   child-at-reads.Learnt,
   find-in-below t,
   find-in.Post,
-) (find-below-at t) find-below.Post
+)
+
+find-below-rect-at-requires : (t : ℕ) → find-below-lts.Need-rect-at-requires (find-below-calls t) (find-below-at t) find-below.Post
 find-below-rect-at-requires t c κs = (c .pre .1 .0, c .pre .1 .1 .1)
 
-find-below-meets-requires : (t : ℕ) → find-below-lts.Need-meets-requires (
-  rect-at-reads.Asked,
-  rect-at-reads.Learnt,
-  meets-reads.Asked,
-  meets-reads.Learnt,
-  nowhere-reads.Asked,
-  nowhere-reads.Learnt,
-  child-at-reads.Asked,
-  child-at-reads.Learnt,
-  find-in-below t,
-  find-in.Post,
-) (find-below-at t) find-below.Post
+find-below-meets-requires : (t : ℕ) → find-below-lts.Need-meets-requires (find-below-calls t) (find-below-at t) find-below.Post
 find-below-meets-requires t c κs = tt
 
-find-below-nowhere-requires : (t : ℕ) → find-below-lts.Need-nowhere-requires (
-  rect-at-reads.Asked,
-  rect-at-reads.Learnt,
-  meets-reads.Asked,
-  meets-reads.Learnt,
-  nowhere-reads.Asked,
-  nowhere-reads.Learnt,
-  child-at-reads.Asked,
-  child-at-reads.Learnt,
-  find-in-below t,
-  find-in.Post,
-) (find-below-at t) find-below.Post
+find-below-nowhere-requires : (t : ℕ) → find-below-lts.Need-nowhere-requires (find-below-calls t) (find-below-at t) find-below.Post
 find-below-nowhere-requires t c κs = tt
 
-find-below-returns : (t : ℕ) → find-below-lts.Need-returns (
-  rect-at-reads.Asked,
-  rect-at-reads.Learnt,
-  meets-reads.Asked,
-  meets-reads.Learnt,
-  nowhere-reads.Asked,
-  nowhere-reads.Learnt,
-  child-at-reads.Asked,
-  child-at-reads.Learnt,
-  find-in-below t,
-  find-in.Post,
-) (find-below-at t) find-below.Post
+find-below-returns : (t : ℕ) → find-below-lts.Need-returns (find-below-calls t) (find-below-at t) find-below.Post
 find-below-returns t c =
-    let s = c .before .before .before .before in
-    let p = read (s .args .pool .now) in
-    let q = c .before .before .before .rect-at in
-    let m = c .before .before .meets in
-    below-none p (s .args .r) (s .args .below) (entryAt p (s .args .s) (s .args .i)) (q .result) (m .result) (q .ensures) (m .ensures) (c .nowhere .result) (not-true (m .result) (c .before .if1 .taken)) (c .nowhere .ensures)
+    let start = c .before .before .before .before in
+    let rect-at = c .before .before .before .rect-at in
+    let meets = c .before .before .meets in
+    let p = read (start .args .pool .now) in
+    below-none p (start .args .r) (start .args .below) (entryAt p (start .args .s) (start .args .i)) (rect-at .result) (meets .result)
+    (rect-at .ensures) (meets .ensures) (c .nowhere .result) (not-true (meets .result) (c .before .if1 .taken)) (c .nowhere .ensures)
 
-find-below-child-at-requires : (t : ℕ) → find-below-lts.Need-child-at-requires (
-  rect-at-reads.Asked,
-  rect-at-reads.Learnt,
-  meets-reads.Asked,
-  meets-reads.Learnt,
-  nowhere-reads.Asked,
-  nowhere-reads.Learnt,
-  child-at-reads.Asked,
-  child-at-reads.Learnt,
-  find-in-below t,
-  find-in.Post,
-) (find-below-at t) find-below.Post
+find-below-child-at-requires : (t : ℕ) → find-below-lts.Need-child-at-requires (find-below-calls t) (find-below-at t) find-below.Post
 find-below-child-at-requires t c κs = let s = c .before .before .before in (s .pre .1 .0, s .pre .1 .1 .1)
 
-find-below-find-in-requires : (t : ℕ) → find-below-lts.Need-find-in-requires (
-  rect-at-reads.Asked,
-  rect-at-reads.Learnt,
-  meets-reads.Asked,
-  meets-reads.Learnt,
-  nowhere-reads.Asked,
-  nowhere-reads.Learnt,
-  child-at-reads.Asked,
-  child-at-reads.Learnt,
-  find-in-below t,
-  find-in.Post,
-) (find-below-at t) find-below.Post
+find-below-find-in-requires : (t : ℕ) → find-below-lts.Need-find-in-requires (find-below-calls t) (find-below-at t) find-below.Post
 find-below-find-in-requires t c κs = let s = c .before .before .before .before in (omega (arith, s .pre .0), (s .pre .1 .0, s .pre .1 .1 .0))
 
-find-below-returns-2 : (t : ℕ) → find-below-lts.Need-returns-2 (
-  rect-at-reads.Asked,
-  rect-at-reads.Learnt,
-  meets-reads.Asked,
-  meets-reads.Learnt,
-  nowhere-reads.Asked,
-  nowhere-reads.Learnt,
-  child-at-reads.Asked,
-  child-at-reads.Learnt,
-  find-in-below t,
-  find-in.Post,
-) (find-below-at t) find-below.Post
+find-below-returns-2 : (t : ℕ) → find-below-lts.Need-returns-2 (find-below-calls t) (find-below-at t) find-below.Post
 find-below-returns-2 t c =
     let s = c .before .before .before .before .before in
     let p = read (s .args .pool .now) in
@@ -171,7 +109,8 @@ find-below-returns-2 t c =
     below-in p (s .args .r) (s .args .below) (entryAt p (s .args .s) (s .args .i)) (q .result) (m .result) (q .ensures) (m .ensures)
     (child .result) (c .find-in .result) (not-false (m .result) (c .before .before .if1 .left)) (child .ensures) (c .find-in .ensures)
 
-find-from-nowhere-requires : (t : ℕ) → find-from-lts.Need-nowhere-requires (
+abbrev find-from-calls : ℕ → find-from-lts.Claims
+find-from-calls t = (
   nowhere-reads.Asked,
   nowhere-reads.Learnt,
   find-below-below t,
@@ -180,63 +119,29 @@ find-from-nowhere-requires : (t : ℕ) → find-from-lts.Need-nowhere-requires (
   placed-reads.Learnt,
   find-from-below t,
   find-from.Post,
-) (find-from-at t) find-from.Post
+)
+
+find-from-nowhere-requires : (t : ℕ) → find-from-lts.Need-nowhere-requires (find-from-calls t) (find-from-at t) find-from.Post
 find-from-nowhere-requires t c κs = tt
 
-find-from-returns : (t : ℕ) → find-from-lts.Need-returns (
-  nowhere-reads.Asked,
-  nowhere-reads.Learnt,
-  find-below-below t,
-  find-below.Post,
-  placed-reads.Asked,
-  placed-reads.Learnt,
-  find-from-below t,
-  find-from.Post,
-) (find-from-at t) find-from.Post
+find-from-returns : (t : ℕ) → find-from-lts.Need-returns (find-from-calls t) (find-from-at t) find-from.Post
 find-from-returns t c =
     let s = c .before .before in
     let p = read (s .args .pool .now) in
     let end : length (entriesAt p (s .args .s)) ≤ s .args .i = omega (arith, s .pre .1 .1 .1, c .before .if1 .taken) in
     child-ends p (s .args .r) (s .args .s) (s .args .i) (c .nowhere .result) end (c .nowhere .ensures) (s .args .below)
 
-find-from-find-below-requires : (t : ℕ) → find-from-lts.Need-find-below-requires (
-  nowhere-reads.Asked,
-  nowhere-reads.Learnt,
-  find-below-below t,
-  find-below.Post,
-  placed-reads.Asked,
-  placed-reads.Learnt,
-  find-from-below t,
-  find-from.Post,
-) (find-from-at t) find-from.Post
+find-from-find-below-requires : (t : ℕ) → find-from-lts.Need-find-below-requires (find-from-calls t) (find-from-at t) find-from.Post
 find-from-find-below-requires t c κs =
     let s = c .before in (
       omega (arith, s .pre .0, c .if1 .left),
       (s .pre .1 .0, (omega (arith, s .pre .1 .1 .0), omega (arith, s .pre .1 .1 .1, c .if1 .left))),
     )
 
-find-from-add-placed : (t : ℕ) → find-from-lts.Need-add-placed (
-  nowhere-reads.Asked,
-  nowhere-reads.Learnt,
-  find-below-below t,
-  find-below.Post,
-  placed-reads.Asked,
-  placed-reads.Learnt,
-  find-from-below t,
-  find-from.Post,
-) (find-from-at t) find-from.Post
+find-from-add-placed : (t : ℕ) → find-from-lts.Need-add-placed (find-from-calls t) (find-from-at t) find-from.Post
 find-from-add-placed t c = omega (arith, c .before .before .before .pre .1 .1 .0)
 
-find-from-placed-requires : (t : ℕ) → find-from-lts.Need-placed-requires (
-  nowhere-reads.Asked,
-  nowhere-reads.Learnt,
-  find-below-below t,
-  find-below.Post,
-  placed-reads.Asked,
-  placed-reads.Learnt,
-  find-from-below t,
-  find-from.Post,
-) (find-from-at t) find-from.Post
+find-from-placed-requires : (t : ℕ) → find-from-lts.Need-placed-requires (find-from-calls t) (find-from-at t) find-from.Post
 find-from-placed-requires t c κs =
     let s = c .before .before .before in
     let p = read (s .args .pool .now) in
@@ -245,69 +150,38 @@ find-from-placed-requires t c κs =
       (omega arith, omega (arith, s .pre .1 .1 .0)),
     )
 
-find-from-returns-2 : (t : ℕ) → find-from-lts.Need-returns-2 (
-  nowhere-reads.Asked,
-  nowhere-reads.Learnt,
-  find-below-below t,
-  find-below.Post,
-  placed-reads.Asked,
-  placed-reads.Learnt,
-  find-from-below t,
-  find-from.Post,
-) (find-from-at t) find-from.Post
+find-from-returns-2 : (t : ℕ) → find-from-lts.Need-returns-2 (find-from-calls t) (find-from-at t) find-from.Post
 find-from-returns-2 t c =
-    let s = c .before .before .before .before in
-    let p = read (s .args .pool .now) in
-    let there : s .args .i < length (entriesAt p (s .args .s)) = omega (arith, s .pre .1 .1 .1, c .before .before .before .if1 .left) in
-    let way = c .before .before .find-below in
-    child-found p (s .args .r) (s .args .s) (s .args .i) there (s .args .below) (way .result) (c .placed .result) (way .ensures) (c .before .if2 .taken) (c .placed .ensures)
+    let start = c .before .before .before .before in
+    let if1 = c .before .before .before .if1 in
+    let find-below = c .before .before .find-below in
+    let p = read (start .args .pool .now) in
+    let there : start .args .i < length (entriesAt p (start .args .s)) = omega (arith, start .pre .1 .1 .1, if1 .left) in
+    child-found p (start .args .r) (start .args .s) (start .args .i) there (start .args .below) (find-below .result) (c .placed .result)
+    (find-below .ensures) (c .before .if2 .taken) (c .placed .ensures)
 
-find-from-add-find-from : (t : ℕ) → find-from-lts.Need-add-find-from (
-  nowhere-reads.Asked,
-  nowhere-reads.Learnt,
-  find-below-below t,
-  find-below.Post,
-  placed-reads.Asked,
-  placed-reads.Learnt,
-  find-from-below t,
-  find-from.Post,
-) (find-from-at t) find-from.Post
+find-from-add-find-from : (t : ℕ) → find-from-lts.Need-add-find-from (find-from-calls t) (find-from-at t) find-from.Post
 find-from-add-find-from t c =
     let s = c .before .before .before in
     omega (arith, s .pre .1 .1 .1, c .before .before .if1 .left, most-entries (s .args .pool .now) (s .pre .1 .0) (s .args .s))
 
-find-from-find-from-requires : (t : ℕ) → find-from-lts.Need-find-from-requires (
-  nowhere-reads.Asked,
-  nowhere-reads.Learnt,
-  find-below-below t,
-  find-below.Post,
-  placed-reads.Asked,
-  placed-reads.Learnt,
-  find-from-below t,
-  find-from.Post,
-) (find-from-at t) find-from.Post
+find-from-find-from-requires : (t : ℕ) → find-from-lts.Need-find-from-requires (find-from-calls t) (find-from-at t) find-from.Post
 find-from-find-from-requires t c κs =
     let s = c .before .before .before in
     (omega (arith, s .pre .0, c .before .before .if1 .left), (s .pre .1 .0, (s .pre .1 .1 .0, s .pre .1 .1 .1)))
 
-find-from-returns-3 : (t : ℕ) → find-from-lts.Need-returns-3 (
-  nowhere-reads.Asked,
-  nowhere-reads.Learnt,
-  find-below-below t,
-  find-below.Post,
-  placed-reads.Asked,
-  placed-reads.Learnt,
-  find-from-below t,
-  find-from.Post,
-) (find-from-at t) find-from.Post
+find-from-returns-3 : (t : ℕ) → find-from-lts.Need-returns-3 (find-from-calls t) (find-from-at t) find-from.Post
 find-from-returns-3 t c =
-    let s = c .before .before .before .before in
-    let p = read (s .args .pool .now) in
-    let there : s .args .i < length (entriesAt p (s .args .s)) = omega (arith, s .pre .1 .1 .1, c .before .before .before .if1 .left) in
-    let way = c .before .before .find-below in
-    child-later p (s .args .r) (s .args .s) (s .args .i) there (s .args .below) (way .result) (c .find-from .result) (way .ensures) (c .before .if2 .left) (c .find-from .ensures)
+    let start = c .before .before .before .before in
+    let if1 = c .before .before .before .if1 in
+    let find-below = c .before .before .find-below in
+    let p = read (start .args .pool .now) in
+    let there : start .args .i < length (entriesAt p (start .args .s)) = omega (arith, start .pre .1 .1 .1, if1 .left) in
+    child-later p (start .args .r) (start .args .s) (start .args .i) there (start .args .below) (find-below .result) (c .find-from .result)
+    (find-below .ensures) (c .before .if2 .left) (c .find-from .ensures)
 
-find-in-nowhere-requires : (t : ℕ) → find-in-lts.Need-nowhere-requires (
+abbrev find-in-calls : ℕ → find-in-lts.Claims
+find-in-calls t = (
   nowhere-reads.Asked,
   nowhere-reads.Learnt,
   count-at-reads.Asked,
@@ -316,101 +190,40 @@ find-in-nowhere-requires : (t : ℕ) → find-in-lts.Need-nowhere-requires (
   find-entry-reads.Learnt,
   find-from-below t,
   find-from.Post,
-) (find-in-at t) find-in.Post
+)
+
+find-in-nowhere-requires : (t : ℕ) → find-in-lts.Need-nowhere-requires (find-in-calls t) (find-in-at t) find-in.Post
 find-in-nowhere-requires t c κs = tt
 
-find-in-returns : (t : ℕ) → find-in-lts.Need-returns (
-  nowhere-reads.Asked,
-  nowhere-reads.Learnt,
-  count-at-reads.Asked,
-  count-at-reads.Learnt,
-  find-entry-reads.Asked,
-  find-entry-reads.Learnt,
-  find-from-below t,
-  find-from.Post,
-) (find-in-at t) find-in.Post
+find-in-returns : (t : ℕ) → find-in-lts.Need-returns (find-in-calls t) (find-in-at t) find-in.Post
 find-in-returns t c =
     let s = c .before .before in
     let p = read (s .args .pool .now) in
     none-in p (s .args .r) (s .args .s) (s .args .level) (c .nowhere .result) (c .before .if1 .taken) (c .nowhere .ensures)
 
-find-in-count-at-requires : (t : ℕ) → find-in-lts.Need-count-at-requires (
-  nowhere-reads.Asked,
-  nowhere-reads.Learnt,
-  count-at-reads.Asked,
-  count-at-reads.Learnt,
-  find-entry-reads.Asked,
-  find-entry-reads.Learnt,
-  find-from-below t,
-  find-from.Post,
-) (find-in-at t) find-in.Post
+find-in-count-at-requires : (t : ℕ) → find-in-lts.Need-count-at-requires (find-in-calls t) (find-in-at t) find-in.Post
 find-in-count-at-requires t c κs = c .before .pre .1 .0
 
-find-in-find-entry-requires : (t : ℕ) → find-in-lts.Need-find-entry-requires (
-  nowhere-reads.Asked,
-  nowhere-reads.Learnt,
-  count-at-reads.Asked,
-  count-at-reads.Learnt,
-  find-entry-reads.Asked,
-  find-entry-reads.Learnt,
-  find-from-below t,
-  find-from.Post,
-) (find-in-at t) find-in.Post
+find-in-find-entry-requires : (t : ℕ) → find-in-lts.Need-find-entry-requires (find-in-calls t) (find-in-at t) find-in.Post
 find-in-find-entry-requires t c κs = (c .before .before .before .pre .1 .0, c .before .count-at .ensures .0)
 
-find-in-returns-2 : (t : ℕ) → find-in-lts.Need-returns-2 (
-  nowhere-reads.Asked,
-  nowhere-reads.Learnt,
-  count-at-reads.Asked,
-  count-at-reads.Learnt,
-  find-entry-reads.Asked,
-  find-entry-reads.Learnt,
-  find-from-below t,
-  find-from.Post,
-) (find-in-at t) find-in.Post
+find-in-returns-2 : (t : ℕ) → find-in-lts.Need-returns-2 (find-in-calls t) (find-in-at t) find-in.Post
 find-in-returns-2 t c =
     let s = c .before .before .before .before in
     let p = read (s .args .pool .now) in
     leaf-in p (s .args .r) (s .args .s) (s .args .level) (c .find-entry .result) (c .before .if2 .taken) (c .find-entry .ensures)
 
-find-in-sub-find-from : (t : ℕ) → find-in-lts.Need-sub-find-from (
-  nowhere-reads.Asked,
-  nowhere-reads.Learnt,
-  count-at-reads.Asked,
-  count-at-reads.Learnt,
-  find-entry-reads.Asked,
-  find-entry-reads.Learnt,
-  find-from-below t,
-  find-from.Post,
-) (find-in-at t) find-in.Post
+find-in-sub-find-from : (t : ℕ) → find-in-lts.Need-sub-find-from (find-in-calls t) (find-in-at t) find-in.Post
 find-in-sub-find-from t c = omega (arith, c .before .before .if1 .left)
 
-find-in-find-from-requires : (t : ℕ) → find-in-lts.Need-find-from-requires (
-  nowhere-reads.Asked,
-  nowhere-reads.Learnt,
-  count-at-reads.Asked,
-  count-at-reads.Learnt,
-  find-entry-reads.Asked,
-  find-entry-reads.Learnt,
-  find-from-below t,
-  find-from.Post,
-) (find-in-at t) find-in.Post
+find-in-find-from-requires : (t : ℕ) → find-in-lts.Need-find-from-requires (find-in-calls t) (find-in-at t) find-in.Post
 find-in-find-from-requires t c κs =
     let s = c .before .before .before in
     let n = c .before .count-at in
     let some = c .before .before .if1 .left in
     (omega (arith, s .pre .0, n .ensures .1, some), (s .pre .1 .0, (omega (arith, s .pre .1 .1, some), n .ensures .0)))
 
-find-in-returns-3 : (t : ℕ) → find-in-lts.Need-returns-3 (
-  nowhere-reads.Asked,
-  nowhere-reads.Learnt,
-  count-at-reads.Asked,
-  count-at-reads.Learnt,
-  find-entry-reads.Asked,
-  find-entry-reads.Learnt,
-  find-from-below t,
-  find-from.Post,
-) (find-in-at t) find-in.Post
+find-in-returns-3 : (t : ℕ) → find-in-lts.Need-returns-3 (find-in-calls t) (find-in-at t) find-in.Post
 find-in-returns-3 t c =
     let s = c .before .before .before .before in
     let p = read (s .args .pool .now) in
@@ -419,18 +232,7 @@ find-in-returns-3 t c =
 
 pub +find-below+find-from+find-in-spec : {M : Type 1} → statement M
 +find-below+find-from+find-in-spec =
-    close μ-find-below μ-find-from μ-find-in (λ t. find-below-lts.spec (
-      rect-at-reads.Asked,
-      rect-at-reads.Learnt,
-      meets-reads.Asked,
-      meets-reads.Learnt,
-      nowhere-reads.Asked,
-      nowhere-reads.Learnt,
-      child-at-reads.Asked,
-      child-at-reads.Learnt,
-      find-in-below t,
-      find-in.Post,
-    )
+    close μ-find-below μ-find-from μ-find-in (λ t. find-below-lts.spec (find-below-calls t)
     (find-below-at t)
     find-below.Post
     (find-below-rect-at-requires t)
@@ -440,16 +242,7 @@ pub +find-below+find-from+find-in-spec : {M : Type 1} → statement M
     (find-below-child-at-requires t)
     (find-below-find-in-requires t)
     (find-below-returns-2 t))
-    (λ t. find-from-lts.spec (
-      nowhere-reads.Asked,
-      nowhere-reads.Learnt,
-      find-below-below t,
-      find-below.Post,
-      placed-reads.Asked,
-      placed-reads.Learnt,
-      find-from-below t,
-      find-from.Post,
-    )
+    (λ t. find-from-lts.spec (find-from-calls t)
     (find-from-at t)
     find-from.Post
     (find-from-nowhere-requires t)
@@ -461,16 +254,7 @@ pub +find-below+find-from+find-in-spec : {M : Type 1} → statement M
     (find-from-add-find-from t)
     (find-from-find-from-requires t)
     (find-from-returns-3 t))
-    λ t. find-in-lts.spec (
-      nowhere-reads.Asked,
-      nowhere-reads.Learnt,
-      count-at-reads.Asked,
-      count-at-reads.Learnt,
-      find-entry-reads.Asked,
-      find-entry-reads.Learnt,
-      find-from-below t,
-      find-from.Post,
-    )
+    λ t. find-in-lts.spec (find-in-calls t)
     (find-in-at t)
     find-in.Post
     (find-in-nowhere-requires t)

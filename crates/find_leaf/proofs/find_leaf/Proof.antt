@@ -21,10 +21,11 @@ find-in-requires c κs = (c .before .before .pre .0, omega (arith, c .before .he
 
 returns : tie.Need-returns
 returns c =
-    let s = c .before .before .before in
-    let h = c .before .before .height-of in
-    let root = c .before .root-of in
-    from-root (read (s .args .pool .now)) (s .args .r) (h .result) (root .result) (c .find-in .result) (h .ensures) (root .ensures) (c .find-in .ensures)
+    let start = c .before .before .before in
+    let height-of = c .before .before .height-of in
+    let root-of = c .before .root-of in
+    from-root (read (start .args .pool .now)) (start .args .r) (height-of .result) (root-of .result) (c .find-in .result)
+    (height-of .ensures) (root-of .ensures) (c .find-in .ensures)
 
 pub find-leaf-spec : {M : Type 1} → statement M
 find-leaf-spec = tie.close (tie.spec height-of-requires root-of-requires find-in-requires returns)

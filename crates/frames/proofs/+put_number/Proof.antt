@@ -9,7 +9,6 @@ use borrow.Author.Needs.{needs}
 use Rattle.rules.specs.Frames.{natShown}
 use Rattle.frames.proofs.Digits.{tenth-less, shown-one, shown-more}
 use Rattle.frames.proofs.Texts.{wrote-byte, wrote-then, wrote-as}
-use Prim.Native.Nat.{ℕ, _<_}
 use borrow.Fn.Kinds.{In}
 use borrow.Fn.PlainCycle.{Measures, is, falls, and}
 use Rattle.frames.proofs.put_number.Reads as put-number
@@ -30,101 +29,77 @@ abbrev put-number-below : ℕ → In 1 put-number-kinds.ps
 put-number-below t =
     and 1 put-number-kinds.ps (falls 1 put-number-kinds.ps _<_ μ-put-number t) put-number.Pre
 
-put-number-digit-requires : (t : ℕ) → put-number-lts.Need-digit-requires (
-  digit-reads.Asked,
-  digit-reads.Learnt,
-  put-number-below t,
-  put-number.Post,
-) (put-number-at t) put-number.Post
-put-number-digit-requires t c κs = omega arith
-
-put-number-slice-write-out : (t : ℕ) → put-number-lts.Need-slice-write-out (
-  digit-reads.Asked,
-  digit-reads.Learnt,
-  put-number-below t,
-  put-number.Post,
-) (put-number-at t) put-number.Post
-put-number-slice-write-out t c = let e = ap length (shown-one (c .before .before .before .args .n) (c .before .if1 .taken)) in omega arith
-
-put-number-add-result : (t : ℕ) → put-number-lts.Need-add-result (
-  digit-reads.Asked,
-  digit-reads.Learnt,
-  put-number-below t,
-  put-number.Post,
-) (put-number-at t) put-number.Post
-put-number-add-result t c = let e = ap length (shown-one (c .before .before .before .args .n) (c .before .if1 .taken)) in omega arith
-
-put-number-same-length : (t : ℕ) → put-number-lts.Need-same-length (
-  digit-reads.Asked,
-  digit-reads.Learnt,
-  put-number-below t,
-  put-number.Post,
-) (put-number-at t) put-number.Post
-put-number-same-length t c = search needs
-
-put-number-returns : (t : ℕ) → put-number-lts.Need-returns (
-  digit-reads.Asked,
-  digit-reads.Learnt,
-  put-number-below t,
-  put-number.Post,
-) (put-number-at t) put-number.Post
-put-number-returns t c = wrote-as (ap (λ (x : ℕ). x ∷ []) (c .digit .ensures) ∙ sym (shown-one (c .before .before .before .args .n) (c .before .if1 .taken))) (wrote-byte (c .before .before .before .args .out .now) (c .before .before .before .args .at) (c .digit .result))
-
-put-number-put-number-requires : (t : ℕ) → put-number-lts.Need-put-number-requires (
-  digit-reads.Asked,
-  digit-reads.Learnt,
-  put-number-below t,
-  put-number.Post,
-) (put-number-at t) put-number.Post
-put-number-put-number-requires t c κs = let e = ap length (shown-more (c .before .before .before .args .n) (c .before .if1 .left) (omega (arith, c .before .before .before .fits .n .fits))) ∙ length-append (natShown (c .before .before .before .args .n / 10)) ((48 + c .before .before .before .args .n % 10) ∷ []) in (omega (arith, tenth-less (c .before .before .before .args .n) (c .before .if1 .left)), omega arith)
-
-put-number-digit-requires-2 : (t : ℕ) → put-number-lts.Need-digit-requires-2 (
-  digit-reads.Asked,
-  digit-reads.Learnt,
-  put-number-below t,
-  put-number.Post,
-) (put-number-at t) put-number.Post
-put-number-digit-requires-2 t c κs = mod-lt (c .before .before .before .before .before .before .args .n) {m = 10} (omega arith)
-
-put-number-slice-write-out-2 : (t : ℕ) → put-number-lts.Need-slice-write-out-2 (
-  digit-reads.Asked,
-  digit-reads.Learnt,
-  put-number-below t,
-  put-number.Post,
-) (put-number-at t) put-number.Post
-put-number-slice-write-out-2 t c = let e = ap length (shown-more (c .before .before .before .before .before .before .before .args .n) (c .before .before .before .before .before .if1 .left) (omega (arith, c .before .before .before .before .before .before .before .fits .n .fits))) ∙ length-append (natShown (c .before .before .before .before .before .before .before .args .n / 10)) ((48 + c .before .before .before .before .before .before .before .args .n % 10) ∷ []) in omega (arith, c .before .before .before .put-number .ensures .place, c .before .before .before .put-number .kept .0)
-
-put-number-add-result-2 : (t : ℕ) → put-number-lts.Need-add-result-2 (
-  digit-reads.Asked,
-  digit-reads.Learnt,
-  put-number-below t,
-  put-number.Post,
-) (put-number-at t) put-number.Post
-put-number-add-result-2 t c = let e = ap length (shown-more (c .before .before .before .before .before .before .before .args .n) (c .before .before .before .before .before .if1 .left) (omega (arith, c .before .before .before .before .before .before .before .fits .n .fits))) ∙ length-append (natShown (c .before .before .before .before .before .before .before .args .n / 10)) ((48 + c .before .before .before .before .before .before .before .args .n % 10) ∷ []) in omega (arith, c .before .before .before .put-number .ensures .place, c .before .before .before .put-number .kept .0)
-
-put-number-same-length-2 : (t : ℕ) → put-number-lts.Need-same-length-2 (
-  digit-reads.Asked,
-  digit-reads.Learnt,
-  put-number-below t,
-  put-number.Post,
-) (put-number-at t) put-number.Post
-put-number-same-length-2 t c = search needs
-
-put-number-returns-2 : (t : ℕ) → put-number-lts.Need-returns-2 (
-  digit-reads.Asked,
-  digit-reads.Learnt,
-  put-number-below t,
-  put-number.Post,
-) (put-number-at t) put-number.Post
-put-number-returns-2 t c = wrote-as (ap (λ (x : ℕ). natShown (c .before .before .before .before .before .before .before .args .n / 10) ++ x ∷ []) (c .digit2 .ensures) ∙ sym (shown-more (c .before .before .before .before .before .before .before .args .n) (c .before .before .before .before .before .if1 .left) (omega (arith, c .before .before .before .before .before .before .before .fits .n .fits)))) (wrote-then (c .before .before .before .put-number .ensures) (wrote-byte (c .before .before .before .put-number .last .0) (c .before .before .before .put-number .result) (c .digit2 .result)))
-
-pub +put-number-spec : {M : Type 1} → statement M
-+put-number-spec = close μ-put-number λ t. put-number-lts.spec (
+abbrev put-number-calls : ℕ → put-number-lts.Claims
+put-number-calls t = (
   digit-reads.Asked,
   digit-reads.Learnt,
   put-number-below t,
   put-number.Post,
 )
+
+put-number-digit-requires : (t : ℕ) → put-number-lts.Need-digit-requires (put-number-calls t) (put-number-at t) put-number.Post
+put-number-digit-requires t c κs = omega arith
+
+put-number-slice-write-out : (t : ℕ) → put-number-lts.Need-slice-write-out (put-number-calls t) (put-number-at t) put-number.Post
+put-number-slice-write-out t c = let e = ap length (shown-one (c .before .before .before .args .n) (c .before .if1 .taken)) in omega arith
+
+put-number-add-result : (t : ℕ) → put-number-lts.Need-add-result (put-number-calls t) (put-number-at t) put-number.Post
+put-number-add-result t c = let e = ap length (shown-one (c .before .before .before .args .n) (c .before .if1 .taken)) in omega arith
+
+put-number-same-length : (t : ℕ) → put-number-lts.Need-same-length (put-number-calls t) (put-number-at t) put-number.Post
+put-number-same-length t c = search needs
+
+put-number-returns : (t : ℕ) → put-number-lts.Need-returns (put-number-calls t) (put-number-at t) put-number.Post
+put-number-returns t c =
+    let start = c .before .before .before in
+    wrote-as (ap (λ (x : ℕ). x ∷ []) (c .digit .ensures) ∙ sym (shown-one (start .args .n) (c .before .if1 .taken)))
+    (wrote-byte (start .args .out .now) (start .args .at) (c .digit .result))
+
+put-number-put-number-requires : (t : ℕ) → put-number-lts.Need-put-number-requires (put-number-calls t) (put-number-at t) put-number.Post
+put-number-put-number-requires t c κs =
+    let start = c .before .before .before in
+    let if1 = c .before .if1 in
+    let e = ap length (shown-more (start .args .n) (if1 .left) (omega (arith, start .fits .n .fits)))
+    ∙ length-append (natShown (start .args .n / 10)) ((48 + start .args .n % 10) ∷ []) in
+    (omega (arith, tenth-less (start .args .n) (if1 .left)), omega arith)
+
+put-number-digit-requires-2 : (t : ℕ) → put-number-lts.Need-digit-requires-2 (put-number-calls t) (put-number-at t) put-number.Post
+put-number-digit-requires-2 t c κs =
+    let start = c .before .before .before .before .before .before in
+    mod-lt (start .args .n) {m = 10} (omega arith)
+
+put-number-slice-write-out-2 : (t : ℕ) → put-number-lts.Need-slice-write-out-2 (put-number-calls t) (put-number-at t) put-number.Post
+put-number-slice-write-out-2 t c =
+    let start = c .before .before .before .before .before .before .before in
+    let if1 = c .before .before .before .before .before .if1 in
+    let put-number = c .before .before .before .put-number in
+    let e = ap length (shown-more (start .args .n) (if1 .left) (omega (arith, start .fits .n .fits)))
+    ∙ length-append (natShown (start .args .n / 10)) ((48 + start .args .n % 10) ∷ []) in
+    omega (arith, put-number .ensures .place, put-number .kept .0)
+
+put-number-add-result-2 : (t : ℕ) → put-number-lts.Need-add-result-2 (put-number-calls t) (put-number-at t) put-number.Post
+put-number-add-result-2 t c =
+    let start = c .before .before .before .before .before .before .before in
+    let if1 = c .before .before .before .before .before .if1 in
+    let put-number = c .before .before .before .put-number in
+    let e = ap length (shown-more (start .args .n) (if1 .left) (omega (arith, start .fits .n .fits)))
+    ∙ length-append (natShown (start .args .n / 10)) ((48 + start .args .n % 10) ∷ []) in
+    omega (arith, put-number .ensures .place, put-number .kept .0)
+
+put-number-same-length-2 : (t : ℕ) → put-number-lts.Need-same-length-2 (put-number-calls t) (put-number-at t) put-number.Post
+put-number-same-length-2 t c = search needs
+
+put-number-returns-2 : (t : ℕ) → put-number-lts.Need-returns-2 (put-number-calls t) (put-number-at t) put-number.Post
+put-number-returns-2 t c =
+    let start = c .before .before .before .before .before .before .before in
+    let if1 = c .before .before .before .before .before .if1 in
+    let put-number = c .before .before .before .put-number in
+    wrote-as (ap (λ (x : ℕ). natShown (start .args .n / 10) ++ x ∷ []) (c .digit2 .ensures)
+    ∙ sym (shown-more (start .args .n) (if1 .left) (omega (arith, start .fits .n .fits))))
+    (wrote-then (put-number .ensures) (wrote-byte (put-number .last .0) (put-number .result) (c .digit2 .result)))
+
+pub +put-number-spec : {M : Type 1} → statement M
++put-number-spec = close μ-put-number λ t. put-number-lts.spec (put-number-calls t)
     (put-number-at t)
     put-number.Post
     (put-number-digit-requires t)

@@ -40,18 +40,20 @@ same-length c = search needs
 
 returns : tie.Need-returns
 returns c =
-    let s = c .before .before .before .before .before .before .before .before .before .before .before .before .before .before .before .before .before .before .before .before .args in
-    let number = c .before .before .before .before .before .before .before .before .before .before .before .before .before .long .ensures in
+    let at-long = c .before .before .before .before .before .before .before .before .before .before .before .before .before in
+    let start = at-long .before .before .before .before .before .before .before in
+    let put-field = at-long .before .before .before .before .put-field in
+    let long = at-long .long in
+    let number = long .ensures in
     let found = c .before .before .before .before .before .before .before .before .long2 .ensures in
     let opened = c .before .before .before .long3 .ensures in
-    let one = c .before .before .before .before .before .before .before .before .before .before .before .before .before .before .before .before .before .put-field .ensures in
+    let one = put-field .ensures in
     let two = c .before .before .before .before .before .before .before .before .before .before .before .before .put-field2 .ensures in
     let three = c .before .before .before .before .before .before .before .put-field3 .ensures in
     let last = c .before .before .put-field4 .ensures in (
-      wrote-as
-          (line-of-four _ _ _ _
-          ∙ (λ i. line (natShown (add-one (s .before) i) ∷ natShown (number i) ∷ natShown (found i) ∷ natShown (opened i) ∷ []))
-          ∙ answer-is (suc (s .before)) (s .answer))
+      wrote-as (line-of-four _ _ _ _
+          ∙ (λ i. line (natShown (add-one (start .args .before) i) ∷ natShown (number i) ∷ natShown (found i) ∷ natShown (opened i) ∷ []))
+          ∙ answer-is (suc (start .args .before)) (start .args .answer))
           (wrote-then (wrote-then (wrote-then (one .0) (two .0)) (three .0)) (last .0)),
       omega (arith, one .1, two .1, three .1, last .1),
     )

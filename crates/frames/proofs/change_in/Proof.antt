@@ -16,7 +16,11 @@ no-rect-requires : tie.Need-no-rect-requires
 no-rect-requires c κs = search needs
 
 returns : tie.Need-returns
-returns c = change-made (c .before .before .before .before .args .bytes .now) (c .before .before .before .before .args .kind) (word-kept (c .before .before .before .before .fits .kind .sfits)) (word-kept (c .before .before .word-at .ok) ∙ c .before .before .word-at .ensures) (c .before .rect-at .ensures) (c .no-rect .ensures)
+returns c =
+    let start = c .before .before .before .before in
+    let word-at = c .before .before .word-at in
+    change-made (start .args .bytes .now) (start .args .kind) (word-kept (start .fits .kind .sfits))
+    (word-kept (word-at .ok) ∙ word-at .ensures) (c .before .rect-at .ensures) (c .no-rect .ensures)
 
 pub change-in-spec : {M : Type 1} → statement M
 change-in-spec = tie.close (tie.spec word-at-requires rect-at-requires no-rect-requires returns)

@@ -28,7 +28,15 @@ sub-rest : tie.Need-sub-rest Inv-loop μ-loop
 sub-rest c = omega arith
 
 loop-holds : tie.Need-loop-holds Inv-loop μ-loop
-loop-holds c = record { most = omega arith; whole = omega arith; room = c .pre .1; size = refl; moved = λ k h. absurd (omega arith); same = λ k h. refl }
+loop-holds c =
+    record {
+      most = omega arith;
+      whole = omega arith;
+      room = c .pre .1;
+      size = refl;
+      moved = λ k h. absurd (omega arith);
+      same = λ k h. refl;
+    }
 
 add-buffer : tie.Need-add-buffer Inv-loop μ-loop
 add-buffer c = omega arith
@@ -46,13 +54,34 @@ loop-less : tie.Need-loop-less Inv-loop μ-loop
 loop-less c = omega arith
 
 loop-again : tie.Need-loop-again Inv-loop μ-loop
-loop-again c = let t = c .before .before .loop .inv in record { most = omega arith; whole = t .whole; room = t .room; size = length-set (c .before .before .loop .buffer) (c .before .before .loop .i) (getD (c .before .before .loop .buffer) (c .before .before .before .args .at + c .before .before .loop .i) 0) ∙ t .size; moved = moved-more (c .before .before .before .args .at) (c .before .before .loop .i) (c .before .before .before .args .buffer .now) (c .before .before .loop .buffer) (omega arith) (t .moved) (t .same (c .before .before .before .args .at + c .before .before .loop .i) (omega arith)); same = λ k h. getD-set-other (c .before .before .loop .buffer) (c .before .before .loop .i) k (getD (c .before .before .loop .buffer) (c .before .before .before .args .at + c .before .before .loop .i) 0) 0 (λ e. omega arith) ∙ t .same k (omega arith) }
+loop-again c =
+    let start = c .before .before .before in
+    let loop = c .before .before .loop in
+    let t = loop .inv in
+    record {
+      most = omega arith;
+      whole = t .whole;
+      room = t .room;
+      size = length-set (loop .buffer) (loop .i) (getD (loop .buffer) (start .args .at + loop .i) 0) ∙ t .size;
+      moved = moved-more (start .args .at) (loop .i) (start .args .buffer .now) (loop .buffer) (omega arith) (t .moved)
+          (t .same (start .args .at + loop .i) (omega arith));
+      same = λ k h. getD-set-other (loop .buffer) (loop .i) k (getD (loop .buffer) (start .args .at + loop .i) 0) 0 (λ e. omega arith)
+          ∙ t .same k (omega arith);
+    }
 
 same-length : tie.Need-same-length Inv-loop μ-loop
 same-length c = c .before .loop .inv .size
 
 returns : tie.Need-returns Inv-loop μ-loop
-returns c = let t = c .before .loop .inv in let e : c .before .loop .i ≡ c .before .before .args .end - c .before .before .args .at = omega arith in (omega arith, moved-all (c .before .before .args .at) (c .before .before .args .end - c .before .before .args .at) (c .before .before .args .buffer .now) (c .before .loop .buffer) (omega arith) (t .size) (λ k h. t .moved k (omega arith)))
+returns c =
+    let start = c .before .before in
+    let loop = c .before .loop in
+    let t = loop .inv in
+    let e : loop .i ≡ start .args .end - start .args .at = omega arith in (
+      omega arith,
+      moved-all (start .args .at) (start .args .end - start .args .at) (start .args .buffer .now) (loop .buffer) (omega arith) (t .size)
+          (λ k h. t .moved k (omega arith)),
+    )
 
 pub keep-rest-spec : {M : Type 1} → statement M
 keep-rest-spec =

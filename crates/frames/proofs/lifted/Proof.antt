@@ -14,10 +14,14 @@ add-result : tie.Need-add-result
 add-result c = rw (lift-sum (c .args .z) (c .fits .z .sfits)) (lift-fits (c .args .z) (c .fits .z .sfits))
 
 cast-result-2 : tie.Need-cast-result-2
-cast-result-2 c = rw (lift-sum (c .args .z) (c .fits .z .sfits), toZ-ofZ (lift-fits (c .args .z) (c .fits .z .sfits))) (tt, record { fits = omega (arith, lift-small (c .args .z) (c .fits .z .sfits)) })
+cast-result-2 c =
+    rw (lift-sum (c .args .z) (c .fits .z .sfits), toZ-ofZ (lift-fits (c .args .z) (c .fits .z .sfits)))
+    (tt, record { fits = omega (arith, lift-small (c .args .z) (c .fits .z .sfits)) })
 
 returns : tie.Need-returns
-returns c = rw (lift-sum (c .args .z) (c .fits .z .sfits), toZ-ofZ (lift-fits (c .args .z) (c .fits .z .sfits))) (refl, lift-small (c .args .z) (c .fits .z .sfits))
+returns c =
+    rw (lift-sum (c .args .z) (c .fits .z .sfits), toZ-ofZ (lift-fits (c .args .z) (c .fits .z .sfits)))
+    (refl, lift-small (c .args .z) (c .fits .z .sfits))
 
 pub lifted-spec : {M : Type 1} → statement M
 lifted-spec = tie.close (tie.spec cast-result add-result cast-result-2 returns)

@@ -11,10 +11,16 @@ cast-result : tie.Need-cast-result
 cast-result c = search needs
 
 returns-2 : tie.Need-returns-2
-returns-2 c = told-few (c .before .before .before .before .before .args .answer) (c .before .before .before .if1 .left) (c .before .if2 .taken)
+returns-2 c =
+    let start = c .before .before .before .before .before in
+    let if1 = c .before .before .before .if1 in
+    told-few (start .args .answer) (if1 .left) (c .before .if2 .taken)
 
 returns-3 : tie.Need-returns-3
-returns-3 c = told-most (c .before .before .before .before .args .answer) (c .before .before .if1 .left) (c .if2 .left)
+returns-3 c =
+    let start = c .before .before .before .before in
+    let if1 = c .before .before .if1 in
+    told-most (start .args .answer) (if1 .left) (c .if2 .left)
 
 pub listed-of-spec : {M : Type 1} → statement M
 listed-of-spec = tie.close (tie.spec returns cast-result returns-2 returns-3)

@@ -28,7 +28,10 @@ add-result : tie.Need-add-result
 add-result c = search needs
 
 returns : tie.Need-returns
-returns c = (rw (c .before .before .wide .ensures .0, c .wide2 .ensures .0) (sym (pair-is (c .before .before .before .before .before .args .bytes .now) (c .before .before .before .before .before .args .at))), omega arith)
+returns c =
+    let start = c .before .before .before .before .before in
+    let wide = c .before .before .wide in
+    (rw (wide .ensures .0, c .wide2 .ensures .0) (sym (pair-is (start .args .bytes .now) (start .args .at))), omega arith)
 
 pub pair-at-spec : {M : Type 1} → statement M
 pair-at-spec =

@@ -10,16 +10,27 @@ put-number-requires : tie.Need-put-number-requires
 put-number-requires c κs = omega (arith, shown-length (c .before .before .args .n))
 
 slice-write-out : tie.Need-slice-write-out
-slice-write-out c = omega (arith, shown-length (c .before .before .before .before .before .args .n), c .before .before .put-number .ensures .place, c .before .before .put-number .kept .0)
+slice-write-out c =
+    let start = c .before .before .before .before .before in
+    let put-number = c .before .before .put-number in
+    omega (arith, shown-length (start .args .n), put-number .ensures .place, put-number .kept .0)
 
 add-result : tie.Need-add-result
-add-result c = omega (arith, shown-length (c .before .before .before .before .before .args .n), c .before .before .put-number .ensures .place, c .before .before .put-number .kept .0)
+add-result c =
+    let start = c .before .before .before .before .before in
+    let put-number = c .before .before .put-number in
+    omega (arith, shown-length (start .args .n), put-number .ensures .place, put-number .kept .0)
 
 same-length : tie.Need-same-length
 same-length c = search needs
 
 returns : tie.Need-returns
-returns c = (wrote-then (c .before .before .put-number .ensures) (wrote-byte (c .before .before .put-number .last .0) (c .before .before .put-number .result) (c .before .before .before .before .before .args .after)), omega (arith, shown-length (c .before .before .before .before .before .args .n), c .before .before .put-number .ensures .place))
+returns c =
+    let start = c .before .before .before .before .before in
+    let put-number = c .before .before .put-number in (
+      wrote-then (put-number .ensures) (wrote-byte (put-number .last .0) (put-number .result) (start .args .after)),
+      omega (arith, shown-length (start .args .n), put-number .ensures .place),
+    )
 
 pub put-field-spec : {M : Type 1} → statement M
 put-field-spec =

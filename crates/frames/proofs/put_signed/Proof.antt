@@ -29,10 +29,23 @@ put-field-requires : tie.Need-put-field-requires
 put-field-requires c κs = simp length-set (omega arith)
 
 same-length : tie.Need-same-length
-same-length c = c .before .before .put-field .kept .0 ∙ length-set (c .before .before .before .before .before .before .before .args .out .now) (c .before .before .before .before .before .before .before .args .at) 45
+same-length c =
+    let start = c .before .before .before .before .before .before .before in
+    let put-field = c .before .before .put-field in
+    put-field .kept .0 ∙ length-set (start .args .out .now) (start .args .at) 45
 
 returns : tie.Need-returns
-returns c = let z = c .before .before .before .before .before .before .before .args .z in let m : c .before .before .before .before .before .lifted .result ≡ lift (c .before .before .before .before .before .before .before .args .z) = c .before .before .before .before .before .lifted .ensures .0 ∙ ap lift (toZ-ofZ (c .before .before .before .before .before .before .before .fits .z)) in (wrote-as (ap (λ (t : List ℕ). t ++ c .before .before .before .before .before .before .before .args .after ∷ []) (ap (λ (n : ℕ). 45 ∷ natShown (2147483648 - n)) m ∙ sym (shown-below z (c .before .before .before .before .before .before .before .fits .z .sfits) (omega arith)))) (wrote-then (wrote-byte (c .before .before .before .before .before .before .before .args .out .now) (c .before .before .before .before .before .before .before .args .at) 45) (c .before .before .put-field .ensures .0)), omega arith)
+returns c =
+    let start = c .before .before .before .before .before .before .before in
+    let lifted = c .before .before .before .before .before .lifted in
+    let put-field = c .before .before .put-field in
+    let z = start .args .z in
+    let m : lifted .result ≡ lift (start .args .z) = lifted .ensures .0 ∙ ap lift (toZ-ofZ (start .fits .z)) in (
+      wrote-as (ap (λ (t : List ℕ). t ++ start .args .after ∷ [])
+          (ap (λ (n : ℕ). 45 ∷ natShown (2147483648 - n)) m ∙ sym (shown-below z (start .fits .z .sfits) (omega arith))))
+          (wrote-then (wrote-byte (start .args .out .now) (start .args .at) 45) (put-field .ensures .0)),
+      omega arith,
+    )
 
 put-field-requires-2 : tie.Need-put-field-requires-2
 put-field-requires-2 c κs = search needs
@@ -41,7 +54,16 @@ same-length-2 : tie.Need-same-length-2
 same-length-2 c = search needs
 
 returns-2 : tie.Need-returns-2
-returns-2 c = let z = c .before .before .before .before .before .before .before .args .z in let m : c .before .before .before .before .before .lifted .result ≡ lift (c .before .before .before .before .before .before .before .args .z) = c .before .before .before .before .before .lifted .ensures .0 ∙ ap lift (toZ-ofZ (c .before .before .before .before .before .before .before .fits .z)) in (wrote-as (ap (λ (t : List ℕ). t ++ c .before .before .before .before .before .before .before .args .after ∷ []) (ap (λ (n : ℕ). natShown (n - 2147483648)) m ∙ sym (shown-above z (c .before .before .before .before .before .before .before .fits .z .sfits) (omega arith)))) (c .before .before .put-field2 .ensures .0), omega arith)
+returns-2 c =
+    let start = c .before .before .before .before .before .before .before in
+    let lifted = c .before .before .before .before .before .lifted in
+    let put-field2 = c .before .before .put-field2 in
+    let z = start .args .z in
+    let m : lifted .result ≡ lift (start .args .z) = lifted .ensures .0 ∙ ap lift (toZ-ofZ (start .fits .z)) in (
+      wrote-as (ap (λ (t : List ℕ). t ++ start .args .after ∷ [])
+          (ap (λ (n : ℕ). natShown (n - 2147483648)) m ∙ sym (shown-above z (start .fits .z .sfits) (omega arith)))) (put-field2 .ensures .0),
+      omega arith,
+    )
 
 pub put-signed-spec : {M : Type 1} → statement M
 put-signed-spec =

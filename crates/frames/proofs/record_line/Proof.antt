@@ -24,37 +24,49 @@ put-signed-requires-4 c κs = search needs
 
 put-signed-requires-5 : tie.Need-put-signed-requires-5
 put-signed-requires-5 c κs =
-    let one = c .before .before .before .before .before .before .before .before .before .before .before .before .before .before .before .before .before .before .before .put-signed in
-    let two = c .before .before .before .before .before .before .before .before .before .before .before .before .before .before .put-signed2 in
-    let three = c .before .before .before .before .before .before .before .before .before .put-signed3 in
-    let four = c .before .before .before .before .put-signed4 in
-    let room =
-    c .before .before .before .before .before .before .before .before .before .before .before .before .before .before .before .before .before .before .before .before .before .before .before .before .before .pre in
-    omega (arith, one .ensures .1, two .ensures .1, three .ensures .1, four .ensures .1, one .kept .0, two .kept .0, three .kept .0, four .kept .0)
+    let at-put-signed3 = c .before .before .before .before .before .before .before .before .before in
+    let put-signed = at-put-signed3 .before .before .before .before .before .before .before .before .before .before .put-signed in
+    let put-signed2 = at-put-signed3 .before .before .before .before .before .put-signed2 in
+    let put-signed3 = at-put-signed3 .put-signed3 in
+    let put-signed4 = c .before .before .before .before .put-signed4 in
+    omega (
+      arith,
+      put-signed .ensures .1,
+      put-signed2 .ensures .1,
+      put-signed3 .ensures .1,
+      put-signed4 .ensures .1,
+      put-signed .kept .0,
+      put-signed2 .kept .0,
+      put-signed3 .kept .0,
+      put-signed4 .kept .0,
+    )
 
 same-length : tie.Need-same-length
 same-length c = search needs
 
 returns : tie.Need-returns
 returns c =
-    let r =
-    c .before .before .before .before .before .before .before .before .before .before .before .before .before .before .before .before .before .before .before .before .before .before .before .before .before .before .before .before .args .listed in
-    let g = c .before .before .before .before .before .before .before .before .before .before .before .before .before .before .before .before .before .before .struct-told2 .given in
-    let n =
-    word-kept {z = r .number .0}
-    (c .before .before .before .before .before .before .before .before .before .before .before .before .before .before .before .before .before .before .before .before .before .before .before .struct-told .given .0 .1) in
+    let at-put-signed2 = c .before .before .before .before .before .before .before .before .before .before .before .before .before .before .before .before .before in
+    let start = at-put-signed2 .before .before .before .before .before .before .before .before .before .before .before in
+    let struct-told = at-put-signed2 .before .before .before .before .before .before .struct-told in
+    let put-signed = at-put-signed2 .before .before .before .before .before .put-signed in
+    let struct-told2 = at-put-signed2 .before .struct-told2 in
+    let put-signed2 = at-put-signed2 .put-signed2 in
+    let r = start .args .listed in
+    let g = struct-told2 .given in
+    let n = word-kept {z = r .number .0} (struct-told .given .0 .1) in
     let lowX = word-kept {z = r .rect .lowX} (g .0 .1) in
     let lowY = word-kept {z = r .rect .lowY} (g .1 .0 .1) in
     let highX = word-kept {z = r .rect .highX} (g .1 .1 .0 .1) in
     let highY = word-kept {z = r .rect .highY} (g .1 .1 .1 .0 .1) in
-    let one = c .before .before .before .before .before .before .before .before .before .before .before .before .before .before .before .before .before .before .before .before .before .before .put-signed .ensures in
-    let two = c .before .before .before .before .before .before .before .before .before .before .before .before .before .before .before .before .before .put-signed2 .ensures in
+    let one = put-signed .ensures in
+    let two = put-signed2 .ensures in
     let three = c .before .before .before .before .before .before .before .before .before .before .before .before .put-signed3 .ensures in
     let four = c .before .before .before .before .before .before .before .put-signed4 .ensures in
     let last = c .before .before .put-signed5 .ensures in (
-      wrote-as
-          (line-of-five _ _ _ _ _ ∙ (λ i. line (intShown (n i) ∷ intShown (lowX i) ∷ intShown (lowY i) ∷ intShown (highX i) ∷ intShown (highY i) ∷ [])) ∙ record-line r)
-          (wrote-then (wrote-then (wrote-then (wrote-then (one .0) (two .0)) (three .0)) (four .0)) (last .0)),
+      wrote-as (line-of-five _ _ _ _ _
+          ∙ (λ i. line (intShown (n i) ∷ intShown (lowX i) ∷ intShown (lowY i) ∷ intShown (highX i) ∷ intShown (highY i) ∷ []))
+          ∙ record-line r) (wrote-then (wrote-then (wrote-then (wrote-then (one .0) (two .0)) (three .0)) (four .0)) (last .0)),
       omega (arith, one .1, two .1, three .1, four .1, last .1),
     )
 

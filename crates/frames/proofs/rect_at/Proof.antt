@@ -28,7 +28,14 @@ word-at-requires-4 : tie.Need-word-at-requires-4
 word-at-requires-4 c κs = search needs
 
 returns : tie.Need-returns
-returns c = rect-made (c .before .before .before .before .before .args .bytes .now) (c .before .before .before .before .before .args .at) (word-kept (c .before .before .before .word-at .ok) ∙ c .before .before .before .word-at .ensures) (word-kept (c .before .before .word-at2 .ok) ∙ c .before .before .word-at2 .ensures) (word-kept (c .before .word-at3 .ok) ∙ c .before .word-at3 .ensures) (word-kept (c .word-at4 .ok) ∙ c .word-at4 .ensures)
+returns c =
+    let start = c .before .before .before .before .before in
+    let word-at = c .before .before .before .word-at in
+    let word-at2 = c .before .before .word-at2 in
+    let word-at3 = c .before .word-at3 in
+    rect-made (start .args .bytes .now) (start .args .at) (word-kept (word-at .ok) ∙ word-at .ensures)
+    (word-kept (word-at2 .ok) ∙ word-at2 .ensures) (word-kept (word-at3 .ok) ∙ word-at3 .ensures)
+    (word-kept (c .word-at4 .ok) ∙ c .word-at4 .ensures)
 
 pub rect-at-spec : {M : Type 1} → statement M
 rect-at-spec =

@@ -1,9 +1,7 @@
 -- `reply_lines`: a turn writes the line of one record more.
 use mathlib.Core.Path.{_≡_, refl, sym, _∙_}
 use Prim.Native.Nat.{ℕ, suc, min, _+_, _*_, _-_, _≤_}
-use mathlib.Core.Path.{_≡_, refl, _∙_}
 use mathlib.Core.List.{List}
-use Prim.Native.Nat.{ℕ, _+_, _*_, _-_, _≤_}
 use native.Mathlib.Nat.{min-le-right}
 use lib.ListN.{length}
 use borrow.Author.Needs.{needs}
@@ -36,7 +34,17 @@ answer-line-requires : tie.Need-answer-line-requires Inv-loop μ-loop
 answer-line-requires c κs = search needs
 
 loop-holds : tie.Need-loop-holds Inv-loop μ-loop
-loop-holds c = record { most = omega arith; few = rw (c .before .before .before .before .listed-of .ensures) (min-le-right (listedOf (c .before .before .before .before .before .before .args .answer)) 64); places = search needs; size = refl; short = omega arith; lines = lines-none (c .before .before .before .before .before .before .args .t5) }
+loop-holds c =
+    let start = c .before .before .before .before .before .before in
+    let listed-of = c .before .before .before .before .listed-of in
+    record {
+      most = omega arith;
+      few = rw (listed-of .ensures) (min-le-right (listedOf (start .args .answer)) 64);
+      places = search needs;
+      size = refl;
+      short = omega arith;
+      lines = lines-none (start .args .t5);
+    }
 
 mul-record-line : tie.Need-mul-record-line Inv-loop μ-loop
 mul-record-line c = omega arith
@@ -54,13 +62,37 @@ loop-less : tie.Need-loop-less Inv-loop μ-loop
 loop-less c = omega arith
 
 loop-again : tie.Need-loop-again Inv-loop μ-loop
-loop-again c = let t = c .before .before .before .before .before .before .loop .inv in record { most = omega arith; few = t .few; places = t .places; size = c .before .before .record-line .kept .0 ∙ t .size; short = omega (arith, t .short, c .before .before .record-line .ensures .1); lines = lines-more (c .before .before .before .before .before .before .before .before .before .before .before .before .before .args .t5) (c .before .before .before .before .before .before .loop .i) _ (omega arith) (t .lines) (c .before .before .record-line .ensures .0) }
+loop-again c =
+    let at-loop = c .before .before .before .before .before .before in
+    let start = at-loop .before .before .before .before .before .before .before in
+    let loop = at-loop .loop in
+    let record-line = c .before .before .record-line in
+    let t = loop .inv in
+    record {
+      most = omega arith;
+      few = t .few;
+      places = t .places;
+      size = record-line .kept .0 ∙ t .size;
+      short = omega (arith, t .short, record-line .ensures .1);
+      lines = lines-more (start .args .t5) (loop .i) _ (omega arith) (t .lines) (record-line .ensures .0);
+    }
 
 same-length : tie.Need-same-length Inv-loop μ-loop
-same-length c = c .before .loop .inv .size ∙ c .before .before .before .before .answer-line .kept .0
+same-length c =
+    let answer-line = c .before .before .before .before .answer-line in
+    c .before .loop .inv .size ∙ answer-line .kept .0
 
 returns : tie.Need-returns Inv-loop μ-loop
-returns c = let t = c .before .loop .inv in let e : c .before .loop .i ≡ min (listedOf (c .before .before .before .before .before .before .before .before .args .answer)) 64 = omega arith in (lines-all (c .before .before .before .before .before .before .before .before .args .t5) (suc (c .before .before .before .before .before .before .before .before .args .before)) (c .before .before .before .before .before .before .before .before .args .answer) (t .places) (c .before .before .before .before .answer-line .ensures .0) (rw (sym e) (t .lines)), omega (arith, t .short, t .few, c .before .before .before .before .answer-line .ensures .1))
+returns c =
+    let start = c .before .before .before .before .before .before .before .before in
+    let answer-line = c .before .before .before .before .answer-line in
+    let loop = c .before .loop in
+    let t = loop .inv in
+    let e : loop .i ≡ min (listedOf (start .args .answer)) 64 = omega arith in (
+      lines-all (start .args .t5) (suc (start .args .before)) (start .args .answer) (t .places) (answer-line .ensures .0)
+          (rw (sym e) (t .lines)),
+      omega (arith, t .short, t .few, answer-line .ensures .1),
+    )
 
 pub reply-lines-spec : {M : Type 1} → statement M
 reply-lines-spec =

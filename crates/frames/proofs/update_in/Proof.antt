@@ -16,7 +16,10 @@ rect-at-requires-2 : tie.Need-rect-at-requires-2
 rect-at-requires-2 c κs = search needs
 
 returns : tie.Need-returns
-returns c = update-made (c .before .before .before .before .args .bytes .now) (word-kept (c .before .before .word-at .ok) ∙ c .before .before .word-at .ensures) (c .before .rect-at .ensures) (c .rect-at2 .ensures)
+returns c =
+    let start = c .before .before .before .before in
+    let word-at = c .before .before .word-at in
+    update-made (start .args .bytes .now) (word-kept (word-at .ok) ∙ word-at .ensures) (c .before .rect-at .ensures) (c .rect-at2 .ensures)
 
 pub update-in-spec : {M : Type 1} → statement M
 update-in-spec = tie.close (tie.spec word-at-requires rect-at-requires rect-at-requires-2 returns)

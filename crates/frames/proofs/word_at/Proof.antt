@@ -13,7 +13,12 @@ signed-requires : tie.Need-signed-requires
 signed-requires c κs = search needs
 
 returns : tie.Need-returns
-returns c = word-kept (c .signed .ok) ∙ c .signed .ensures ∙ ap signed (c .before .unsigned-at .ensures .0) ∙ sym (word-is (c .before .before .before .args .bytes .now) (c .before .before .before .args .at))
+returns c =
+    let start = c .before .before .before in
+    word-kept (c .signed .ok)
+    ∙ c .signed .ensures
+    ∙ ap signed (c .before .unsigned-at .ensures .0)
+    ∙ sym (word-is (start .args .bytes .now) (start .args .at))
 
 pub word-at-spec : {M : Type 1} → statement M
 word-at-spec = tie.close (tie.spec unsigned-at-requires signed-requires returns)

@@ -1,4 +1,4 @@
--- `slots::less_slot` meets its contract.
+-- `free_slots::less_slot` meets its contract.
 use Rattle.free_slots.proofs.Known.{less-is}
 use borrow.Author.Needs.{needs}
 use Rattle.free_slots.proofs.less_slot.Statement.{statement}
@@ -6,15 +6,12 @@ use Rattle.free_slots.proofs.less_slot.Tie as tie
 use Rattle.free_slots.proofs.less_slot.Reads as reads
 use Rattle.free_slots.proofs.less_slot.Lts as lts
 
--- src/lib.rt:111:24
 sub-t3 : tie.Need-sub-t3
 sub-t3 c = search needs
 
--- src/lib.rt:111:56
 add-t4 : tie.Need-add-t4
 add-t4 c = search needs
 
--- src/lib.rt:106:1
 returns : tie.Need-returns
 returns c = less-is (c .before .before .args .free) (c .before .before .args .t)
 

@@ -1,4 +1,4 @@
--- `slots::lowest_free` meets its contract: the slots from 1 on are all.
+-- `free_slots::lowest_free` meets its contract: the slots from 1 on are all.
 use mathlib.Core.Path.{_∙_}
 use Rattle.rules.specs.Layout.{read}
 use Rattle.free_slots.proofs.Frees.{lowest-all}
@@ -9,11 +9,9 @@ use Rattle.free_slots.proofs.lowest_free.Reads as reads
 use Rattle.free_slots.proofs.lowest_free.Lts as lts
 use Rattle.free_slots.proofs.lowest_free_from.Reads as lowest-free-from-reads
 
--- src/lib.rt:53:5
 lowest-free-from-requires : tie.Need-lowest-free-from-requires
 lowest-free-from-requires c κs = search needs
 
--- src/lib.rt:49:1
 returns : tie.Need-returns
 returns c = c .lowest-free-from .ensures ∙ lowest-all (read (c .before .args .pool .now))
 

@@ -1,4 +1,4 @@
--- `slots::lowest_free_from` meets its contract: a free slot is the lowest of those from it on, and one in use gives way to the next.
+-- `free_slots::lowest_free_from` meets its contract: a free slot is the lowest of those from it on, and one in use gives way to the next.
 use borrow.Author.Needs.{needs}
 use mathlib.Core.Path.{_≡_, refl, sym, _∙_}
 use Prim.Native.Nat.{ℕ, _+_, _-_, _≤_}
@@ -28,45 +28,57 @@ Inv-loop pool n s₀ s = Turn (read pool) s₀ s
 abbrev μ-loop : tie.MeasureT-loop
 μ-loop pool n s₀ s = n + 1 - s
 
--- src/lib.rt:37:9
 slot-count-requires : tie.Need-slot-count-requires Inv-loop μ-loop
 slot-count-requires c κs = search needs
 
--- src/lib.rt:39:5
 loop-holds : tie.Need-loop-holds Inv-loop μ-loop
 loop-holds c = record { low = c .before .pre .1; rest = refl }
 
--- src/lib.rt:40:12
 level-of-requires : tie.Need-level-of-requires Inv-loop μ-loop
-level-of-requires c κs = record { right = c .before .before .before .pre .0; low = c .before .loop .inv .low; high = omega (arith, c .loop-test .taken, c .before .before .slot-count .ensures) }
+level-of-requires c κs =
+    let start = c .before .before .before in
+    let slot-count = c .before .before .slot-count in
+    record { right = start .pre .0; low = c .before .loop .inv .low; high = omega (arith, c .loop-test .taken, slot-count .ensures) }
 
--- src/lib.rt:41:13
 returns : tie.Need-returns Inv-loop μ-loop
-returns c = let w = c .before .before .before .before .before .args .pool .now in let l = c .before .before .before .loop in
-    let here : l .s ≤ length (read w .slots) = omega (arith, c .before .before .loop-test .taken, c .before .before .before .before .slot-count .ensures, read-slots w) in
-    sym (lowest-here (read w) (l .s) (l .inv .low) here (eq-eqb _ 0 (sym (c .before .level-of .ensures) ∙ c .if1 .taken))) ∙ l .inv .rest
+returns c =
+    let slot-count = c .before .before .before .before .slot-count in
+    let loop = c .before .before .before .loop in
+    let loop-test = c .before .before .loop-test in
+    let w = c .before .before .before .before .before .args .pool .now in
+    let here : loop .s ≤ length (read w .slots) = omega (arith, loop-test .taken, slot-count .ensures, read-slots w) in
+    sym (lowest-here (read w) (loop .s) (loop .inv .low) here (eq-eqb _ 0 (sym (c .before .level-of .ensures) ∙ c .if1 .taken)))
+    ∙ loop .inv .rest
 
--- src/lib.rt:43:9
 add-s : tie.Need-add-s Inv-loop μ-loop
-add-s c = omega (arith, c .before .before .loop-test .taken, c .before .before .before .before .slot-count .ensures, few-slots (c .before .before .before .before .before .args .pool .now) (c .before .before .before .before .before .pre .0))
+add-s c =
+    let start = c .before .before .before .before .before in
+    let slot-count = c .before .before .before .before .slot-count in
+    let loop-test = c .before .before .loop-test in
+    omega (arith, loop-test .taken, slot-count .ensures, few-slots (start .args .pool .now) (start .pre .0))
 
--- src/lib.rt:39:5
 loop-less : tie.Need-loop-less Inv-loop μ-loop
 loop-less c = search needs
 
--- src/lib.rt:39:5
 loop-again : tie.Need-loop-again Inv-loop μ-loop
-loop-again c = let w = c .before .before .before .before .before .args .pool .now in let l = c .before .before .before .loop in
-    let here : l .s ≤ length (read w .slots) = omega (arith, c .before .before .loop-test .taken, c .before .before .before .before .slot-count .ensures, read-slots w) in
+loop-again c =
+    let slot-count = c .before .before .before .before .slot-count in
+    let loop = c .before .before .before .loop in
+    let loop-test = c .before .before .loop-test in
+    let w = c .before .before .before .before .before .args .pool .now in
+    let here : loop .s ≤ length (read w .slots) = omega (arith, loop-test .taken, slot-count .ensures, read-slots w) in
     record {
       low = omega arith;
-      rest = sym (lowest-next (read w) (l .s) (l .inv .low) here (ne-eqb _ 0 (λ e. c .if1 .left (c .before .level-of .ensures ∙ e)))) ∙ l .inv .rest;
+      rest = sym (lowest-next (read w) (loop .s) (loop .inv .low) here (ne-eqb _ 0 (λ e. c .if1 .left (c .before .level-of .ensures ∙ e))))
+          ∙ loop .inv .rest;
     }
 
--- src/lib.rt:32:1
 returns-2 : tie.Need-returns-2 Inv-loop μ-loop
-returns-2 c = let w = c .before .before .before .args .pool .now in
-    sym (lowest-end (read w) (c .before .loop .s) (omega (arith, c .loop-test .left, c .before .before .slot-count .ensures, read-slots w))) ∙ c .before .loop .inv .rest
+returns-2 c =
+    let slot-count = c .before .before .slot-count in
+    let loop = c .before .loop in
+    let w = c .before .before .before .args .pool .now in
+    sym (lowest-end (read w) (loop .s) (omega (arith, c .loop-test .left, slot-count .ensures, read-slots w))) ∙ loop .inv .rest
 
 pub lowest-free-from-spec : {M : Type 1} → statement M
 lowest-free-from-spec =

@@ -1,4 +1,4 @@
--- `slots::one_if_free` meets its contract: the test on the level is the one of `freeCount`.
+-- `free_slots::one_if_free` meets its contract: the test on the level is the one of `freeCount`.
 use mathlib.Core.Path.{sym, ap}
 use mathlib.Core.Bool.{Bool, cond}
 use borrow.Author.Tests.{eq-eqb, ne-eqb}
@@ -9,15 +9,12 @@ use Rattle.free_slots.proofs.one_if_free.Reads as reads
 use Rattle.free_slots.proofs.one_if_free.Lts as lts
 use Rattle.pool.proofs.level_of.Reads as level-of-reads
 
--- src/lib.rt:61:8
 level-of-requires : tie.Need-level-of-requires
 level-of-requires c κs = search needs
 
--- src/lib.rt:57:1
 returns : tie.Need-returns
 returns c = rw (← (c .before .level-of .ensures)) (ap (λ (b : Bool). cond b 1 0) (sym (eq-eqb _ 0 (c .if1 .taken))))
 
--- src/lib.rt:57:1
 returns-2 : tie.Need-returns-2
 returns-2 c = rw (← (c .before .level-of .ensures)) (ap (λ (b : Bool). cond b 1 0) (sym (ne-eqb _ 0 (c .if1 .left))))
 

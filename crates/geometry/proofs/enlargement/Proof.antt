@@ -12,26 +12,48 @@ use Rattle.geometry.proofs.enlargement.Lts as lts
 use Rattle.geometry.proofs.area.Reads as area-reads
 use Rattle.geometry.proofs.cover.Reads as cover-reads
 
--- src/lib.rt:116:10
 cover-requires : tie.Need-cover-requires
 cover-requires c κs = search needs
 
--- src/lib.rt:116:5
 area-requires : tie.Need-area-requires
-area-requires c κs = let a = c .before .args .a in let b = c .before .args .b in let v = c .before .pre .0 in let w = c .before .pre .1 in rw (c .cover .ensures) (cover-valid a b v w)
+area-requires c κs =
+    let start = c .before in
+    let a = start .args .a in
+    let b = start .args .b in
+    let v = start .pre .0 in
+    let w = start .pre .1 in
+    rw (c .cover .ensures) (cover-valid a b v w)
 
--- src/lib.rt:116:25
 area-requires-2 : tie.Need-area-requires-2
 area-requires-2 c κs = search needs
 
--- src/lib.rt:116:5
 sub-result : tie.Need-sub-result
-sub-result c = let a = c .before .before .before .args .a in let b = c .before .before .before .args .b in let v = c .before .before .before .pre .0 in let w = c .before .before .before .pre .1 in area-grows a b (c .area2 .result) (c .before .area .result) v w (c .area2 .ensures .0) (rw (c .before .before .cover .ensures) at (c .before .area .ensures .0))
+sub-result c =
+    let start = c .before .before .before in
+    let cover = c .before .before .cover in
+    let area = c .before .area in
+    let a = start .args .a in
+    let b = start .args .b in
+    let v = start .pre .0 in
+    let w = start .pre .1 in
+    area-grows a b (c .area2 .result) (area .result) v w (c .area2 .ensures .0) (rw (cover .ensures) at (area .ensures .0))
 
--- src/lib.rt:110:1
 returns : tie.Need-returns
 unfolding enlargement
-returns c = let a = c .before .before .before .args .a in let b = c .before .before .before .args .b in let v = c .before .before .before .pre .0 in let w = c .before .before .before .pre .1 in let g = area-grows a b (c .area2 .result) (c .before .area .result) v w (c .area2 .ensures .0) (rw (c .before .before .cover .ensures) at (c .before .area .ensures .0)) in (sym (sub-pos (c .before .area .result) (c .area2 .result) g) ∙ sym (pos-minus (c .before .area .result) (c .area2 .result)) ∙ ap₂ _-ℤ_ (rw (c .before .before .cover .ensures) at (c .before .area .ensures .0)) (c .area2 .ensures .0), omega (arith, c .before .area .ensures .1))
+returns c =
+    let start = c .before .before .before in
+    let cover = c .before .before .cover in
+    let area = c .before .area in
+    let a = start .args .a in
+    let b = start .args .b in
+    let v = start .pre .0 in
+    let w = start .pre .1 in
+    let g = area-grows a b (c .area2 .result) (area .result) v w (c .area2 .ensures .0) (rw (cover .ensures) at (area .ensures .0)) in (
+      sym (sub-pos (area .result) (c .area2 .result) g)
+          ∙ sym (pos-minus (area .result) (c .area2 .result))
+          ∙ ap₂ _-ℤ_ (rw (cover .ensures) at (area .ensures .0)) (c .area2 .ensures .0),
+      omega (arith, area .ensures .1),
+    )
 
 pub enlargement-spec : {M : Type 1} → statement M
 enlargement-spec =

@@ -8,19 +8,15 @@ use Rattle.geometry.proofs.in_range.Lts as lts
 use Rattle.geometry.proofs.and.Reads as and-reads
 use Rattle.geometry.proofs.le.Reads as le-reads
 
--- src/lib.rt:34:9
 le-requires : tie.Need-le-requires
 le-requires c κs = search needs
 
--- src/lib.rt:34:29
 le-requires-2 : tie.Need-le-requires-2
 le-requires-2 c κs = search needs
 
--- src/lib.rt:34:5
 and-requires : tie.Need-and-requires
 and-requires c κs = search needs
 
--- src/lib.rt:31:1
 returns : tie.Need-returns
 unfolding inRange
 returns c = let s = c .before .before .before in cc (toZ-ofZ (s .fits .x))

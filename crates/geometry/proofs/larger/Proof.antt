@@ -8,16 +8,13 @@ use Rattle.geometry.proofs.larger.Reads as reads
 use Rattle.geometry.proofs.larger.Lts as lts
 use Rattle.geometry.proofs.le.Reads as le-reads
 
--- src/lib.rt:70:8
 le-requires : tie.Need-le-requires
 le-requires c κs = search needs
 
--- src/lib.rt:67:1
 returns : tie.Need-returns
 unfolding larger
 returns c = let f = c .before .before .fits in rw (toZ-ofZ (f .b), by-test (f .a) (f .b) (c .before .le .ensures) (c .if1 .taken))
 
--- src/lib.rt:67:1
 returns-2 : tie.Need-returns-2
 unfolding larger
 returns-2 c = let f = c .before .before .fits in rw (toZ-ofZ (f .a), by-test (f .a) (f .b) (c .before .le .ensures) (c .if1 .left))

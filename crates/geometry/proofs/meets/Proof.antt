@@ -32,9 +32,11 @@ and-requires-3 c κs = search needs
 returns : tie.Need-returns
 unfolding meets
 returns c =
-    let s = c .before .before .before .before .before .before .before .before .before .before .before .before .before .before .before in
-    let a = rect-back (s .args .a) (c .before .before .before .before .before .before .before .before .before .before .before .before .before .before .struct-told .given) in
-    let b = rect-back (s .args .b) (c .before .before .before .before .before .before .before .before .before .before .before .before .before .struct-told2 .given) in
+    let args = c .before .before .before .before .before .before .before .before .before .before .before .before .before .before .before .args in
+    let struct-told = c .before .before .before .before .before .before .before .before .before .before .before .before .before .before .struct-told in
+    let struct-told2 = c .before .before .before .before .before .before .before .before .before .before .before .before .before .struct-told2 in
+    let a = rect-back (args .a) (struct-told .given) in
+    let b = rect-back (args .b) (struct-told2 .given) in
     cc (a .lowX, a .lowY, a .highX, a .highY, b .lowX, b .lowY, b .highX, b .highY)
 
 pub meets-spec : {M : Type 1} → statement M

@@ -8,19 +8,15 @@ use Rattle.geometry.proofs.same.Lts as lts
 use Rattle.geometry.proofs.and.Reads as and-reads
 use Rattle.geometry.proofs.le.Reads as le-reads
 
--- src/lib.rt:28:9
 le-requires : tie.Need-le-requires
 le-requires c κs = search needs
 
--- src/lib.rt:28:19
 le-requires-2 : tie.Need-le-requires-2
 le-requires-2 c κs = search needs
 
--- src/lib.rt:28:5
 and-requires : tie.Need-and-requires
 and-requires c κs = search needs
 
--- src/lib.rt:25:1
 returns : tie.Need-returns
 unfolding same
 returns c = let s = c .before .before .before in cc (toZ-ofZ (s .fits .a), toZ-ofZ (s .fits .b))

@@ -8,25 +8,36 @@ use Rattle.geometry.proofs.span.Tie as tie
 use Rattle.geometry.proofs.span.Reads as reads
 use Rattle.geometry.proofs.span.Lts as lts
 
--- src/lib.rt:97:6
 cast-result : tie.Need-cast-result
 cast-result c = rw (toZ-ofZ (c .fits .high)) (sfits-widen {w = w32} tt (c .fits .high))
 
--- src/lib.rt:97:20
 cast-result-2 : tie.Need-cast-result-2
 cast-result-2 c = rw (toZ-ofZ (c .fits .low)) (sfits-widen {w = w32} tt (c .fits .low))
 
--- src/lib.rt:97:6
 sub-result : tie.Need-sub-result
-sub-result c = rw (read-wide (c .args .high) (c .pre .1 .0), read-wide (c .args .low) (c .pre .0)) (span-fits (c .args .low) (c .args .high) (c .pre .0) (c .pre .1 .0) (c .pre .1 .1))
+sub-result c =
+    rw (read-wide (c .args .high) (c .pre .1 .0), read-wide (c .args .low) (c .pre .0))
+    (span-fits (c .args .low) (c .args .high) (c .pre .0) (c .pre .1 .0) (c .pre .1 .1))
 
--- src/lib.rt:97:5
 cast-result-3 : tie.Need-cast-result-3
-cast-result-3 c = rw (read-wide (c .args .high) (c .pre .1 .0), read-wide (c .args .low) (c .pre .0), toZ-ofZ (span-fits (c .args .low) (c .args .high) (c .pre .0) (c .pre .1 .0) (c .pre .1 .1)), sub-off (c .args .high) (c .args .low) (c .pre .1 .0) (c .pre .0) (off-order (c .args .low) (c .args .high) (c .pre .0) (c .pre .1 .0) (c .pre .1 .1))) (tt, record { fits = omega (arith, off-le (c .args .high) (c .pre .1 .0)) })
+cast-result-3 c =
+    rw (
+      read-wide (c .args .high) (c .pre .1 .0),
+      read-wide (c .args .low) (c .pre .0),
+      toZ-ofZ (span-fits (c .args .low) (c .args .high) (c .pre .0) (c .pre .1 .0) (c .pre .1 .1)),
+      sub-off (c .args .high) (c .args .low) (c .pre .1 .0) (c .pre .0)
+          (off-order (c .args .low) (c .args .high) (c .pre .0) (c .pre .1 .0) (c .pre .1 .1)),
+    ) (tt, record { fits = omega (arith, off-le (c .args .high) (c .pre .1 .0)) })
 
--- src/lib.rt:90:1
 returns : tie.Need-returns
-returns c = rw (read-wide (c .args .high) (c .pre .1 .0), read-wide (c .args .low) (c .pre .0), toZ-ofZ (span-fits (c .args .low) (c .args .high) (c .pre .0) (c .pre .1 .0) (c .pre .1 .1)), sub-off (c .args .high) (c .args .low) (c .pre .1 .0) (c .pre .0) (off-order (c .args .low) (c .args .high) (c .pre .0) (c .pre .1 .0) (c .pre .1 .1))) (refl, omega (arith, off-le (c .args .high) (c .pre .1 .0)))
+returns c =
+    rw (
+      read-wide (c .args .high) (c .pre .1 .0),
+      read-wide (c .args .low) (c .pre .0),
+      toZ-ofZ (span-fits (c .args .low) (c .args .high) (c .pre .0) (c .pre .1 .0) (c .pre .1 .1)),
+      sub-off (c .args .high) (c .args .low) (c .pre .1 .0) (c .pre .0)
+          (off-order (c .args .low) (c .args .high) (c .pre .0) (c .pre .1 .0) (c .pre .1 .1)),
+    ) (refl, omega (arith, off-le (c .args .high) (c .pre .1 .0)))
 
 pub span-spec : {M : Type 1} → statement M
 span-spec = tie.close (tie.spec cast-result cast-result-2 sub-result cast-result-3 returns)

@@ -45,10 +45,9 @@ and-requires-5 c κs = search needs
 returns : tie.Need-returns
 unfolding valid
 returns c =
-    let a =
-    rect-back
-    (c .before .before .before .before .before .before .before .before .before .before .before .before .before .before .before .before .before .before .before .args .r)
-    (c .before .before .before .before .before .before .before .before .before .before .before .before .before .before .before .before .before .before .struct-told .given) in
+    let args = c .before .before .before .before .before .before .before .before .before .before .before .before .before .before .before .before .before .before .before .args in
+    let struct-told = c .before .before .before .before .before .before .before .before .before .before .before .before .before .before .before .before .before .before .struct-told in
+    let a = rect-back (args .r) (struct-told .given) in
     cc (a .lowX, a .lowY, a .highX, a .highY)
 
 pub valid-spec : {M : Type 1} → statement M

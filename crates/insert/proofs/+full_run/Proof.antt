@@ -1,4 +1,4 @@
--- `inserting::full_run` meets its contract: the run below goes on through the node where it has come to it. The levels to go down fall.
+-- `insert::full_run` meets its contract: the run below goes on through the node where it has come to it. The levels to go down fall.
 use mathlib.Core.Path.{sym, _∙_}
 use Prim.Native.Nat.{ℕ, _≤_, _<_}
 use native.Mathlib.Omega.{arith}
@@ -25,138 +25,8 @@ abbrev full-run-below : ℕ → In 1 full-run-kinds.ps
 full-run-below t =
     and 1 full-run-kinds.ps (falls 1 full-run-kinds.ps _<_ μ-full-run t) full-run.Pre
 
--- src/lib.rt:255:9
-full-run-one-if-full-requires : (t : ℕ) → full-run-lts.Need-one-if-full-requires (
-  one-if-full-reads.Asked,
-  one-if-full-reads.Learnt,
-  choose-child-reads.Asked,
-  choose-child-reads.Learnt,
-  child-of-reads.Asked,
-  child-of-reads.Learnt,
-  full-run-below t,
-  full-run.Post,
-) (full-run-at t) full-run.Post
-full-run-one-if-full-requires t c κs = let s = c .before in let w = s .args .pool .now in let r = s .pre .1 .0 in let h = s .pre .1 .1 in slot-in w (s .args .s) r (way-node h .slot)
-
--- src/lib.rt:255:9
-full-run-returns : (t : ℕ) → full-run-lts.Need-returns (
-  one-if-full-reads.Asked,
-  one-if-full-reads.Learnt,
-  choose-child-reads.Asked,
-  choose-child-reads.Learnt,
-  child-of-reads.Asked,
-  child-of-reads.Learnt,
-  full-run-below t,
-  full-run.Post,
-) (full-run-at t) full-run.Post
-full-run-returns t c = let s = c .before .before in let h = s .pre .1 .1 in (c .one-if-full .ensures .0 ∙ sym (run-here h (c .before .if1 .taken)), omega (arith, c .one-if-full .ensures .1))
-
--- src/lib.rt:258:9
-full-run-choose-child-requires : (t : ℕ) → full-run-lts.Need-choose-child-requires (
-  one-if-full-reads.Asked,
-  one-if-full-reads.Learnt,
-  choose-child-reads.Asked,
-  choose-child-reads.Learnt,
-  child-of-reads.Asked,
-  child-of-reads.Learnt,
-  full-run-below t,
-  full-run.Post,
-) (full-run-at t) full-run.Post
-full-run-choose-child-requires t c κs = let s = c .before .before in let w = s .args .pool .now in let r = s .pre .1 .0 in let h = s .pre .1 .1 in let more : 1 ≤ s .args .n = omega (arith, c .before .if1 .left) in (slot-in w (s .args .s) r (way-node h .slot), (way-choosable h more, way-valid h))
-
--- src/lib.rt:259:9
-full-run-child-of-requires : (t : ℕ) → full-run-lts.Need-child-of-requires (
-  one-if-full-reads.Asked,
-  one-if-full-reads.Learnt,
-  choose-child-reads.Asked,
-  choose-child-reads.Learnt,
-  child-of-reads.Asked,
-  child-of-reads.Learnt,
-  full-run-below t,
-  full-run.Post,
-) (full-run-at t) full-run.Post
-full-run-child-of-requires t c κs = let s = c .before .before .before in let w = s .args .pool .now in let r = s .pre .1 .0 in let h = s .pre .1 .1 in let more : 1 ≤ s .args .n = omega (arith, c .before .before .if1 .left) in (slot-in w (s .args .s) r (way-node h .slot), (c .choose-child .ensures .1, way-inner h more))
-
--- src/lib.rt:260:28
-full-run-sub-full-run : (t : ℕ) → full-run-lts.Need-sub-full-run (
-  one-if-full-reads.Asked,
-  one-if-full-reads.Learnt,
-  choose-child-reads.Asked,
-  choose-child-reads.Learnt,
-  child-of-reads.Asked,
-  child-of-reads.Learnt,
-  full-run-below t,
-  full-run.Post,
-) (full-run-at t) full-run.Post
-full-run-sub-full-run t c = omega (arith, c .before .before .before .if1 .left)
-
--- src/lib.rt:260:9
-full-run-full-run-requires : (t : ℕ) → full-run-lts.Need-full-run-requires (
-  one-if-full-reads.Asked,
-  one-if-full-reads.Learnt,
-  choose-child-reads.Asked,
-  choose-child-reads.Learnt,
-  child-of-reads.Asked,
-  child-of-reads.Learnt,
-  full-run-below t,
-  full-run.Post,
-) (full-run-at t) full-run.Post
-full-run-full-run-requires t c κs = let s = c .before .before .before .before in let r = s .pre .1 .0 in let h = s .pre .1 .1 in let more : 1 ≤ s .args .n = omega (arith, c .before .before .before .if1 .left) in (omega (arith, s .pre .0), (r, way-down h more (c .before .choose-child .result) (c .child-of .result) (c .before .choose-child .ensures .0) (c .child-of .ensures)))
-
--- src/lib.rt:262:9
-full-run-returns-2 : (t : ℕ) → full-run-lts.Need-returns-2 (
-  one-if-full-reads.Asked,
-  one-if-full-reads.Learnt,
-  choose-child-reads.Asked,
-  choose-child-reads.Learnt,
-  child-of-reads.Asked,
-  child-of-reads.Learnt,
-  full-run-below t,
-  full-run.Post,
-) (full-run-at t) full-run.Post
-full-run-returns-2 t c = let s = c .before .before .before .before .before .before in let h = s .pre .1 .1 in let more : 1 ≤ s .args .n = omega (arith, c .before .before .before .before .before .if1 .left) in (run-shorter h more (c .before .before .before .choose-child .result) (c .before .before .child-of .result) (c .before .before .before .choose-child .ensures .0) (c .before .before .child-of .ensures) (c .before .full-run .result) (c .before .full-run .ensures .0) (c .if2 .taken), omega (arith, c .if2 .taken))
-
--- src/lib.rt:264:9
-full-run-one-if-full-requires-2 : (t : ℕ) → full-run-lts.Need-one-if-full-requires-2 (
-  one-if-full-reads.Asked,
-  one-if-full-reads.Learnt,
-  choose-child-reads.Asked,
-  choose-child-reads.Learnt,
-  child-of-reads.Asked,
-  child-of-reads.Learnt,
-  full-run-below t,
-  full-run.Post,
-) (full-run-at t) full-run.Post
-full-run-one-if-full-requires-2 t c κs = let s = c .before .before .before .before .before .before in let w = s .args .pool .now in let r = s .pre .1 .0 in let h = s .pre .1 .1 in slot-in w (s .args .s) r (way-node h .slot)
-
--- src/lib.rt:264:5
-full-run-add-result : (t : ℕ) → full-run-lts.Need-add-result (
-  one-if-full-reads.Asked,
-  one-if-full-reads.Learnt,
-  choose-child-reads.Asked,
-  choose-child-reads.Learnt,
-  child-of-reads.Asked,
-  child-of-reads.Learnt,
-  full-run-below t,
-  full-run.Post,
-) (full-run-at t) full-run.Post
-full-run-add-result t c = let s = c .before .before .before .before .before .before .before in let h = s .pre .1 .1 in omega (arith, h .few, c .one-if-full2 .ensures .1)
-
--- src/lib.rt:248:1
-full-run-returns-3 : (t : ℕ) → full-run-lts.Need-returns-3 (
-  one-if-full-reads.Asked,
-  one-if-full-reads.Learnt,
-  choose-child-reads.Asked,
-  choose-child-reads.Learnt,
-  child-of-reads.Asked,
-  child-of-reads.Learnt,
-  full-run-below t,
-  full-run.Post,
-) (full-run-at t) full-run.Post
-full-run-returns-3 t c = let s = c .before .before .before .before .before .before .before in let h = s .pre .1 .1 in let more : 1 ≤ s .args .n = omega (arith, c .before .before .before .before .before .before .if1 .left) in (run-longer h more (c .before .before .before .before .choose-child .result) (c .before .before .before .child-of .result) (c .before .before .before .before .choose-child .ensures .0) (c .before .before .before .child-of .ensures) (c .before .before .full-run .result) (c .before .before .full-run .ensures .0) (omega (arith, c .before .if2 .left, c .before .before .full-run .ensures .1)) (c .one-if-full2 .result) (c .one-if-full2 .ensures .0), omega (arith, c .one-if-full2 .ensures .1))
-
-pub +full-run-spec : {M : Type 1} → statement M
-+full-run-spec = close μ-full-run λ t. full-run-lts.spec (
+abbrev full-run-calls : ℕ → full-run-lts.Claims
+full-run-calls t = (
   one-if-full-reads.Asked,
   one-if-full-reads.Learnt,
   choose-child-reads.Asked,
@@ -166,6 +36,98 @@ pub +full-run-spec : {M : Type 1} → statement M
   full-run-below t,
   full-run.Post,
 )
+
+full-run-one-if-full-requires : (t : ℕ) → full-run-lts.Need-one-if-full-requires (full-run-calls t) (full-run-at t) full-run.Post
+full-run-one-if-full-requires t c κs =
+    let start = c .before in
+    let w = start .args .pool .now in
+    let r = start .pre .1 .0 in
+    let h = start .pre .1 .1 in
+    slot-in w (start .args .s) r (way-node h .slot)
+
+full-run-returns : (t : ℕ) → full-run-lts.Need-returns (full-run-calls t) (full-run-at t) full-run.Post
+full-run-returns t c =
+    let h = c .before .before .pre .1 .1 in
+    (c .one-if-full .ensures .0 ∙ sym (run-here h (c .before .if1 .taken)), omega (arith, c .one-if-full .ensures .1))
+
+full-run-choose-child-requires : (t : ℕ) → full-run-lts.Need-choose-child-requires (full-run-calls t) (full-run-at t) full-run.Post
+full-run-choose-child-requires t c κs =
+    let start = c .before .before in
+    let w = start .args .pool .now in
+    let r = start .pre .1 .0 in
+    let h = start .pre .1 .1 in
+    let more : 1 ≤ start .args .n = omega (arith, c .before .if1 .left) in
+    (slot-in w (start .args .s) r (way-node h .slot), (way-choosable h more, way-valid h))
+
+full-run-child-of-requires : (t : ℕ) → full-run-lts.Need-child-of-requires (full-run-calls t) (full-run-at t) full-run.Post
+full-run-child-of-requires t c κs =
+    let start = c .before .before .before in
+    let if1 = c .before .before .if1 in
+    let w = start .args .pool .now in
+    let r = start .pre .1 .0 in
+    let h = start .pre .1 .1 in
+    let more : 1 ≤ start .args .n = omega (arith, if1 .left) in
+    (slot-in w (start .args .s) r (way-node h .slot), (c .choose-child .ensures .1, way-inner h more))
+
+full-run-sub-full-run : (t : ℕ) → full-run-lts.Need-sub-full-run (full-run-calls t) (full-run-at t) full-run.Post
+full-run-sub-full-run t c = omega (arith, c .before .before .before .if1 .left)
+
+full-run-full-run-requires : (t : ℕ) → full-run-lts.Need-full-run-requires (full-run-calls t) (full-run-at t) full-run.Post
+full-run-full-run-requires t c κs =
+    let start = c .before .before .before .before in
+    let if1 = c .before .before .before .if1 in
+    let choose-child = c .before .choose-child in
+    let r = start .pre .1 .0 in
+    let h = start .pre .1 .1 in
+    let more : 1 ≤ start .args .n = omega (arith, if1 .left) in (
+      omega (arith, start .pre .0),
+      (r, way-down h more (choose-child .result) (c .child-of .result) (choose-child .ensures .0) (c .child-of .ensures)),
+    )
+
+full-run-returns-2 : (t : ℕ) → full-run-lts.Need-returns-2 (full-run-calls t) (full-run-at t) full-run.Post
+full-run-returns-2 t c =
+    let start = c .before .before .before .before .before .before in
+    let if1 = c .before .before .before .before .before .if1 in
+    let choose-child = c .before .before .before .choose-child in
+    let child-of = c .before .before .child-of in
+    let full-run = c .before .full-run in
+    let h = start .pre .1 .1 in
+    let more : 1 ≤ start .args .n = omega (arith, if1 .left) in (
+      run-shorter h more (choose-child .result) (child-of .result) (choose-child .ensures .0) (child-of .ensures) (full-run .result)
+          (full-run .ensures .0) (c .if2 .taken),
+      omega (arith, c .if2 .taken),
+    )
+
+full-run-one-if-full-requires-2 : (t : ℕ) → full-run-lts.Need-one-if-full-requires-2 (full-run-calls t) (full-run-at t) full-run.Post
+full-run-one-if-full-requires-2 t c κs =
+    let start = c .before .before .before .before .before .before in
+    let w = start .args .pool .now in
+    let r = start .pre .1 .0 in
+    let h = start .pre .1 .1 in
+    slot-in w (start .args .s) r (way-node h .slot)
+
+full-run-add-result : (t : ℕ) → full-run-lts.Need-add-result (full-run-calls t) (full-run-at t) full-run.Post
+full-run-add-result t c =
+    let h = c .before .before .before .before .before .before .before .pre .1 .1 in
+    omega (arith, h .few, c .one-if-full2 .ensures .1)
+
+full-run-returns-3 : (t : ℕ) → full-run-lts.Need-returns-3 (full-run-calls t) (full-run-at t) full-run.Post
+full-run-returns-3 t c =
+    let start = c .before .before .before .before .before .before .before in
+    let if1 = c .before .before .before .before .before .before .if1 in
+    let choose-child = c .before .before .before .before .choose-child in
+    let child-of = c .before .before .before .child-of in
+    let full-run = c .before .before .full-run in
+    let h = start .pre .1 .1 in
+    let more : 1 ≤ start .args .n = omega (arith, if1 .left) in (
+      run-longer h more (choose-child .result) (child-of .result) (choose-child .ensures .0) (child-of .ensures) (full-run .result)
+          (full-run .ensures .0) (omega (arith, c .before .if2 .left, full-run .ensures .1)) (c .one-if-full2 .result)
+          (c .one-if-full2 .ensures .0),
+      omega (arith, c .one-if-full2 .ensures .1),
+    )
+
+pub +full-run-spec : {M : Type 1} → statement M
++full-run-spec = close μ-full-run λ t. full-run-lts.spec (full-run-calls t)
     (full-run-at t)
     full-run.Post
     (full-run-one-if-full-requires t)

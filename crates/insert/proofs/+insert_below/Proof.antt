@@ -1,5 +1,5 @@
--- `inserting::insert_below` meets its contract: at the end of the way the entry comes to the node; above that it goes below the
--- chosen child, and the way back is `adjust`. The levels to go down fall.
+-- `insert::insert_below` meets its contract: at the end of the way the entry comes to the node; above that it goes below the chosen child,
+-- and the way back is `adjust`. The levels to go down fall.
 use mathlib.Core.Path.{subst⁻¹, _∙_}
 use Prim.Native.Nat.{ℕ, _≤_, _<_}
 use native.Mathlib.Omega.{arith}
@@ -34,158 +34,8 @@ insert-below-below t =
     (falls 1 insert-below-kinds.ps _<_ μ-insert-below t)
     insert-below.Pre
 
--- src/lib.rt:192:9
-insert-below-install-requires : (t : ℕ) → insert-below-lts.Need-install-requires (
-  install-reads.Asked,
-  install-reads.Learnt,
-  choose-child-reads.Asked,
-  choose-child-reads.Learnt,
-  child-of-reads.Asked,
-  child-of-reads.Learnt,
-  insert-below-below t,
-  insert-below.Post,
-  adjust-reads.Asked,
-  adjust-reads.Learnt,
-) (insert-below-at t) insert-below.Post
-insert-below-install-requires t c κs = let s = c .before .before in let r = s .pre .1 .0 in let h = s .pre .1 .1 in (r, way-end h (c .before .if1 .taken))
-
--- src/lib.rt:192:9
-insert-below-same-length : (t : ℕ) → insert-below-lts.Need-same-length (
-  install-reads.Asked,
-  install-reads.Learnt,
-  choose-child-reads.Asked,
-  choose-child-reads.Learnt,
-  child-of-reads.Asked,
-  child-of-reads.Learnt,
-  insert-below-below t,
-  insert-below.Post,
-  adjust-reads.Asked,
-  adjust-reads.Learnt,
-) (insert-below-at t) insert-below.Post
-insert-below-same-length t c = c .before .install .kept .0
-
--- src/lib.rt:192:9
-insert-below-returns : (t : ℕ) → insert-below-lts.Need-returns (
-  install-reads.Asked,
-  install-reads.Learnt,
-  choose-child-reads.Asked,
-  choose-child-reads.Learnt,
-  child-of-reads.Asked,
-  child-of-reads.Learnt,
-  insert-below-below t,
-  insert-below.Post,
-  adjust-reads.Asked,
-  adjust-reads.Learnt,
-) (insert-below-at t) insert-below.Post
-insert-below-returns t c = let s = c .before .before .before .before in let h = s .pre .1 .1 in subst⁻¹ (λ (o : I.Grown). GrewTo o (c .before .install .result) (c .before .install .last .0)) (way-ends h (c .before .before .before .if1 .taken)) (c .before .install .ensures)
-
--- src/lib.rt:195:9
-insert-below-choose-child-requires : (t : ℕ) → insert-below-lts.Need-choose-child-requires (
-  install-reads.Asked,
-  install-reads.Learnt,
-  choose-child-reads.Asked,
-  choose-child-reads.Learnt,
-  child-of-reads.Asked,
-  child-of-reads.Learnt,
-  insert-below-below t,
-  insert-below.Post,
-  adjust-reads.Asked,
-  adjust-reads.Learnt,
-) (insert-below-at t) insert-below.Post
-insert-below-choose-child-requires t c κs = let s = c .before .before .before in let w = s .args .pool .now in let r = s .pre .1 .0 in let h = s .pre .1 .1 in let more : 1 ≤ s .args .n = omega (arith, c .before .before .if1 .left) in (slot-in w (s .args .s) (r .fit .right) (way-node h .slot), (way-choosable h more, way-valid h))
-
--- src/lib.rt:196:9
-insert-below-child-of-requires : (t : ℕ) → insert-below-lts.Need-child-of-requires (
-  install-reads.Asked,
-  install-reads.Learnt,
-  choose-child-reads.Asked,
-  choose-child-reads.Learnt,
-  child-of-reads.Asked,
-  child-of-reads.Learnt,
-  insert-below-below t,
-  insert-below.Post,
-  adjust-reads.Asked,
-  adjust-reads.Learnt,
-) (insert-below-at t) insert-below.Post
-insert-below-child-of-requires t c κs = let s = c .before .before .before .before .before in let w = s .args .pool .now in let r = s .pre .1 .0 in let h = s .pre .1 .1 in let more : 1 ≤ s .args .n = omega (arith, c .before .before .before .before .if1 .left) in (slot-in w (s .args .s) (r .fit .right) (way-node h .slot), (c .before .choose-child .ensures .1, way-inner h more))
-
--- src/lib.rt:197:36
-insert-below-sub-insert-below : (t : ℕ) → insert-below-lts.Need-sub-insert-below (
-  install-reads.Asked,
-  install-reads.Learnt,
-  choose-child-reads.Asked,
-  choose-child-reads.Learnt,
-  child-of-reads.Asked,
-  child-of-reads.Learnt,
-  insert-below-below t,
-  insert-below.Post,
-  adjust-reads.Asked,
-  adjust-reads.Learnt,
-) (insert-below-at t) insert-below.Post
-insert-below-sub-insert-below t c = omega (arith, c .before .before .before .before .before .before .if1 .left)
-
--- src/lib.rt:197:9
-insert-below-insert-below-requires : (t : ℕ) → insert-below-lts.Need-insert-below-requires (
-  install-reads.Asked,
-  install-reads.Learnt,
-  choose-child-reads.Asked,
-  choose-child-reads.Learnt,
-  child-of-reads.Asked,
-  child-of-reads.Learnt,
-  insert-below-below t,
-  insert-below.Post,
-  adjust-reads.Asked,
-  adjust-reads.Learnt,
-) (insert-below-at t) insert-below.Post
-insert-below-insert-below-requires t c κs = let s = c .before .before .before .before .before .before .before in let r = s .pre .1 .0 in let h = s .pre .1 .1 in let more : 1 ≤ s .args .n = omega (arith, c .before .before .before .before .before .before .if1 .left) in (omega (arith, s .pre .0), (r, way-down h more (c .before .before .before .choose-child .result) (c .before .child-of .result) (c .before .before .before .choose-child .ensures .0) (c .before .child-of .ensures)))
-
--- src/lib.rt:198:5
-insert-below-adjust-requires : (t : ℕ) → insert-below-lts.Need-adjust-requires (
-  install-reads.Asked,
-  install-reads.Learnt,
-  choose-child-reads.Asked,
-  choose-child-reads.Learnt,
-  child-of-reads.Asked,
-  child-of-reads.Learnt,
-  insert-below-below t,
-  insert-below.Post,
-  adjust-reads.Asked,
-  adjust-reads.Learnt,
-) (insert-below-at t) insert-below.Post
-insert-below-adjust-requires t c κs = let s = c .before .before .before .before .before .before .before .before .before .before in let h = s .pre .1 .1 in let more : 1 ≤ s .args .n = omega (arith, c .before .before .before .before .before .before .before .before .before .if1 .left) in way-back h more (c .before .before .before .before .before .before .choose-child .result) (c .before .before .before .before .child-of .result) (c .before .before .before .before .before .before .choose-child .ensures .0) (c .before .before .before .before .child-of .ensures) (c .before .before .insert-below .result) (c .before .before .insert-below .last .0) (c .before .before .insert-below .ensures)
-
--- src/lib.rt:186:1
-insert-below-same-length-2 : (t : ℕ) → insert-below-lts.Need-same-length-2 (
-  install-reads.Asked,
-  install-reads.Learnt,
-  choose-child-reads.Asked,
-  choose-child-reads.Learnt,
-  child-of-reads.Asked,
-  child-of-reads.Learnt,
-  insert-below-below t,
-  insert-below.Post,
-  adjust-reads.Asked,
-  adjust-reads.Learnt,
-) (insert-below-at t) insert-below.Post
-insert-below-same-length-2 t c = c .before .adjust .kept .0 ∙ c .before .before .before .before .insert-below .kept .0
-
--- src/lib.rt:186:1
-insert-below-returns-2 : (t : ℕ) → insert-below-lts.Need-returns-2 (
-  install-reads.Asked,
-  install-reads.Learnt,
-  choose-child-reads.Asked,
-  choose-child-reads.Learnt,
-  child-of-reads.Asked,
-  child-of-reads.Learnt,
-  insert-below-below t,
-  insert-below.Post,
-  adjust-reads.Asked,
-  adjust-reads.Learnt,
-) (insert-below-at t) insert-below.Post
-insert-below-returns-2 t c = let s = c .before .before .before .before .before .before .before .before .before .before .before .before in let h = s .pre .1 .1 in let more : 1 ≤ s .args .n = omega (arith, c .before .before .before .before .before .before .before .before .before .before .before .if1 .left) in way-up h more (c .before .before .before .before .before .before .before .before .choose-child .result) (c .before .before .before .before .before .before .child-of .result) (c .before .before .before .before .before .before .before .before .choose-child .ensures .0) (c .before .before .before .before .before .before .child-of .ensures) (c .before .before .before .before .insert-below .result) (c .before .before .before .before .insert-below .last .0) (c .before .before .before .before .insert-below .ensures) (c .before .adjust .result) (c .before .adjust .last .0) (c .before .adjust .ensures)
-
-pub +insert-below-spec : {M : Type 1} → statement M
-+insert-below-spec = close μ-insert-below λ t. insert-below-lts.spec (
+abbrev insert-below-calls : ℕ → insert-below-lts.Claims
+insert-below-calls t = (
   install-reads.Asked,
   install-reads.Learnt,
   choose-child-reads.Asked,
@@ -197,6 +47,96 @@ pub +insert-below-spec : {M : Type 1} → statement M
   adjust-reads.Asked,
   adjust-reads.Learnt,
 )
+
+insert-below-install-requires : (t : ℕ) → insert-below-lts.Need-install-requires (insert-below-calls t) (insert-below-at t) insert-below.Post
+insert-below-install-requires t c κs =
+    let start = c .before .before in
+    let r = start .pre .1 .0 in
+    let h = start .pre .1 .1 in
+    (r, way-end h (c .before .if1 .taken))
+
+insert-below-same-length : (t : ℕ) → insert-below-lts.Need-same-length (insert-below-calls t) (insert-below-at t) insert-below.Post
+insert-below-same-length t c = c .before .install .kept .0
+
+insert-below-returns : (t : ℕ) → insert-below-lts.Need-returns (insert-below-calls t) (insert-below-at t) insert-below.Post
+insert-below-returns t c =
+    let if1 = c .before .before .before .if1 in
+    let install = c .before .install in
+    let h = c .before .before .before .before .pre .1 .1 in
+    subst⁻¹ (λ (o : I.Grown). GrewTo o (install .result) (install .last .0)) (way-ends h (if1 .taken)) (install .ensures)
+
+insert-below-choose-child-requires : (t : ℕ)
+    → insert-below-lts.Need-choose-child-requires (insert-below-calls t) (insert-below-at t) insert-below.Post
+insert-below-choose-child-requires t c κs =
+    let start = c .before .before .before in
+    let if1 = c .before .before .if1 in
+    let w = start .args .pool .now in
+    let r = start .pre .1 .0 in
+    let h = start .pre .1 .1 in
+    let more : 1 ≤ start .args .n = omega (arith, if1 .left) in
+    (slot-in w (start .args .s) (r .fit .right) (way-node h .slot), (way-choosable h more, way-valid h))
+
+insert-below-child-of-requires : (t : ℕ) → insert-below-lts.Need-child-of-requires (insert-below-calls t) (insert-below-at t) insert-below.Post
+insert-below-child-of-requires t c κs =
+    let start = c .before .before .before .before .before in
+    let if1 = c .before .before .before .before .if1 in
+    let w = start .args .pool .now in
+    let r = start .pre .1 .0 in
+    let h = start .pre .1 .1 in
+    let more : 1 ≤ start .args .n = omega (arith, if1 .left) in
+    (slot-in w (start .args .s) (r .fit .right) (way-node h .slot), (c .before .choose-child .ensures .1, way-inner h more))
+
+insert-below-sub-insert-below : (t : ℕ) → insert-below-lts.Need-sub-insert-below (insert-below-calls t) (insert-below-at t) insert-below.Post
+insert-below-sub-insert-below t c =
+    let if1 = c .before .before .before .before .before .before .if1 in
+    omega (arith, if1 .left)
+
+insert-below-insert-below-requires : (t : ℕ)
+    → insert-below-lts.Need-insert-below-requires (insert-below-calls t) (insert-below-at t) insert-below.Post
+insert-below-insert-below-requires t c κs =
+    let start = c .before .before .before .before .before .before .before in
+    let if1 = c .before .before .before .before .before .before .if1 in
+    let choose-child = c .before .before .before .choose-child in
+    let child-of = c .before .child-of in
+    let r = start .pre .1 .0 in
+    let h = start .pre .1 .1 in
+    let more : 1 ≤ start .args .n = omega (arith, if1 .left) in (
+      omega (arith, start .pre .0),
+      (r, way-down h more (choose-child .result) (child-of .result) (choose-child .ensures .0) (child-of .ensures)),
+    )
+
+insert-below-adjust-requires : (t : ℕ) → insert-below-lts.Need-adjust-requires (insert-below-calls t) (insert-below-at t) insert-below.Post
+insert-below-adjust-requires t c κs =
+    let start = c .before .before .before .before .before .before .before .before .before .before in
+    let if1 = c .before .before .before .before .before .before .before .before .before .if1 in
+    let choose-child = c .before .before .before .before .before .before .choose-child in
+    let child-of = c .before .before .before .before .child-of in
+    let insert-below = c .before .before .insert-below in
+    let h = start .pre .1 .1 in
+    let more : 1 ≤ start .args .n = omega (arith, if1 .left) in
+    way-back h more (choose-child .result) (child-of .result) (choose-child .ensures .0) (child-of .ensures) (insert-below .result)
+    (insert-below .last .0) (insert-below .ensures)
+
+insert-below-same-length-2 : (t : ℕ) → insert-below-lts.Need-same-length-2 (insert-below-calls t) (insert-below-at t) insert-below.Post
+insert-below-same-length-2 t c =
+    let insert-below = c .before .before .before .before .insert-below in
+    c .before .adjust .kept .0 ∙ insert-below .kept .0
+
+insert-below-returns-2 : (t : ℕ) → insert-below-lts.Need-returns-2 (insert-below-calls t) (insert-below-at t) insert-below.Post
+insert-below-returns-2 t c =
+    let start = c .before .before .before .before .before .before .before .before .before .before .before .before in
+    let if1 = c .before .before .before .before .before .before .before .before .before .before .before .if1 in
+    let choose-child = c .before .before .before .before .before .before .before .before .choose-child in
+    let child-of = c .before .before .before .before .before .before .child-of in
+    let insert-below = c .before .before .before .before .insert-below in
+    let adjust = c .before .adjust in
+    let h = start .pre .1 .1 in
+    let more : 1 ≤ start .args .n = omega (arith, if1 .left) in
+    way-up h more (choose-child .result) (child-of .result) (choose-child .ensures .0) (child-of .ensures) (insert-below .result)
+    (insert-below .last .0) (insert-below .ensures) (adjust .result) (adjust .last .0) (adjust .ensures)
+
+pub +insert-below-spec : {M : Type 1} → statement M
++insert-below-spec = close μ-insert-below λ t. insert-below-lts.spec (insert-below-calls t)
     (insert-below-at t)
     insert-below.Post
     (insert-below-install-requires t)

@@ -1,4 +1,4 @@
--- `inserting::adjust` meets its contract: by what became of the child: the entry is made tight, and a partner comes to the node itself.
+-- `insert::adjust` meets its contract: by what became of the child: the entry is made tight, and a partner comes to the node itself.
 use borrow.Author.Needs.{needs}
 use mathlib.Core.Path.{subst, subst⁻¹}
 use Rattle.rules.specs.Layout.{read}
@@ -15,49 +15,80 @@ use Rattle.insert.proofs.adjust.Lts as lts
 use Rattle.insert.proofs.install.Reads as install-reads
 use Rattle.nodes.proofs.tighten.Reads as tighten-reads
 
--- src/lib.rt:173:21
 enum-known-grown : tie.Need-enum-known-grown
 enum-known-grown c = search needs
 
--- src/lib.rt:174:13
 tighten-requires : tie.Need-tighten-requires
-tighten-requires c κs = let s = c .before .before .before .before in let w = s .args .pool .now in let b = subst (Back w (s .args .s) (s .args .i)) (c .before .before .grown .given .1) (s .pre) in (b .0 .fit, b .1)
+tighten-requires c κs =
+    let start = c .before .before .before .before in
+    let grown = c .before .before .grown in
+    let w = start .args .pool .now in
+    let b = subst (Back w (start .args .s) (start .args .i)) (grown .given .1) (start .pre) in
+    (b .0 .fit, b .1)
 
--- src/lib.rt:177:21
 enum-known-grown-2 : tie.Need-enum-known-grown-2
 enum-known-grown-2 c = search needs
 
--- src/lib.rt:178:13
 tighten-requires-2 : tie.Need-tighten-requires-2
-tighten-requires-2 c κs = let s = c .before .before .before .before in let w = s .args .pool .now in let b = subst (Back w (s .args .s) (s .args .i)) (c .before .before .grown2 .given .1) (s .pre) in (b .0 .fit, b .1)
+tighten-requires-2 c κs =
+    let start = c .before .before .before .before in
+    let grown2 = c .before .before .grown2 in
+    let w = start .args .pool .now in
+    let b = subst (Back w (start .args .s) (start .args .i)) (grown2 .given .1) (start .pre) in
+    (b .0 .fit, b .1)
 
--- src/lib.rt:179:13
 install-requires : tie.Need-install-requires
-install-requires c κs = let s = c .before .before .before .before .before .before .before in let w = s .args .pool .now in let b = subst (Back w (s .args .s) (s .args .i)) (c .before .before .before .before .before .grown2 .given .1) (s .pre) in let v = c .before .before .tighten2 .last .0 in (two-ready w (s .args .s) (s .args .i) _ _ b v (c .before .before .tighten2 .ensures .1) (c .before .before .tighten2 .ensures .0), two-here w (s .args .s) (s .args .i) _ _ b v (c .before .before .tighten2 .ensures .1) (c .before .before .tighten2 .ensures .0))
+install-requires c κs =
+    let start = c .before .before .before .before .before .before .before in
+    let grown2 = c .before .before .before .before .before .grown2 in
+    let tighten2 = c .before .before .tighten2 in
+    let w = start .args .pool .now in
+    let b = subst (Back w (start .args .s) (start .args .i)) (grown2 .given .1) (start .pre) in
+    let v = tighten2 .last .0 in (
+      two-ready w (start .args .s) (start .args .i) _ _ b v (tighten2 .ensures .1) (tighten2 .ensures .0),
+      two-here w (start .args .s) (start .args .i) _ _ b v (tighten2 .ensures .1) (tighten2 .ensures .0),
+    )
 
--- src/lib.rt:181:26
 enum-told : tie.Need-enum-told
 enum-told c = search needs
 
--- src/lib.rt:168:1
 same-length : tie.Need-same-length
 same-length c = search needs
 
--- src/lib.rt:168:1
 returns : tie.Need-returns
-returns c = let s = c .before .before .before .before .before .before in let w = s .args .pool .now in let b = subst (Back w (s .args .s) (s .args .i)) (c .before .before .before .before .grown .given .1) (s .pre) in let v = c .before .tighten .last .0 in subst⁻¹ (λ (g : Growth). GrewTo (I.adjust I.ours (s .args .s) (s .args .i) (grownOf (read w) g)) (One (c .before .before .before .before .grown .given .0 .0)) v) (c .before .before .before .before .grown .given .1) (back-one w (s .args .s) (s .args .i) (c .before .before .before .before .grown .given .0 .0) b v (c .before .tighten .ensures .1) (c .before .tighten .ensures .0))
+returns c =
+    let start = c .before .before .before .before .before .before in
+    let grown = c .before .before .before .before .grown in
+    let tighten = c .before .tighten in
+    let w = start .args .pool .now in
+    let b = subst (Back w (start .args .s) (start .args .i)) (grown .given .1) (start .pre) in
+    let v = tighten .last .0 in
+    subst⁻¹ (λ (g : Growth). GrewTo (I.adjust I.ours (start .args .s) (start .args .i) (grownOf (read w) g)) (One (grown .given .0 .0)) v)
+    (grown .given .1) (back-one w (start .args .s) (start .args .i) (grown .given .0 .0) b v (tighten .ensures .1) (tighten .ensures .0))
 
--- src/lib.rt:168:1
 same-length-2 : tie.Need-same-length-2
 same-length-2 c = search needs
 
--- src/lib.rt:168:1
 returns-2 : tie.Need-returns-2
-returns-2 c = let s = c .before .before .before .before .before .before .before .before .before in let w = s .args .pool .now in let b = subst (Back w (s .args .s) (s .args .i)) (c .before .before .before .before .before .before .before .grown2 .given .1) (s .pre) in let v = c .before .before .before .before .tighten2 .last .0 in subst⁻¹ (λ (g : Growth). GrewTo (I.adjust I.ours (s .args .s) (s .args .i) (grownOf (read w) g)) (c .before .install .result) (c .before .install .last .0)) (c .before .before .before .before .before .before .before .grown2 .given .1) (back-two w (s .args .s) (s .args .i) _ _ b v (c .before .before .before .before .tighten2 .ensures .1) (c .before .before .before .before .tighten2 .ensures .0) (c .before .install .result) (c .before .install .last .0) (c .before .install .ensures))
+returns-2 c =
+    let start = c .before .before .before .before .before .before .before .before .before in
+    let grown2 = c .before .before .before .before .before .before .before .grown2 in
+    let tighten2 = c .before .before .before .before .tighten2 in
+    let install = c .before .install in
+    let w = start .args .pool .now in
+    let b = subst (Back w (start .args .s) (start .args .i)) (grown2 .given .1) (start .pre) in
+    let v = tighten2 .last .0 in
+    subst⁻¹ (λ (g : Growth). GrewTo (I.adjust I.ours (start .args .s) (start .args .i) (grownOf (read w) g)) (install .result)
+    (install .last .0)) (grown2 .given .1)
+    (back-two w (start .args .s) (start .args .i) _ _ b v (tighten2 .ensures .1) (tighten2 .ensures .0) (install .result) (install .last .0)
+    (install .ensures))
 
--- src/lib.rt:168:1
 returns-3 : tie.Need-returns-3
-returns-3 c = let s = c .before .before in let w = s .args .pool .now in subst⁻¹ (λ (g : Growth). GrewTo (I.adjust I.ours (s .args .s) (s .args .i) (grownOf (read w) g)) Stuck w) (c .enum-told .given .1) (back-stuck w (s .args .s) (s .args .i) w)
+returns-3 c =
+    let start = c .before .before in
+    let w = start .args .pool .now in
+    subst⁻¹ (λ (g : Growth). GrewTo (I.adjust I.ours (start .args .s) (start .args .i) (grownOf (read w) g)) Stuck w)
+    (c .enum-told .given .1) (back-stuck w (start .args .s) (start .args .i) w)
 
 pub adjust-spec : {M : Type 1} → statement M
 adjust-spec =

@@ -1,4 +1,4 @@
--- `inserting::insert_at` meets its contract: the free slots suffice where the test does not refuse, so what becomes of the root is a pool.
+-- `insert::insert_at` meets its contract: the free slots suffice where the test does not refuse, so what becomes of the root is a pool.
 use borrow.Author.Needs.{needs}
 use mathlib.Core.Path.{_≡_, ap}
 use Prim.Native.Nat.{ℕ, _-_}
@@ -14,45 +14,96 @@ use Rattle.insert.proofs.too_few.Reads as too-few-reads
 use Rattle.pool.proofs.height_of.Reads as height-of-reads
 use Rattle.pool.proofs.root_of.Reads as root-of-reads
 
--- src/lib.rt:310:8
 too-few-requires : tie.Need-too-few-requires
 too-few-requires c κs = search needs
 
--- src/lib.rt:311:9
 same-length : tie.Need-same-length
 same-length c = search needs
 
--- src/lib.rt:311:9
 returns : tie.Need-returns
-returns c = let s = c .before .before .before in let w = s .args .pool .now in let p = read w in let u = s .pre .1 .0 in let low = s .pre .1 .1 .0 .0 in let high = s .pre .1 .1 .0 .1 in let f = s .pre .1 .1 .1 .0 in let known = s .pre .1 .1 .1 .1 in at-refused p (s .args .level) (s .args .e) u low high f w known (c .before .too-few .result) (c .before .too-few .ensures) (c .if1 .taken)
+returns c =
+    let start = c .before .before .before in
+    let too-few = c .before .too-few in
+    let w = start .args .pool .now in
+    let p = read w in
+    let u = start .pre .1 .0 in
+    let low = start .pre .1 .1 .0 .0 in
+    let high = start .pre .1 .1 .0 .1 in
+    let f = start .pre .1 .1 .1 .0 in
+    let known = start .pre .1 .1 .1 .1 in
+    at-refused p (start .args .level) (start .args .e) u low high f w known (too-few .result) (too-few .ensures) (c .if1 .taken)
 
--- src/lib.rt:313:13
 height-of-requires : tie.Need-height-of-requires
 height-of-requires c κs = search needs
 
--- src/lib.rt:313:13
 sub-n : tie.Need-sub-n
 sub-n c = search needs
 
--- src/lib.rt:314:9
 root-of-requires : tie.Need-root-of-requires
 root-of-requires c κs = search needs
 
--- src/lib.rt:315:9
 insert-below-requires : tie.Need-insert-below-requires
-insert-below-requires c κs = let s = c .before .before .before .before .before .before .before .before in let w = s .args .pool .now in let p = read w in let u = s .pre .1 .0 in let low = s .pre .1 .1 .0 .0 in let high = s .pre .1 .1 .0 .1 in let f = s .pre .1 .1 .1 .0 in let known = s .pre .1 .1 .1 .1 in let n = c .before .before .before .height-of .result - s .args .level in let levels : n ≡ p .height - s .args .level = ap (λ (k : ℕ). k - s .args .level) (c .before .before .before .height-of .ensures) in (record { fit = s .pre .0; known = known }, root-way p (s .args .level) (s .args .e) u low high f n levels (c .before .root-of .result) (c .before .root-of .ensures))
+insert-below-requires c κs =
+    let start = c .before .before .before .before .before .before .before .before in
+    let height-of = c .before .before .before .height-of in
+    let root-of = c .before .root-of in
+    let w = start .args .pool .now in
+    let p = read w in
+    let u = start .pre .1 .0 in
+    let low = start .pre .1 .1 .0 .0 in
+    let high = start .pre .1 .1 .0 .1 in
+    let f = start .pre .1 .1 .1 .0 in
+    let known = start .pre .1 .1 .1 .1 in
+    let n = height-of .result - start .args .level in
+    let levels : n ≡ p .height - start .args .level = ap (λ (k : ℕ). k - start .args .level) (height-of .ensures) in (
+      record { fit = start .pre .0; known = known },
+      root-way p (start .args .level) (start .args .e) u low high f n levels (root-of .result) (root-of .ensures),
+    )
 
--- src/lib.rt:316:5
 grow-tree-requires : tie.Need-grow-tree-requires
-grow-tree-requires c κs = let s = c .before .before .before .before .before .before .before .before .before .before .before in let w = s .args .pool .now in let p = read w in let u = s .pre .1 .0 in let low = s .pre .1 .1 .0 .0 in let high = s .pre .1 .1 .0 .1 in let f = s .pre .1 .1 .1 .0 in let known = s .pre .1 .1 .1 .1 in let n = c .before .before .before .before .before .before .height-of .result - s .args .level in let levels : n ≡ p .height - s .args .level = ap (λ (k : ℕ). k - s .args .level) (c .before .before .before .before .before .before .height-of .ensures) in at-risen p (s .args .level) (s .args .e) u low high f w known (c .before .before .before .before .before .before .before .before .before .too-few .result) (c .before .before .before .before .before .before .before .before .before .too-few .ensures) n levels (c .before .before .before .before .root-of .result) (c .before .before .before .before .root-of .ensures) (c .before .before .insert-below .result) (c .before .before .insert-below .last .0) (c .before .before .insert-below .ensures)
+grow-tree-requires c κs =
+    let start = c .before .before .before .before .before .before .before .before .before .before .before in
+    let too-few = c .before .before .before .before .before .before .before .before .before .too-few in
+    let height-of = c .before .before .before .before .before .before .height-of in
+    let root-of = c .before .before .before .before .root-of in
+    let insert-below = c .before .before .insert-below in
+    let w = start .args .pool .now in
+    let p = read w in
+    let u = start .pre .1 .0 in
+    let low = start .pre .1 .1 .0 .0 in
+    let high = start .pre .1 .1 .0 .1 in
+    let f = start .pre .1 .1 .1 .0 in
+    let known = start .pre .1 .1 .1 .1 in
+    let n = height-of .result - start .args .level in
+    let levels : n ≡ p .height - start .args .level = ap (λ (k : ℕ). k - start .args .level) (height-of .ensures) in
+    at-risen p (start .args .level) (start .args .e) u low high f w known (too-few .result) (too-few .ensures) n levels (root-of .result)
+    (root-of .ensures) (insert-below .result) (insert-below .last .0) (insert-below .ensures)
 
--- src/lib.rt:302:1
 same-length-2 : tie.Need-same-length-2
 same-length-2 c = search needs
 
--- src/lib.rt:302:1
 returns-2 : tie.Need-returns-2
-returns-2 c = let s = c .before .before .before .before .before .before .before .before .before .before .before .before .before in let w = s .args .pool .now in let p = read w in let u = s .pre .1 .0 in let low = s .pre .1 .1 .0 .0 in let high = s .pre .1 .1 .0 .1 in let f = s .pre .1 .1 .1 .0 in let known = s .pre .1 .1 .1 .1 in let n = c .before .before .before .before .before .before .before .before .height-of .result - s .args .level in let levels : n ≡ p .height - s .args .level = ap (λ (k : ℕ). k - s .args .level) (c .before .before .before .before .before .before .before .before .height-of .ensures) in at-made p (s .args .level) (s .args .e) u low high f w known (c .before .before .before .before .before .before .before .before .before .before .before .too-few .result) (c .before .before .before .before .before .before .before .before .before .before .before .too-few .ensures) n levels (c .before .before .before .before .before .before .root-of .result) (c .before .before .before .before .before .before .root-of .ensures) (c .before .before .before .before .insert-below .result) (c .before .before .before .before .insert-below .last .0) (c .before .before .before .before .insert-below .ensures) (c .before .before .before .before .before .before .before .before .before .before .if1 .left) (c .before .grow-tree .result) (c .before .grow-tree .last .0) (c .before .grow-tree .ensures)
+returns-2 c =
+    let at-root-of = c .before .before .before .before .before .before in
+    let start = at-root-of .before .before .before .before .before .before .before in
+    let too-few = at-root-of .before .before .before .before .before .too-few in
+    let if1 = at-root-of .before .before .before .before .if1 in
+    let height-of = at-root-of .before .before .height-of in
+    let root-of = at-root-of .root-of in
+    let insert-below = c .before .before .before .before .insert-below in
+    let grow-tree = c .before .grow-tree in
+    let w = start .args .pool .now in
+    let p = read w in
+    let u = start .pre .1 .0 in
+    let low = start .pre .1 .1 .0 .0 in
+    let high = start .pre .1 .1 .0 .1 in
+    let f = start .pre .1 .1 .1 .0 in
+    let known = start .pre .1 .1 .1 .1 in
+    let n = height-of .result - start .args .level in
+    let levels : n ≡ p .height - start .args .level = ap (λ (k : ℕ). k - start .args .level) (height-of .ensures) in
+    at-made p (start .args .level) (start .args .e) u low high f w known (too-few .result) (too-few .ensures) n levels (root-of .result)
+    (root-of .ensures) (insert-below .result) (insert-below .last .0) (insert-below .ensures) (if1 .left) (grow-tree .result)
+    (grow-tree .last .0) (grow-tree .ensures)
 
 pub insert-at-spec : {M : Type 1} → statement M
 insert-at-spec =

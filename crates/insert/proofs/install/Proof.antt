@@ -1,4 +1,5 @@
--- `inserting::install` meets its contract: a node with room has the entry last, and a full one is split into the lowest free slot, if there is one.
+-- `insert::install` meets its contract: a node with room has the entry last, and a full one is split into the lowest free slot, if there is
+-- one.
 use borrow.Author.Needs.{needs}
 use mathlib.Core.Path.{sym, _∙_}
 use native.Mathlib.Omega.{arith}
@@ -17,57 +18,100 @@ use Rattle.pool.proofs.count_of.Reads as count-of-reads
 use Rattle.free_slots.proofs.less_slot.Reads as less-slot-reads
 use Rattle.free_slots.proofs.lowest.Reads as lowest-reads
 
--- src/lib.rt:139:8
 count-of-requires : tie.Need-count-of-requires
-count-of-requires c κs = let s = c .before in let w = s .args .pool .now in let h = s .pre .1 in let r = s .pre .0 in slot-in w (s .args .s) (r .fit .right) (here-node h .slot)
+count-of-requires c κs =
+    let start = c .before in
+    let w = start .args .pool .now in
+    let h = start .pre .1 in
+    let r = start .pre .0 in
+    slot-in w (start .args .s) (r .fit .right) (here-node h .slot)
 
--- src/lib.rt:140:9
 add-entry-requires : tie.Need-add-entry-requires
-add-entry-requires c κs = let s = c .before .before .before .before in let w = s .args .pool .now in let h = s .pre .1 in let r = s .pre .0 in let st = here-stored h (most-slots w (r .fit .right)) in (r .fit, (slot-in w (s .args .s) (r .fit .right) (here-node h .slot), (omega (arith, c .before .if1 .taken, c .before .before .count-of .ensures .0), (st .small, st .kind))))
+add-entry-requires c κs =
+    let start = c .before .before .before .before in
+    let count-of = c .before .before .count-of in
+    let w = start .args .pool .now in
+    let h = start .pre .1 in
+    let r = start .pre .0 in
+    let st = here-stored h (most-slots w (r .fit .right)) in (
+      r .fit,
+      (
+        slot-in w (start .args .s) (r .fit .right) (here-node h .slot),
+        (omega (arith, c .before .if1 .taken, count-of .ensures .0), (st .small, st .kind)),
+      ),
+    )
 
--- src/lib.rt:141:9
 same-length : tie.Need-same-length
 same-length c = search needs
 
--- src/lib.rt:141:9
 returns : tie.Need-returns
-returns c = let s = c .before .before .before .before .before .before in let h = s .pre .1 in let r = s .pre .0 in room-grows r h (omega (arith, c .before .before .before .if1 .taken, c .before .before .before .before .count-of .ensures .0)) (c .before .add-entry .last .0) (c .before .add-entry .ensures .1) (c .before .add-entry .ensures .0)
+returns c =
+    let start = c .before .before .before .before .before .before in
+    let count-of = c .before .before .before .before .count-of in
+    let if1 = c .before .before .before .if1 in
+    let add-entry = c .before .add-entry in
+    let h = start .pre .1 in
+    let r = start .pre .0 in
+    room-grows r h (omega (arith, if1 .taken, count-of .ensures .0)) (add-entry .last .0) (add-entry .ensures .1) (add-entry .ensures .0)
 
--- src/lib.rt:143:9
 lowest-requires : tie.Need-lowest-requires
 lowest-requires c κs = search needs
 
--- src/lib.rt:145:22
 enum-known-lowest : tie.Need-enum-known-lowest
 enum-known-lowest c = search needs
 
--- src/lib.rt:146:17
 split-node-requires : tie.Need-split-node-requires
-split-node-requires c κs = let s = c .before .before .before .before .before .before .before .before .before in let h = s .pre .1 in let r = s .pre .0 in (r .fit, (h, (omega (arith, c .before .before .before .before .before .before .if1 .left, c .before .before .before .before .before .before .before .count-of .ensures .0), sym (c .before .before .before .before .lowest .ensures) ∙ c .before .before .lowest2 .given .1)))
+split-node-requires c κs =
+    let start = c .before .before .before .before .before .before .before .before .before in
+    let count-of = c .before .before .before .before .before .before .before .count-of in
+    let if1 = c .before .before .before .before .before .before .if1 in
+    let lowest = c .before .before .before .before .lowest in
+    let lowest2 = c .before .before .lowest2 in
+    let h = start .pre .1 in
+    let r = start .pre .0 in
+    (r .fit, (h, (omega (arith, if1 .left, count-of .ensures .0), sym (lowest .ensures) ∙ lowest2 .given .1)))
 
--- src/lib.rt:147:17
 less-slot-requires : tie.Need-less-slot-requires
-less-slot-requires c κs = let s = c .before .before .before .before .before .before .before .before .before .before .before in let w = s .args .pool .now in let r = s .pre .0 in let low = sym (c .before .before .before .before .before .before .lowest .ensures) ∙ c .before .before .before .before .lowest2 .given .1 in (omega (arith, at-some (read w) _ low, r .known .many), omega (arith, lowest-slot (read w) _ low .high, most-slots w (r .fit .right)))
+less-slot-requires c κs =
+    let start = c .before .before .before .before .before .before .before .before .before .before .before in
+    let lowest = c .before .before .before .before .before .before .lowest in
+    let lowest2 = c .before .before .before .before .lowest2 in
+    let w = start .args .pool .now in
+    let r = start .pre .0 in
+    let low = sym (lowest .ensures) ∙ lowest2 .given .1 in
+    (omega (arith, at-some (read w) _ low, r .known .many), omega (arith, lowest-slot (read w) _ low .high, most-slots w (r .fit .right)))
 
--- src/lib.rt:150:30
 enum-told : tie.Need-enum-told
 enum-told c = search needs
 
--- src/lib.rt:134:1
 same-length-2 : tie.Need-same-length-2
 same-length-2 c = search needs
 
--- src/lib.rt:134:1
 returns-2 : tie.Need-returns-2
-returns-2 c = let s = c .before .before .before .before .before .before .before .before .before .before .before .before in let h = s .pre .1 in let r = s .pre .0 in split-grows r h (omega (arith, c .before .before .before .before .before .before .before .before .before .if1 .left, c .before .before .before .before .before .before .before .before .before .before .count-of .ensures .0)) _ (sym (c .before .before .before .before .before .before .before .lowest .ensures) ∙ c .before .before .before .before .before .lowest2 .given .1) (c .before .before .split-node .last .0) (c .before .before .split-node .ensures .1) (c .before .before .split-node .result) (c .before .before .split-node .ensures .0) (c .less-slot .result) (c .less-slot .ensures)
+returns-2 c =
+    let start = c .before .before .before .before .before .before .before .before .before .before .before .before in
+    let count-of = c .before .before .before .before .before .before .before .before .before .before .count-of in
+    let if1 = c .before .before .before .before .before .before .before .before .before .if1 in
+    let lowest = c .before .before .before .before .before .before .before .lowest in
+    let lowest2 = c .before .before .before .before .before .lowest2 in
+    let split-node = c .before .before .split-node in
+    let h = start .pre .1 in
+    let r = start .pre .0 in
+    split-grows r h (omega (arith, if1 .left, count-of .ensures .0)) _ (sym (lowest .ensures) ∙ lowest2 .given .1) (split-node .last .0)
+    (split-node .ensures .1) (split-node .result) (split-node .ensures .0) (c .less-slot .result) (c .less-slot .ensures)
 
--- src/lib.rt:134:1
 same-length-3 : tie.Need-same-length-3
 same-length-3 c = search needs
 
--- src/lib.rt:134:1
 returns-3 : tie.Need-returns-3
-returns-3 c = let s = c .before .before .before .before .before .before .before in let h = s .pre .1 in let r = s .pre .0 in none-grows r h (omega (arith, c .before .before .before .before .if1 .left, c .before .before .before .before .before .count-of .ensures .0)) (sym (c .before .before .lowest .ensures) ∙ c .enum-told .given .1) _
+returns-3 c =
+    let start = c .before .before .before .before .before .before .before in
+    let count-of = c .before .before .before .before .before .count-of in
+    let if1 = c .before .before .before .before .if1 in
+    let lowest = c .before .before .lowest in
+    let h = start .pre .1 in
+    let r = start .pre .0 in
+    none-grows r h (omega (arith, if1 .left, count-of .ensures .0)) (sym (lowest .ensures) ∙ c .enum-told .given .1) _
 
 pub install-spec : {M : Type 1} → statement M
 install-spec =

@@ -1,4 +1,4 @@
--- `inserting::new_root` meets its contract: the new root is put into the lowest free slot with the two entries, and then the head.
+-- `insert::new_root` meets its contract: the new root is put into the lowest free slot with the two entries, and then the head.
 use borrow.Author.Needs.{needs}
 use mathlib.Core.Path.{sym, _∙_}
 use Prim.Native.Nat.{_+_}
@@ -20,71 +20,134 @@ use Rattle.nodes.proofs.cover_of.Reads as cover-of-reads
 use Rattle.free_slots.proofs.less_slot.Reads as less-slot-reads
 use Rattle.free_slots.proofs.lowest.Reads as lowest-reads
 
--- src/lib.rt:206:9
 lowest-requires : tie.Need-lowest-requires
 lowest-requires c κs = search needs
 
--- src/lib.rt:208:22
 enum-known-lowest : tie.Need-enum-known-lowest
 enum-known-lowest c = search needs
 
--- src/lib.rt:209:17
 root-of-requires : tie.Need-root-of-requires
 root-of-requires c κs = search needs
 
--- src/lib.rt:210:17
 height-of-requires : tie.Need-height-of-requires
 height-of-requires c κs = search needs
 
--- src/lib.rt:211:17
 cover-of-requires : tie.Need-cover-of-requires
-cover-of-requires c κs = let s = c .before .before .before .before .before .before .before .before .before .before in let w = s .args .pool .now in let r = s .pre .0 in let h = s .pre .1 in let few = most-slots w (r .fit .right) in
-    slot-in w (c .before .before .before .root-of .result) (r .fit .right)
-    (beside-slot h few (c .before .before .before .root-of .result) (c .before .before .before .root-of .ensures) (c .before .height-of .result) (c .before .height-of .ensures))
+cover-of-requires c κs =
+    let start = c .before .before .before .before .before .before .before .before .before .before in
+    let root-of = c .before .before .before .root-of in
+    let height-of = c .before .height-of in
+    let w = start .args .pool .now in
+    let r = start .pre .0 in
+    let h = start .pre .1 in
+    let few = most-slots w (r .fit .right) in
+    slot-in w (root-of .result) (r .fit .right)
+    (beside-slot h few (root-of .result) (root-of .ensures) (height-of .result) (height-of .ensures))
 
--- src/lib.rt:214:13
 array-set-from-two : tie.Need-array-set-from-two
 array-set-from-two c = search needs
 
--- src/lib.rt:215:37
 add-put-node : tie.Need-add-put-node
 add-put-node c = search needs
 
--- src/lib.rt:215:13
 put-node-requires : tie.Need-put-node-requires
-put-node-requires c κs = let s = c .before .before .before .before .before .before .before .before .before .before .before .before in let w = s .args .pool .now in let r = s .pre .0 in let h = s .pre .1 in let few = most-slots w (r .fit .right) in let low = sym (c .before .before .before .before .before .before .before .before .before .before .lowest .ensures) ∙ c .before .before .before .before .before .before .before .before .lowest2 .given .1 in let t = c .before .before .before .before .before .before .before .before .lowest2 .given .0 .0 in let a = old-stored h few (c .before .before .before .before .before .root-of .result) (c .before .before .before .before .before .root-of .ensures) (c .before .before .before .height-of .result) (c .before .before .before .height-of .ensures) in let b = partner-stored h few (c .before .before .before .before .before .root-of .result) (c .before .before .before .before .before .root-of .ensures) (c .before .before .before .height-of .result) (c .before .before .before .height-of .ensures) in (r .fit, (slot-in w t (r .fit .right) (lowest-slot (read w) t low), (omega (arith, h .few, c .before .before .before .height-of .ensures), (omega arith, (two-small _ _ _ (c .before .before .before .height-of .result + 1) (search needs) (search needs), two-kind _ _ _ (c .before .before .before .height-of .result + 1) (search needs) (search needs))))))
+put-node-requires c κs =
+    let start = c .before .before .before .before .before .before .before .before .before .before .before .before in
+    let lowest = c .before .before .before .before .before .before .before .before .before .before .lowest in
+    let lowest2 = c .before .before .before .before .before .before .before .before .lowest2 in
+    let root-of = c .before .before .before .before .before .root-of in
+    let height-of = c .before .before .before .height-of in
+    let w = start .args .pool .now in
+    let r = start .pre .0 in
+    let h = start .pre .1 in
+    let few = most-slots w (r .fit .right) in
+    let low = sym (lowest .ensures) ∙ lowest2 .given .1 in
+    let t = lowest2 .given .0 .0 in
+    let a = old-stored h few (root-of .result) (root-of .ensures) (height-of .result) (height-of .ensures) in
+    let b = partner-stored h few (root-of .result) (root-of .ensures) (height-of .result) (height-of .ensures) in (
+      r .fit,
+      (
+        slot-in w t (r .fit .right) (lowest-slot (read w) t low),
+        (
+          omega (arith, h .few, height-of .ensures),
+          (
+            omega arith,
+            (
+              two-small _ _ _ (height-of .result + 1) (search needs) (search needs),
+              two-kind _ _ _ (height-of .result + 1) (search needs) (search needs),
+            ),
+          ),
+        ),
+      ),
+    )
 
--- src/lib.rt:216:37
 add-put-root : tie.Need-add-put-root
 add-put-root c = search needs
 
--- src/lib.rt:216:13
 put-root-requires : tie.Need-put-root-requires
-put-root-requires c κs = let s = c .before .before .before .before .before .before .before .before .before .before .before .before .before .before .before in let w = s .args .pool .now in let r = s .pre .0 in let h = s .pre .1 in let few = most-slots w (r .fit .right) in let low = sym (c .before .before .before .before .before .before .before .before .before .before .before .before .before .lowest .ensures) ∙ c .before .before .before .before .before .before .before .before .before .before .before .lowest2 .given .1 in let t = c .before .before .before .before .before .before .before .before .before .before .before .lowest2 .given .0 .0 in let a = beside-slot h few (c .before .before .before .before .before .before .before .before .root-of .result) (c .before .before .before .before .before .before .before .before .root-of .ensures) (c .before .before .before .before .before .before .height-of .result) (c .before .before .before .before .before .before .height-of .ensures) in (c .before .before .put-node .ensures .1, (omega (arith, lowest-slot (read w) t low .high, few, a .high), omega (arith, h .few, c .before .before .before .before .before .before .height-of .ensures)))
+put-root-requires c κs =
+    let at-root-of = c .before .before .before .before .before .before .before .before in
+    let start = at-root-of .before .before .before .before .before .before .before in
+    let lowest = at-root-of .before .before .before .before .before .lowest in
+    let lowest2 = at-root-of .before .before .before .lowest2 in
+    let root-of = at-root-of .root-of in
+    let height-of = c .before .before .before .before .before .before .height-of in
+    let put-node = c .before .before .put-node in
+    let w = start .args .pool .now in
+    let r = start .pre .0 in
+    let h = start .pre .1 in
+    let few = most-slots w (r .fit .right) in
+    let low = sym (lowest .ensures) ∙ lowest2 .given .1 in
+    let t = lowest2 .given .0 .0 in
+    let a = beside-slot h few (root-of .result) (root-of .ensures) (height-of .result) (height-of .ensures) in
+    (put-node .ensures .1, (omega (arith, lowest-slot (read w) t low .high, few, a .high), omega (arith, h .few, height-of .ensures)))
 
--- src/lib.rt:217:17
 less-slot-requires : tie.Need-less-slot-requires
-less-slot-requires c κs = let s = c .before .before .before .before .before .before .before .before .before .before .before .before .before .before .before .before .before in let w = s .args .pool .now in let r = s .pre .0 in let few = most-slots w (r .fit .right) in let low = sym (c .before .before .before .before .before .before .before .before .before .before .before .before .before .before .before .lowest .ensures) ∙ c .before .before .before .before .before .before .before .before .before .before .before .before .before .lowest2 .given .1 in let t = c .before .before .before .before .before .before .before .before .before .before .before .before .before .lowest2 .given .0 .0 in (omega (arith, at-some (read w) t low, r .known .many), omega (arith, lowest-slot (read w) t low .high, few))
+less-slot-requires c κs =
+    let at-lowest2 = c .before .before .before .before .before .before .before .before .before .before .before .before .before in
+    let start = at-lowest2 .before .before .before .before in
+    let lowest = at-lowest2 .before .before .lowest in
+    let lowest2 = at-lowest2 .lowest2 in
+    let w = start .args .pool .now in
+    let r = start .pre .0 in
+    let few = most-slots w (r .fit .right) in
+    let low = sym (lowest .ensures) ∙ lowest2 .given .1 in
+    let t = lowest2 .given .0 .0 in
+    (omega (arith, at-some (read w) t low, r .known .many), omega (arith, lowest-slot (read w) t low .high, few))
 
--- src/lib.rt:220:30
 enum-told : tie.Need-enum-told
 enum-told c = search needs
 
--- src/lib.rt:201:1
 same-length : tie.Need-same-length
 same-length c = search needs
 
--- src/lib.rt:201:1
 returns : tie.Need-returns
-returns c = let s = c .before .before .before .before .before .before .before .before .before .before .before .before .before .before .before .before .before .before in let r = s .pre .0 in let low = sym (c .before .before .before .before .before .before .before .before .before .before .before .before .before .before .before .before .lowest .ensures) ∙ c .before .before .before .before .before .before .before .before .before .before .before .before .before .before .lowest2 .given .1 in let t = c .before .before .before .before .before .before .before .before .before .before .before .before .before .before .lowest2 .given .0 .0 in new-made r (s .args .partner) t low (c .before .before .before .before .before .before .before .before .before .before .before .root-of .result) (c .before .before .before .before .before .before .before .before .before .before .before .root-of .ensures) (c .before .before .before .before .before .before .before .before .before .height-of .result) (c .before .before .before .before .before .before .before .before .before .height-of .ensures) (c .before .before .before .before .before .before .before .cover-of .result) (c .before .before .before .before .before .before .before .cover-of .ensures) (read (c .before .before .before .before .before .put-node .last .0)) (c .before .before .before .before .before .put-node .ensures .0) (c .before .before .put-root .last .0) (c .before .before .put-root .ensures .1) (c .before .before .put-root .ensures .0) (c .less-slot .result) (c .less-slot .ensures)
+returns c =
+    let at-height-of = c .before .before .before .before .before .before .before .before .before in
+    let start = at-height-of .before .before .before .before .before .before .before .before .before in
+    let lowest = at-height-of .before .before .before .before .before .before .before .lowest in
+    let lowest2 = at-height-of .before .before .before .before .before .lowest2 in
+    let root-of = at-height-of .before .before .root-of in
+    let height-of = at-height-of .height-of in
+    let cover-of = c .before .before .before .before .before .before .before .cover-of in
+    let put-node = c .before .before .before .before .before .put-node in
+    let put-root = c .before .before .put-root in
+    let r = start .pre .0 in
+    let low = sym (lowest .ensures) ∙ lowest2 .given .1 in
+    let t = lowest2 .given .0 .0 in
+    new-made r (start .args .partner) t low (root-of .result) (root-of .ensures) (height-of .result) (height-of .ensures) (cover-of .result)
+    (cover-of .ensures) (read (put-node .last .0)) (put-node .ensures .0) (put-root .last .0) (put-root .ensures .1) (put-root .ensures .0)
+    (c .less-slot .result) (c .less-slot .ensures)
 
--- src/lib.rt:201:1
 same-length-2 : tie.Need-same-length-2
 same-length-2 c = search needs
 
--- src/lib.rt:201:1
 returns-2 : tie.Need-returns-2
-returns-2 c = let s = c .before .before .before .before in let r = s .pre .0 in new-stuck r (s .args .partner) (sym (c .before .before .lowest .ensures) ∙ c .enum-told .given .1)
+returns-2 c =
+    let start = c .before .before .before .before in
+    let lowest = c .before .before .lowest in
+    let r = start .pre .0 in
+    new-stuck r (start .args .partner) (sym (lowest .ensures) ∙ c .enum-told .given .1)
 
 pub new-root-spec : {M : Type 1} → statement M
 new-root-spec =

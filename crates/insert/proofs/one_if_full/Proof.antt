@@ -1,4 +1,4 @@
--- `inserting::one_if_full` meets its contract: a node is full with eight entries.
+-- `insert::one_if_full` meets its contract: a node is full with eight entries.
 use borrow.Author.Needs.{needs}
 use mathlib.Core.Path.{sym}
 use native.Mathlib.Omega.{arith}
@@ -10,17 +10,20 @@ use Rattle.insert.proofs.one_if_full.Reads as reads
 use Rattle.insert.proofs.one_if_full.Lts as lts
 use Rattle.pool.proofs.count_of.Reads as count-of-reads
 
--- src/lib.rt:244:8
 count-of-requires : tie.Need-count-of-requires
 count-of-requires c κs = search needs
 
--- src/lib.rt:239:1
 returns : tie.Need-returns
-returns c = let w = read (c .before .before .args .pool .now) in (sym (room-none w (c .before .before .args .s) (omega (arith, c .if1 .taken, c .before .count-of .ensures .0))), omega arith)
+returns c =
+    let start = c .before .before in
+    let w = read (start .args .pool .now) in
+    (sym (room-none w (start .args .s) (omega (arith, c .if1 .taken, c .before .count-of .ensures .0))), omega arith)
 
--- src/lib.rt:239:1
 returns-2 : tie.Need-returns-2
-returns-2 c = let w = read (c .before .before .args .pool .now) in (sym (full-one w (c .before .before .args .s) (omega (arith, c .if1 .left, c .before .count-of .ensures .0))), omega arith)
+returns-2 c =
+    let start = c .before .before in
+    let w = read (start .args .pool .now) in
+    (sym (full-one w (start .args .s) (omega (arith, c .if1 .left, c .before .count-of .ensures .0))), omega arith)
 
 pub one-if-full-spec : {M : Type 1} → statement M
 one-if-full-spec = tie.close (tie.spec count-of-requires returns returns-2)

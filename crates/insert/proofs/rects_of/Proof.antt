@@ -1,4 +1,4 @@
--- `inserting::rects_of` meets its contract: a turn puts one rectangle more behind those in place, and nine are all.
+-- `insert::rects_of` meets its contract: a turn puts one rectangle more after those in place, and nine are all.
 use borrow.Author.Needs.{needs}
 use mathlib.Core.Path.{refl}
 use Prim.Native.Nat.{_-_}
@@ -15,45 +15,38 @@ Inv-loop es rects₀ i₀ rects i = Rects es rects i
 abbrev μ-loop : tie.MeasureT-loop
 μ-loop es rects₀ i₀ rects i = 9 - i
 
--- src/lib.rt:61:17
 array-copy-out-first : tie.Need-array-copy-out-first Inv-loop μ-loop
 array-copy-out-first c = search needs
 
--- src/lib.rt:65:5
 loop-holds : tie.Need-loop-holds Inv-loop μ-loop
 loop-holds c = record { most = omega arith; nine = c .before .before .pre; long = refl; is = refl }
 
--- src/lib.rt:66:17
 mul-e : tie.Need-mul-e Inv-loop μ-loop
 mul-e c = omega arith
 
--- src/lib.rt:66:17
 array-copy-out-e : tie.Need-array-copy-out-e Inv-loop μ-loop
 array-copy-out-e c = omega arith
 
--- src/lib.rt:68:9
 mul-rects : tie.Need-mul-rects Inv-loop μ-loop
 mul-rects c = omega arith
 
--- src/lib.rt:68:9
 array-set-from-rects : tie.Need-array-set-from-rects Inv-loop μ-loop
 array-set-from-rects c = omega arith
 
--- src/lib.rt:69:9
 add-i : tie.Need-add-i Inv-loop μ-loop
 add-i c = omega arith
 
--- src/lib.rt:65:5
 loop-less : tie.Need-loop-less Inv-loop μ-loop
 loop-less c = omega arith
 
--- src/lib.rt:65:5
 loop-again : tie.Need-loop-again Inv-loop μ-loop
 loop-again c = rects-more _ (c .before .before .before .loop .inv) (c .before .before .loop-test .taken)
 
--- src/lib.rt:58:1
 returns : tie.Need-returns Inv-loop μ-loop
-returns c = rects-all (c .before .before .before .before .args .t1) (c .before .loop .rects) (c .before .loop .i) (c .before .loop .inv) (omega (arith, c .loop-test .left))
+returns c =
+    let start = c .before .before .before .before in
+    let loop = c .before .loop in
+    rects-all (start .args .t1) (loop .rects) (loop .i) (loop .inv) (omega (arith, c .loop-test .left))
 
 pub rects-of-spec : {M : Type 1} → statement M
 rects-of-spec =

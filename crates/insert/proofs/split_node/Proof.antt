@@ -1,5 +1,5 @@
--- `inserting::split_node` meets its contract: the nine fit, so their rectangles are valid; the groups are those of the quadratic split, and each is
--- put into its slot.
+-- `insert::split_node` meets its contract: the nine fit, so their rectangles are valid; the groups are those of the quadratic split, and
+-- each is put into its slot.
 use borrow.Author.Needs.{needs}
 use native.Mathlib.Omega.{arith}
 use Rattle.rules.specs.Layout.{read}
@@ -18,31 +18,99 @@ use Rattle.pool.proofs.level_of.Reads as level-of-reads
 use Rattle.nodes.proofs.cover_of.Reads as cover-of-reads
 use Rattle.split.proofs.split_nine.Reads as split-nine-reads
 
--- src/lib.rt:118:9
 level-of-requires : tie.Need-level-of-requires
 level-of-requires c κs = let s = c .before in slot-in (s .args .pool .now) (s .args .s) (s .pre .0 .right) (here-node (s .pre .1 .0) .slot)
 
--- src/lib.rt:119:9
 nine-entries-requires : tie.Need-nine-entries-requires
-nine-entries-requires c κs = let s = c .before .before .before in let w = s .args .pool .now in let h = s .pre .1 .0 in let r = s .pre .0 .right in (slot-in w (s .args .s) r (here-node h .slot), omega (arith, here-node h .few))
+nine-entries-requires c κs =
+    let start = c .before .before .before in
+    let w = start .args .pool .now in
+    let h = start .pre .1 .0 in
+    let r = start .pre .0 .right in
+    (slot-in w (start .args .s) r (here-node h .slot), omega (arith, here-node h .few))
 
--- src/lib.rt:120:31
 rects-of-requires : tie.Need-rects-of-requires
-rects-of-requires c κs = let s = c .before .before .before .before in let w = s .args .pool .now in let h = s .pre .1 .0 in let r = s .pre .0 .right in let few = most-slots w r in let full = s .pre .1 .1 .0 in nine-length h few full (c .nine-entries .result) (c .nine-entries .ensures)
+rects-of-requires c κs =
+    let start = c .before .before .before .before in
+    let w = start .args .pool .now in
+    let h = start .pre .1 .0 in
+    let r = start .pre .0 .right in
+    let few = most-slots w r in
+    let full = start .pre .1 .1 .0 in
+    nine-length h few full (c .nine-entries .result) (c .nine-entries .ensures)
 
--- src/lib.rt:120:9
 split-nine-requires : tie.Need-split-nine-requires
-split-nine-requires c κs = let s = c .before .before .before .before .before in let w = s .args .pool .now in let h = s .pre .1 .0 in let r = s .pre .0 .right in let few = most-slots w r in let full = s .pre .1 .1 .0 in nine-valid h few full (c .before .nine-entries .result) (c .before .nine-entries .ensures) (c .rects-of .result) (c .rects-of .ensures)
+split-nine-requires c κs =
+    let start = c .before .before .before .before .before in
+    let nine-entries = c .before .nine-entries in
+    let w = start .args .pool .now in
+    let h = start .pre .1 .0 in
+    let r = start .pre .0 .right in
+    let few = most-slots w r in
+    let full = start .pre .1 .1 .0 in
+    nine-valid h few full (nine-entries .result) (nine-entries .ensures) (c .rects-of .result) (c .rects-of .ensures)
 
--- src/lib.rt:125:5
 put-group-requires : tie.Need-put-group-requires
-put-group-requires c κs = let s = c .before .before .before .before .before .before .before .before .before in let w = s .args .pool .now in let h = s .pre .1 .0 in let r = s .pre .0 .right in let few = most-slots w r in let full = s .pre .1 .1 .0 in let es = c .before .before .before .before .before .nine-entries .result in let is = c .before .before .before .before .before .nine-entries .ensures in let g = c .before .before .before .split-nine .ensures .1 .1 in (s .pre .0, (slot-in w (s .args .s) r (here-node h .slot), (omega (arith, here-level h, c .before .before .before .before .before .before .before .level-of .ensures), (omega (arith, g .all, g .ones, g .twos), (nine-length h few full es is, (search needs, (nine-small h few full es is, nine-kind h few full es is (c .before .before .before .before .before .before .before .level-of .result) (c .before .before .before .before .before .before .before .level-of .ensures))))))))
+put-group-requires c κs =
+    let start = c .before .before .before .before .before .before .before .before .before in
+    let level-of = c .before .before .before .before .before .before .before .level-of in
+    let nine-entries = c .before .before .before .before .before .nine-entries in
+    let w = start .args .pool .now in
+    let h = start .pre .1 .0 in
+    let r = start .pre .0 .right in
+    let few = most-slots w r in
+    let full = start .pre .1 .1 .0 in
+    let es = nine-entries .result in
+    let is = nine-entries .ensures in
+    let g = c .before .before .before .split-nine .ensures .1 .1 in (
+      start .pre .0,
+      (
+        slot-in w (start .args .s) r (here-node h .slot),
+        (
+          omega (arith, here-level h, level-of .ensures),
+          (
+            omega (arith, g .all, g .ones, g .twos),
+            (
+              nine-length h few full es is,
+              (search needs, (nine-small h few full es is, nine-kind h few full es is (level-of .result) (level-of .ensures))),
+            ),
+          ),
+        ),
+      ),
+    )
 
--- src/lib.rt:126:5
 put-group-requires-2 : tie.Need-put-group-requires-2
-put-group-requires-2 c κs = let s = c .before .before .before .before .before .before .before .before .before .before .before .before in let w = s .args .pool .now in let h = s .pre .1 .0 in let r = s .pre .0 .right in let few = most-slots w r in let full = s .pre .1 .1 .0 in let low = s .pre .1 .1 .1 in let es = c .before .before .before .before .before .before .before .before .nine-entries .result in let is = c .before .before .before .before .before .before .before .before .nine-entries .ensures in let g = c .before .before .before .before .before .before .split-nine .ensures .1 .1 in (c .before .before .put-group .ensures .1, (slot-in (c .before .before .put-group .last .0) (s .args .t) (c .before .before .put-group .ensures .1 .right) (slot-kept (s .args .s) (s .args .t) _ (lowest-slot (read w) (s .args .t) low) (c .before .before .put-group .ensures .0)), (omega (arith, here-level h, c .before .before .before .before .before .before .before .before .before .before .level-of .ensures), (omega (arith, g .all, g .ones, g .twos), (nine-length h few full es is, (search needs, (nine-small h few full es is, nine-kind h few full es is (c .before .before .before .before .before .before .before .before .before .before .level-of .result) (c .before .before .before .before .before .before .before .before .before .before .level-of .ensures))))))))
+put-group-requires-2 c κs =
+    let start = c .before .before .before .before .before .before .before .before .before .before .before .before in
+    let level-of = c .before .before .before .before .before .before .before .before .before .before .level-of in
+    let nine-entries = c .before .before .before .before .before .before .before .before .nine-entries in
+    let put-group = c .before .before .put-group in
+    let w = start .args .pool .now in
+    let h = start .pre .1 .0 in
+    let r = start .pre .0 .right in
+    let few = most-slots w r in
+    let full = start .pre .1 .1 .0 in
+    let low = start .pre .1 .1 .1 in
+    let es = nine-entries .result in
+    let is = nine-entries .ensures in
+    let g = c .before .before .before .before .before .before .split-nine .ensures .1 .1 in (
+      put-group .ensures .1,
+      (
+        slot-in (put-group .last .0) (start .args .t) (put-group .ensures .1 .right)
+            (slot-kept (start .args .s) (start .args .t) _ (lowest-slot (read w) (start .args .t) low) (put-group .ensures .0)),
+        (
+          omega (arith, here-level h, level-of .ensures),
+          (
+            omega (arith, g .all, g .ones, g .twos),
+            (
+              nine-length h few full es is,
+              (search needs, (nine-small h few full es is, nine-kind h few full es is (level-of .result) (level-of .ensures))),
+            ),
+          ),
+        ),
+      ),
+    )
 
--- src/lib.rt:127:9
 cover-of-requires : tie.Need-cover-of-requires
 cover-of-requires c κs =
     let s = c .before .before .before .before .before .before .before .before .before .before .before .before .before .before .before in
@@ -52,13 +120,33 @@ cover-of-requires c κs =
     let kept = slot-kept (s .args .s) (s .args .t) _ (lowest-slot (read (s .args .pool .now)) (s .args .t) low) (first .ensures .0) in
     slot-in (second .last .0) (s .args .t) (second .ensures .1 .right) (slot-kept (s .args .t) (s .args .t) _ kept (second .ensures .0))
 
--- src/lib.rt:110:1
 same-length : tie.Need-same-length
 same-length c = search needs
 
--- src/lib.rt:110:1
 returns : tie.Need-returns
-returns c = let s = c .before .before .before .before .before .before .before .before .before .before .before .before .before .before .before .before in let h = s .pre .1 .0 in let full = s .pre .1 .1 .0 in let low = s .pre .1 .1 .1 in let a : Parts h full low (c .before .before .before .before .before .before .before .before .before .before .before .before .nine-entries .result) (c .before .before .before .before .before .before .before .before .before .before .before .rects-of .result) (c .before .before .before .before .before .before .before .before .before .before .split-nine .result) = record { entries = c .before .before .before .before .before .before .before .before .before .before .before .before .nine-entries .ensures; rects-are = c .before .before .before .before .before .before .before .before .before .before .before .rects-of .ensures; one = c .before .before .before .before .before .before .before .before .before .before .split-nine .ensures .0; two = c .before .before .before .before .before .before .before .before .before .before .split-nine .ensures .1 .0; whole = c .before .before .before .before .before .before .before .before .before .before .split-nine .ensures .1 .1 } in (split-made h full low a (c .before .before .before .before .before .before .before .before .before .before .before .before .before .before .level-of .result) (c .before .before .before .before .before .before .before .before .before .before .before .before .before .before .level-of .ensures) (read (c .before .before .before .before .before .before .put-group .last .0)) (read (c .before .before .before .put-group2 .last .0)) (c .before .before .before .before .before .before .put-group .ensures .0) (c .before .before .before .put-group2 .ensures .0) (c .cover-of .result) (c .cover-of .ensures), c .before .before .before .put-group2 .ensures .1)
+returns c =
+    let at-put-group = c .before .before .before .before .before .before in
+    let start = at-put-group .before .before .before .before .before .before .before .before .before .before in
+    let level-of = at-put-group .before .before .before .before .before .before .before .before .level-of in
+    let nine-entries = at-put-group .before .before .before .before .before .before .nine-entries in
+    let rects-of = at-put-group .before .before .before .before .before .rects-of in
+    let split-nine = at-put-group .before .before .before .before .split-nine in
+    let put-group = at-put-group .put-group in
+    let put-group2 = c .before .before .before .put-group2 in
+    let h = start .pre .1 .0 in
+    let full = start .pre .1 .1 .0 in
+    let low = start .pre .1 .1 .1 in
+    let a : Parts h full low (nine-entries .result) (rects-of .result) (split-nine .result) = record {
+      entries = nine-entries .ensures;
+      rects-are = rects-of .ensures;
+      one = split-nine .ensures .0;
+      two = split-nine .ensures .1 .0;
+      whole = split-nine .ensures .1 .1;
+    } in (
+      split-made h full low a (level-of .result) (level-of .ensures) (read (put-group .last .0)) (read (put-group2 .last .0))
+          (put-group .ensures .0) (put-group2 .ensures .0) (c .cover-of .result) (c .cover-of .ensures),
+      put-group2 .ensures .1,
+    )
 
 pub split-node-spec : {M : Type 1} → statement M
 split-node-spec =

@@ -1,4 +1,4 @@
--- `inserting::too_few` meets its contract: with one free slot more than levels there are enough.
+-- `insert::too_few` meets its contract: with one free slot more than levels there are enough.
 use borrow.Author.Needs.{needs}
 use mathlib.Core.Path.{refl, ap}
 use Prim.Native.Nat.{_-_}
@@ -12,19 +12,33 @@ use Rattle.insert.proofs.too_few.Lts as lts
 use Rattle.insert.proofs.needed.Reads as needed-reads
 use Rattle.pool.proofs.height_of.Reads as height-of-reads
 
--- src/lib.rt:293:8
 height-of-requires : tie.Need-height-of-requires
 height-of-requires c κs = search needs
 
--- src/lib.rt:294:9
 returns : tie.Need-returns
-returns c = let s = c .before .before in let p = read (s .args .pool .now) in let u = s .pre .1 .0 in let low = s .pre .1 .1 .0 .0 in let high = s .pre .1 .1 .0 .1 in let f = s .pre .1 .1 .1 in enough-free p (s .args .level) (s .args .e) u low high f (s .args .free .count) (c .before .height-of .result) (c .before .height-of .ensures) (c .if1 .taken)
+returns c =
+    let start = c .before .before in
+    let height-of = c .before .height-of in
+    let p = read (start .args .pool .now) in
+    let u = start .pre .1 .0 in
+    let low = start .pre .1 .1 .0 .0 in
+    let high = start .pre .1 .1 .0 .1 in
+    let f = start .pre .1 .1 .1 in
+    enough-free p (start .args .level) (start .args .e) u low high f (start .args .free .count) (height-of .result) (height-of .ensures)
+    (c .if1 .taken)
 
--- src/lib.rt:296:13
 needed-requires : tie.Need-needed-requires
-needed-requires c κs = let s = c .before .before in let p = read (s .args .pool .now) in let u = s .pre .1 .0 in let low = s .pre .1 .1 .0 .0 in let high = s .pre .1 .1 .0 .1 in let f = s .pre .1 .1 .1 in (s .pre .0, (low, root-way p (s .args .level) (s .args .e) u low high f (p .height - s .args .level) refl (p .root) refl))
+needed-requires c κs =
+    let start = c .before .before in
+    let p = read (start .args .pool .now) in
+    let u = start .pre .1 .0 in
+    let low = start .pre .1 .1 .0 .0 in
+    let high = start .pre .1 .1 .0 .1 in
+    let f = start .pre .1 .1 .1 in (
+      start .pre .0,
+      (low, root-way p (start .args .level) (start .args .e) u low high f (p .height - start .args .level) refl (p .root) refl),
+    )
 
--- src/lib.rt:285:1
 returns-2 : tie.Need-returns-2
 returns-2 c = let s = c .before .before .before in ap (ltb (s .args .free .count)) (c .needed .ensures)
 

@@ -1,6 +1,5 @@
 use mathlib.Core.Path.{_∙_, ap}
 use mathlib.Core.Bool.{Bool, _&&_}
-use mathlib.Core.Path.{_∙_}
 use borrow.Author.Needs.{needs}
 use Rattle.map.proofs.also_request.Statement.{statement}
 use Rattle.map.proofs.also_request.Tie as tie

@@ -38,9 +38,10 @@ returns-2 c =
 
 sound-requires : tie.Need-sound-requires
 sound-requires c κs =
-    let lengths = c .before .before in
-    let given = lengths .before .before .args in
-    right-first (validLength (given .pool .now)) (eqb (given .workspace) (length (given .pool .now))) (sym (lengths .lengths-fit .ensures) ∙ c .if2 .left)
+    let start = c .before .before .before .before in
+    let lengths-fit = c .before .before .lengths-fit in
+    right-first (validLength (start .args .pool .now)) (eqb (start .args .workspace) (length (start .args .pool .now)))
+    (sym (lengths-fit .ensures) ∙ c .if2 .left)
 
 -- the pool is not sound
 returns-3 : tie.Need-returns-3

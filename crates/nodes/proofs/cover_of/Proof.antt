@@ -52,7 +52,10 @@ loop-holds c =
     record { size = n; rest = rw (c .rect-of .ensures) (first es (omega (arith, n, c .before .if1 .left))) }
 
 rect-of-requires-2 : tie.Need-rect-of-requires-2 Inv-loop μ-loop
-rect-of-requires-2 c κs = (c .before .before .before .before .before .pre, omega (arith, c .loop-test .taken, c .before .before .before .before .count-of .ensures .0))
+rect-of-requires-2 c κs =
+    let start = c .before .before .before .before .before in
+    let count-of = c .before .before .before .before .count-of in
+    (start .pre, omega (arith, c .loop-test .taken, count-of .ensures .0))
 
 cover-requires : tie.Need-cover-requires Inv-loop μ-loop
 cover-requires c κs = search needs

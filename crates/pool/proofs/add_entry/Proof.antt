@@ -47,10 +47,15 @@ cast-pool : tie.Need-cast-pool
 cast-pool c = search needs
 
 mul-t13 : tie.Need-mul-t13
-mul-t13 c = record { fits = omega (arith, c .count-place .ensures, few (c .before .before .before .before .before .before .before .pre .1 .0)) }
+mul-t13 c =
+    let start = c .before .before .before .before .before .before .before in
+    record { fits = omega (arith, c .count-place .ensures, few (start .pre .1 .0)) }
 
 slice-set-from-pool : tie.Need-slice-set-from-pool
-slice-set-from-pool c = omega (arith, c .count-place .ensures, c .before .before .put-entry .kept .0, room (c .before .before .before .before .before .before .before .pre .1 .0))
+slice-set-from-pool c =
+    let start = c .before .before .before .before .before .before .before in
+    let put-entry = c .before .before .put-entry in
+    omega (arith, c .count-place .ensures, put-entry .kept .0, room (start .pre .1 .0))
 
 same-length : tie.Need-same-length
 same-length c = search needs

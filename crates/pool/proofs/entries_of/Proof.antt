@@ -26,7 +26,11 @@ record Turn (all : List Entry) (n : ℕ) (es : List Entry) (i : ℕ) : Type 0 wh
   nine : length es ≡ most + 1
   is : take i es ≡ take i all
 
-turn : {all : List Entry} {n : ℕ} {es : List Entry} {i : ℕ} (e : Entry) → Turn all n es i → i < n → e ≡ getD all i noEntry → Turn all n (set es i e) (i + 1)
+turn : {all : List Entry} {n : ℕ} {es : List Entry} {i : ℕ} (e : Entry)
+    → Turn all n es i
+    → i < n
+    → e ≡ getD all i noEntry
+    → Turn all n (set es i e) (i + 1)
 turn {all} {n} {es} {i} e t h q =
     let l : i < length es = omega (arith, t .nine, t .few) in
     record {
@@ -55,7 +59,9 @@ loop-holds c =
     record { size = n .0; few = n .1; many = omega arith; nine = search needs; is = refl }
 
 entry-of-requires : tie.Need-entry-of-requires Inv-loop μ-loop
-entry-of-requires c κs = (c .before .before .before .before .pre, omega (arith, c .loop-test .taken, c .before .loop .inv .size))
+entry-of-requires c κs =
+    let start = c .before .before .before .before in
+    (start .pre, omega (arith, c .loop-test .taken, c .before .loop .inv .size))
 
 mul-es : tie.Need-mul-es Inv-loop μ-loop
 mul-es c = omega (arith, c .before .loop-test .taken, c .before .before .loop .inv .few)

@@ -15,7 +15,10 @@ entry-pointer-requires : tie.Need-entry-pointer-requires
 entry-pointer-requires c κs = search needs
 
 returns : tie.Need-returns
-returns c = let s = c .before .before in rw (c .before .rect-of .ensures, c .entry-pointer .ensures) (entry-parts (read (s .args .pool .now)) (s .args .s) (s .args .i))
+returns c =
+    let start = c .before .before in
+    rw (c .before .rect-of .ensures, c .entry-pointer .ensures)
+    (entry-parts (read (start .args .pool .now)) (start .args .s) (start .args .i))
 
 pub entry-of-spec : {M : Type 1} → statement M
 entry-of-spec = tie.close (tie.spec rect-of-requires entry-pointer-requires returns)

@@ -17,7 +17,10 @@ enum-known-p-2 : tie.Need-enum-known-p-2
 enum-known-p-2 c = search needs
 
 cast-result : tie.Need-cast-result
-cast-result c = small-fits (c .before .before .before .args .p) (c .before .p2 .given .0 .0) (c .before .p2 .given .1) (c .before .before .before .pre)
+cast-result c =
+    let start = c .before .before .before in
+    let p2 = c .before .p2 in
+    small-fits (start .args .p) (p2 .given .0 .0) (p2 .given .1) (start .pre)
 
 returns : tie.Need-returns
 unfolding pointerWord

@@ -16,12 +16,17 @@ spot-requires : tie.Need-spot-requires
 spot-requires c κs = let i = c .pre .0 in ((i .low, few i), omega (arith, slot-few i, c .pre .1))
 
 rect-at-requires : tie.Need-rect-at-requires
-rect-at-requires c κs = let i = c .before .pre .0 in omega (arith, c .spot .ensures, spot-inside i (c .before .args .i) (omega (arith, slot-few i, c .before .pre .1)))
+rect-at-requires c κs =
+    let start = c .before in
+    let i = start .pre .0 in
+    omega (arith, c .spot .ensures, spot-inside i (start .args .i) (omega (arith, slot-few i, start .pre .1)))
 
 returns : tie.Need-returns
 returns c =
-    let s = c .before .before in
-    c .rect-at .ensures ∙ ap (λ (k : ℕ). rectOf (drop k (s .args .pool .now))) (c .before .spot .ensures) ∙ spot-rect (s .pre .0) (s .args .i) (s .pre .1)
+    let start = c .before .before in
+    c .rect-at .ensures
+    ∙ ap (λ (k : ℕ). rectOf (drop k (start .args .pool .now))) (c .before .spot .ensures)
+    ∙ spot-rect (start .pre .0) (start .args .i) (start .pre .1)
 
 pub rect-of-spec : {M : Type 1} → statement M
 rect-of-spec = tie.close (tie.spec spot-requires rect-at-requires returns)

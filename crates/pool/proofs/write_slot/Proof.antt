@@ -98,17 +98,18 @@ add-put-entry-2 c =
 
 put-entry-requires : tie.Need-put-entry-requires Inv-loop μ-loop
 put-entry-requires c κs =
-    let s = c .before .before .before .before .before in
-    let w = s .args .pool .now in
-    let at = c .before .before .before .before .slot-start .result in
-    let l = c .before .before .before .loop in
-    let z = length-set w at (toZ w32 (s .args .level)) in
-    let y = length-set (set w at (toZ w32 (s .args .level))) (at + 1) (toZ w32 (s .args .n)) in
-    let r = room (s .pre .0) in
-    let b = c .before .before .before .before .slot-start .ensures in
+    let start = c .before .before .before .before .before in
+    let slot-start = c .before .before .before .before .slot-start in
+    let loop = c .before .before .before .loop in
+    let w = start .args .pool .now in
+    let at = slot-start .result in
+    let z = length-set w at (toZ w32 (start .args .level)) in
+    let y = length-set (set w at (toZ w32 (start .args .level))) (at + 1) (toZ w32 (start .args .n)) in
+    let r = room (start .pre .0) in
+    let b = slot-start .ensures in
     let t = c .before .before .loop-test .taken in
-    let long = l .inv .size in
-    (omega arith, rw (c .before .used .ensures) (used-small (s .args .es) (s .args .n) (l .i) (s .pre .1 .1 .1)))
+    let long = loop .inv .size in
+    (omega arith, rw (c .before .used .ensures) (used-small (start .args .es) (start .args .n) (loop .i) (start .pre .1 .1 .1)))
 
 add-i : tie.Need-add-i Inv-loop μ-loop
 add-i c = search needs
@@ -118,19 +119,21 @@ loop-less c = search needs
 
 loop-again : tie.Need-loop-again Inv-loop μ-loop
 loop-again c =
-    let s = c .before .before .before .before .before .before .before in
-    let at = c .before .before .before .before .before .before .slot-start .result + slotHead in
-    let i = c .before .before .before .before .before .loop .i in
-    let l = c .before .before .before .before .before .loop .inv in
-    let put = c .before .put-entry in
+    let start = c .before .before .before .before .before .before .before in
+    let slot-start = c .before .before .before .before .before .before .slot-start in
+    let loop = c .before .before .before .before .before .loop in
+    let put-entry = c .before .put-entry in
+    let at = slot-start .result + slotHead in
+    let i = loop .i in
+    let l = loop .inv in
     let e = c .before .before .before .used .ensures in
     record {
       many = omega arith;
       nine = l .nine;
-      size = put .kept .0 ∙ l .size;
-      is =
-          put .ensures ∙ ap₂ (λ (x : List ℤ) (y : Entry). sets x (at + entrySize * i) (entryWords y)) (l .is) e
-          ∙ front-more (s .args .es) (s .args .n) _ at i;
+      size = put-entry .kept .0 ∙ l .size;
+      is = put-entry .ensures
+          ∙ ap₂ (λ (x : List ℤ) (y : Entry). sets x (at + entrySize * i) (entryWords y)) (l .is) e
+          ∙ front-more (start .args .es) (start .args .n) _ at i;
     }
 
 same-length : tie.Need-same-length Inv-loop μ-loop

@@ -7,91 +7,69 @@ use Rattle.request.proofs.answer_of.Reads as reads
 use Rattle.request.proofs.answer_of.Lts as lts
 use Rattle.request.proofs.zeros.Reads as zeros-reads
 
--- src/lib.rt:89:27
 enum-told : tie.Need-enum-told
 enum-told c = search needs
 
--- src/lib.rt:89:27
 zeros-requires : tie.Need-zeros-requires
 zeros-requires c κs = search needs
 
--- src/lib.rt:90:25
 enum-known-reply : tie.Need-enum-known-reply
 enum-known-reply c = search needs
 
--- src/lib.rt:96:32
 enum-told-2 : tie.Need-enum-told-2
 enum-told-2 c = search needs
 
--- src/lib.rt:96:32
 zeros-requires-2 : tie.Need-zeros-requires-2
 zeros-requires-2 c κs = search needs
 
--- src/lib.rt:97:29
 enum-told-3 : tie.Need-enum-told-3
 enum-told-3 c = search needs
 
--- src/lib.rt:97:29
 zeros-requires-3 : tie.Need-zeros-requires-3
 zeros-requires-3 c κs = search needs
 
--- src/lib.rt:98:27
 enum-told-4 : tie.Need-enum-told-4
 enum-told-4 c = search needs
 
--- src/lib.rt:98:27
 zeros-requires-4 : tie.Need-zeros-requires-4
 zeros-requires-4 c κs = search needs
 
--- src/lib.rt:99:24
 enum-told-5 : tie.Need-enum-told-5
 enum-told-5 c = search needs
 
--- src/lib.rt:99:24
 zeros-requires-5 : tie.Need-zeros-requires-5
 zeros-requires-5 c κs = search needs
 
--- src/lib.rt:100:26
 enum-told-6 : tie.Need-enum-told-6
 enum-told-6 c = search needs
 
--- src/lib.rt:100:26
 zeros-requires-6 : tie.Need-zeros-requires-6
 zeros-requires-6 c κs = search needs
 
--- src/lib.rt:101:25
 enum-known-reply-2 : tie.Need-enum-known-reply-2
 enum-known-reply-2 c = search needs
 
--- src/lib.rt:85:1
 returns : tie.Need-returns
 returns c = c .zeros .ensures ∙ tell-changed (c .before .before .before .args .reply) (c .before .enum-told .given .1)
 
--- src/lib.rt:85:1
 returns-2 : tie.Need-returns-2
 returns-2 c = tell-listed (c .before .before .before .args .reply) _ _ _ (c .before .reply .given .1)
 
--- src/lib.rt:85:1
 returns-3 : tie.Need-returns-3
 returns-3 c = c .zeros2 .ensures ∙ tell-rectangle (c .before .before .before .args .reply) (c .before .enum-told2 .given .1)
 
--- src/lib.rt:85:1
 returns-4 : tie.Need-returns-4
 returns-4 c = c .zeros3 .ensures ∙ tell-number (c .before .before .before .args .reply) (c .before .enum-told3 .given .1)
 
--- src/lib.rt:85:1
 returns-5 : tie.Need-returns-5
 returns-5 c = c .zeros4 .ensures ∙ tell-none (c .before .before .before .args .reply) (c .before .enum-told4 .given .1)
 
--- src/lib.rt:85:1
 returns-6 : tie.Need-returns-6
 returns-6 c = c .zeros5 .ensures ∙ tell-held (c .before .before .before .args .reply) (c .before .enum-told5 .given .1)
 
--- src/lib.rt:85:1
 returns-7 : tie.Need-returns-7
 returns-7 c = c .zeros6 .ensures ∙ tell-slot (c .before .before .before .args .reply) (c .before .enum-told6 .given .1)
 
--- src/lib.rt:85:1
 returns-8 : tie.Need-returns-8
 returns-8 c = tell-room (c .before .before .before .args .reply) _ _ (c .before .reply2 .given .1)
 

@@ -2,7 +2,6 @@ use mathlib.Core.Path.{refl, subst}
 use mir.Syntax.{w32}
 use mir.Facts.{toZ-ofZ}
 use borrow.Author.Needs.{sfits-of}
-use mathlib.Core.Path.{refl}
 -- `copy` meets its contract: a turn copies one word more.
 use borrow.Author.Needs.{needs}
 use mathlib.Core.Path.{_≡_, sym, _∙_}
@@ -24,7 +23,10 @@ record Turn (source target₀ target : List ℤ) (i : ℕ) : Type 0 where
   size : length target ≡ length target₀
   is : (k : ℕ) → k < i → getD target k (pos 0) ≡ getD source k (pos 0)
 
-one-more : (source target₀ target : List ℤ) (i : ℕ) → Turn source target₀ target i → i < length target₀ → Turn source target₀ (set target i (getD source i (pos 0))) (i + 1)
+one-more : (source target₀ target : List ℤ) (i : ℕ)
+    → Turn source target₀ target i
+    → i < length target₀
+    → Turn source target₀ (set target i (getD source i (pos 0))) (i + 1)
 one-more source target₀ target i t h = record { most = omega arith; size = length-set target i _ ∙ t .size; is = λ k b. go k b (ℕ-discrete k i) }
   where
     go : (k : ℕ) → k < i + 1 → Dec (k ≡ i) → getD (set target i (getD source i (pos 0))) k (pos 0) ≡ getD source k (pos 0)
@@ -37,45 +39,46 @@ Inv-loop source target₀ i₀ target i = Turn source target₀ target i
 abbrev μ-loop : tie.MeasureT-loop
 μ-loop source target₀ i₀ target i = length target₀ - i
 
--- src/lib.rt:72:5
 loop-holds : tie.Need-loop-holds Inv-loop μ-loop
 loop-holds c = record { most = omega arith; size = refl; is = λ k b. absurd (omega arith) }
 
--- src/lib.rt:73:21
 mul-target : tie.Need-mul-target Inv-loop μ-loop
 mul-target c = search needs
 
--- src/lib.rt:73:21
 shared-slice-copy-out-target : tie.Need-shared-slice-copy-out-target Inv-loop μ-loop
 shared-slice-copy-out-target c = omega (arith, c .before .before .pre, c .before .loop .inv .size, c .loop-test .taken)
 
--- src/lib.rt:73:9
 mul-t8 : tie.Need-mul-t8 Inv-loop μ-loop
 mul-t8 c = search needs
 
--- src/lib.rt:73:9
 slice-set-from-target : tie.Need-slice-set-from-target Inv-loop μ-loop
 slice-set-from-target c = omega (arith, c .before .before .loop .inv .size, c .before .loop-test .taken)
 
--- src/lib.rt:74:9
 add-i : tie.Need-add-i Inv-loop μ-loop
 add-i c = search needs
 
--- src/lib.rt:72:5
 loop-less : tie.Need-loop-less Inv-loop μ-loop
 loop-less c = search needs
 
--- src/lib.rt:72:5
 loop-again : tie.Need-loop-again Inv-loop μ-loop
-loop-again c = let s = c .before .before .before .args .source .now in let l = c .before .before .loop in subst (λ (z : ℤ). Turn s (c .before .before .before .args .target .now) (set (l .target) (l .i) z) (l .i + 1)) (sym (toZ-ofZ {w = w32} {z = getD s (l .i) (pos 0)} (sfits-of (c .target .given)))) (one-more s (c .before .before .before .args .target .now) (l .target) (l .i) (l .inv) (omega (arith, l .inv .size, c .before .loop-test .taken)))
+loop-again c =
+    let start = c .before .before .before in
+    let loop = c .before .before .loop in
+    let s = start .args .source .now in
+    subst (λ (z : ℤ). Turn s (start .args .target .now) (set (loop .target) (loop .i) z) (loop .i + 1))
+    (sym (toZ-ofZ {w = w32} {z = getD s (loop .i) (pos 0)} (sfits-of (c .target .given))))
+    (one-more s (start .args .target .now) (loop .target) (loop .i) (loop .inv)
+    (omega (arith, loop .inv .size, c .before .loop-test .taken)))
 
--- src/lib.rt:67:1
 same-length : tie.Need-same-length Inv-loop μ-loop
 same-length c = c .before .loop .inv .size
 
--- src/lib.rt:67:1
 returns : tie.Need-returns Inv-loop μ-loop
-returns c = let s = c .before .before .args .source .now in let l = c .before .loop in ext-getD (pos 0) (l .target) s (l .inv .size ∙ sym (c .before .before .pre)) (λ k b. l .inv .is k (omega (arith, c .loop-test .left)))
+returns c =
+    let start = c .before .before in
+    let loop = c .before .loop in
+    let s = start .args .source .now in
+    ext-getD (pos 0) (loop .target) s (loop .inv .size ∙ sym (start .pre)) (λ k b. loop .inv .is k (omega (arith, c .loop-test .left)))
 
 pub copy-spec : {M : Type 1} → statement M
 copy-spec =

@@ -20,77 +20,139 @@ use Rattle.request.proofs.scarce.Reads as scarce-reads
 use Rattle.request.proofs.take_back.Reads as take-back-reads
 use Rattle.request.proofs.told.Reads as told-reads
 
--- src/lib.rt:194:9
 valid-requires : tie.Need-valid-requires
 valid-requires c κs = search needs
 
--- src/lib.rt:195:9
 told-requires : tie.Need-told-requires
 told-requires c κs = search needs
 
--- src/lib.rt:195:9
 returns : tie.Need-returns
-returns c = rw (c .told .ensures) (row-applies (c .before .before .before .before .before .args .pool .now) (c .before .before .before .before .before .args .free) (c .before .before .before .before .before .pre .0) (Delete (c .before .before .before .before .before .args .r)) BadRectangle (λ filled room. delete-3 _ filled room (c .before .before .before .before .before .args .r) (sym (c .before .before .valid .ensures) ∙ not-true _ (c .before .if1 .taken))), refl)
+returns c =
+    let start = c .before .before .before .before .before in
+    let valid = c .before .before .valid in
+    rw (c .told .ensures) (
+      row-applies (start .args .pool .now) (start .args .free) (start .pre .0) (Delete (start .args .r)) BadRectangle
+          (λ filled room. delete-3 _ filled room (start .args .r) (sym (valid .ensures) ∙ not-true _ (c .before .if1 .taken))),
+      refl,
+    )
 
--- src/lib.rt:197:9
 good-number-requires : tie.Need-good-number-requires
 good-number-requires c κs = search needs
 
--- src/lib.rt:198:9
 told-requires-2 : tie.Need-told-requires-2
 told-requires-2 c κs = search needs
 
--- src/lib.rt:198:9
 returns-2 : tie.Need-returns-2
-returns-2 c = rw (c .told2 .ensures) (row-applies (c .before .before .before .before .before .before .before .args .pool .now) (c .before .before .before .before .before .before .before .args .free) (c .before .before .before .before .before .before .before .pre .0) (Delete (c .before .before .before .before .before .before .before .args .r)) BadNumber (λ filled room. delete-4 _ filled room (c .before .before .before .before .before .before .before .args .r) (sym (c .before .before .before .before .valid .ensures) ∙ not-false _ (c .before .before .before .if1 .left)) (sym (c .before .before .good-number .ensures) ∙ not-true _ (c .before .if2 .taken))), refl)
+returns-2 c =
+    let start = c .before .before .before .before .before .before .before in
+    let valid = c .before .before .before .before .valid in
+    let if1 = c .before .before .before .if1 in
+    let good-number = c .before .before .good-number in
+    rw (c .told2 .ensures) (
+      row-applies (start .args .pool .now) (start .args .free) (start .pre .0) (Delete (start .args .r)) BadNumber
+          (λ filled room. delete-4 _ filled room (start .args .r) (sym (valid .ensures) ∙ not-false _ (if1 .left))
+          (sym (good-number .ensures) ∙ not-true _ (c .before .if2 .taken))),
+      refl,
+    )
 
--- src/lib.rt:200:9
 find-leaf-requires : tie.Need-find-leaf-requires
-find-leaf-requires c κs = ((c .before .before .before .before .before .before .before .pre .0) .right, (low-enough (c .before .before .before .before .before .before .before .args .pool .now) ((c .before .before .before .before .before .before .before .pre .0) .right) (ready-whole (c .before .before .before .before .before .before .before .args .pool .now) (c .before .before .before .before .before .before .before .args .free) (c .before .before .before .before .before .before .before .pre .0))))
+find-leaf-requires c κs =
+    let start = c .before .before .before .before .before .before .before in (
+      (start .pre .0) .right,
+      (low-enough (start .args .pool .now) ((start .pre .0) .right)
+          (ready-whole (start .args .pool .now) (start .args .free) (start .pre .0))),
+    )
 
--- src/lib.rt:202:9
 told-requires-3 : tie.Need-told-requires-3
 told-requires-3 c κs = search needs
 
--- src/lib.rt:202:9
 same-length : tie.Need-same-length
 same-length c = search needs
 
--- src/lib.rt:202:9
 returns-3 : tie.Need-returns-3
-returns-3 c = rw (c .told3 .ensures) (row-applies (c .before .before .before .before .before .before .before .before .before .before .before .args .pool .now) (c .before .before .before .before .before .before .before .before .before .before .before .args .free) (c .before .before .before .before .before .before .before .before .before .before .before .pre .0) (Delete (c .before .before .before .before .before .before .before .before .before .before .before .args .r)) NotHeld (λ filled room. delete-5 _ filled room (c .before .before .before .before .before .before .before .before .before .before .before .args .r) (sym (c .before .before .before .before .before .before .before .before .valid .ensures) ∙ not-false _ (c .before .before .before .before .before .before .before .if1 .left)) (sym (c .before .before .before .before .before .before .good-number .ensures) ∙ not-false _ (c .before .before .before .before .before .if2 .left)) (sym (shows-held _ (c .before .before .before .before .before .before .before .before .before .before .before .args .r) (c .before .before .before .find-leaf .result) (ready-whole (c .before .before .before .before .before .before .before .before .before .before .before .args .pool .now) (c .before .before .before .before .before .before .before .before .before .before .before .args .free) (c .before .before .before .before .before .before .before .before .before .before .before .pre .0)) (c .before .before .before .find-leaf .ensures)) ∙ not-true _ (c .before .if3 .taken))), refl)
+returns-3 c =
+    let start = c .before .before .before .before .before .before .before .before .before .before .before in
+    let valid = c .before .before .before .before .before .before .before .before .valid in
+    let if1 = c .before .before .before .before .before .before .before .if1 in
+    let good-number = c .before .before .before .before .before .before .good-number in
+    let if2 = c .before .before .before .before .before .if2 in
+    let find-leaf = c .before .before .before .find-leaf in
+    rw (c .told3 .ensures) (
+      row-applies (start .args .pool .now) (start .args .free) (start .pre .0) (Delete (start .args .r)) NotHeld
+          (λ filled room. delete-5 _ filled room (start .args .r) (sym (valid .ensures) ∙ not-false _ (if1 .left))
+          (sym (good-number .ensures) ∙ not-false _ (if2 .left))
+          (sym (shows-held _ (start .args .r) (find-leaf .result) (ready-whole (start .args .pool .now) (start .args .free) (start .pre .0))
+          (find-leaf .ensures))
+          ∙ not-true _ (c .before .if3 .taken))),
+      refl,
+    )
 
--- src/lib.rt:204:22
 scarce-requires : tie.Need-scarce-requires
-scarce-requires c κs = ((c .before .before .before .before .before .before .before .before .before .before .before .before .pre .0) .right, (low-enough (c .before .before .before .before .before .before .before .before .before .before .before .before .args .pool .now) ((c .before .before .before .before .before .before .before .before .before .before .before .before .pre .0) .right) (ready-whole (c .before .before .before .before .before .before .before .before .before .before .before .before .args .pool .now) (c .before .before .before .before .before .before .before .before .before .before .before .before .args .free) (c .before .before .before .before .before .before .before .before .before .before .before .before .pre .0))))
+scarce-requires c κs =
+    let start = c .before .before .before .before .before .before .before .before .before .before .before .before in (
+      (start .pre .0) .right,
+      (low-enough (start .args .pool .now) ((start .pre .0) .right)
+          (ready-whole (start .args .pool .now) (start .args .free) (start .pre .0))),
+    )
 
--- src/lib.rt:204:5
 keep-requires : tie.Need-keep-requires
-keep-requires c κs = sym (c .before .before .before .before .before .before .before .before .before .before .before .before .before .pre .1)
+keep-requires c κs =
+    let start = c .before .before .before .before .before .before .before .before .before .before .before .before .before in
+    sym (start .pre .1)
 
--- src/lib.rt:205:9
 delete-record-requires : tie.Need-delete-record-requires
-delete-record-requires c κs = (ready-fit (c .before .before .before .before .before .before .before .before .before .before .before .before .before .before .before .before .args .pool .now) (c .before .before .before .before .before .before .before .before .before .before .before .before .before .before .before .before .args .free) (c .before .before .before .before .before .before .before .before .before .before .before .before .before .before .before .before .pre .0), (ready-whole (c .before .before .before .before .before .before .before .before .before .before .before .before .before .before .before .before .args .pool .now) (c .before .before .before .before .before .before .before .before .before .before .before .before .before .before .before .before .args .free) (c .before .before .before .before .before .before .before .before .before .before .before .before .before .before .before .before .pre .0), ((c .before .before .before .before .before .before .before .before .before .before .before .before .before .before .before .before .pre .0) .known, (not-false _ (c .before .before .before .before .before .before .if3 .left), c .before .before .before .before .before .before .before .before .find-leaf .ensures))))
+delete-record-requires c κs =
+    let at-find-leaf = c .before .before .before .before .before .before .before .before in
+    let start = at-find-leaf .before .before .before .before .before .before .before .before in
+    let find-leaf = at-find-leaf .find-leaf in
+    let if3 = c .before .before .before .before .before .before .if3 in (
+      ready-fit (start .args .pool .now) (start .args .free) (start .pre .0),
+      (
+        ready-whole (start .args .pool .now) (start .args .free) (start .pre .0),
+        ((start .pre .0) .known, (not-false _ (if3 .left), find-leaf .ensures)),
+      ),
+    )
 
--- src/lib.rt:206:5
 take-back-requires : tie.Need-take-back-requires
-take-back-requires c κs = c .before .before .before .before .before .before .keep .ensures .0 ∙ c .before .before .before .before .before .before .before .before .before .before .before .before .before .before .before .before .before .before .before .before .pre .1 ∙ sym (c .before .before .before .delete-record .kept .0)
+take-back-requires c κs =
+    let at-keep = c .before .before .before .before .before .before in
+    let start = at-keep .before .before .before .before .before .before .before .before .before .before .before .before .before .before in
+    let keep = at-keep .keep in
+    let delete-record = c .before .before .before .delete-record in
+    keep .ensures .0 ∙ start .pre .1 ∙ sym (delete-record .kept .0)
 
--- src/lib.rt:207:5
 came-to-requires : tie.Need-came-to-requires
 came-to-requires c κs = search needs
 
--- src/lib.rt:186:1
 same-length-2 : tie.Need-same-length-2
 same-length-2 c = search needs
 
--- src/lib.rt:186:1
 same-length-3 : tie.Need-same-length-3
 same-length-3 c = search needs
 
--- src/lib.rt:186:1
 returns-4 : tie.Need-returns-4
-returns-4 c = rw (c .came-to .ensures) (delete-changes (c .before .before .before .before .before .before .before .before .before .before .before .before .before .before .before .before .before .before .before .before .before .before .before .args .pool .now) (c .before .before .before .before .before .before .before .before .before .before .before .before .before .before .before .before .before .before .before .before .before .before .before .args .free) (c .before .before .before .before .before .before .before .before .before .before .before .before .before .before .before .before .before .before .before .before .before .before .before .pre .0) (c .before .before .before .before .before .before .before .before .before .before .before .before .before .before .before .before .before .before .before .before .before .before .before .args .r) (sym (c .before .before .before .before .before .before .before .before .before .before .before .before .before .before .before .before .before .before .before .before .valid .ensures) ∙ not-false _ (c .before .before .before .before .before .before .before .before .before .before .before .before .before .before .before .before .before .before .before .if1 .left)) (sym (c .before .before .before .before .before .before .before .before .before .before .before .before .before .before .before .before .before .before .good-number .ensures) ∙ not-false _ (c .before .before .before .before .before .before .before .before .before .before .before .before .before .before .before .before .before .if2 .left)) (sym (shows-held _ (c .before .before .before .before .before .before .before .before .before .before .before .before .before .before .before .before .before .before .before .before .before .before .before .args .r) (c .before .before .before .before .before .before .before .before .before .before .before .before .before .before .before .find-leaf .result) (ready-whole (c .before .before .before .before .before .before .before .before .before .before .before .before .before .before .before .before .before .before .before .before .before .before .before .args .pool .now) (c .before .before .before .before .before .before .before .before .before .before .before .before .before .before .before .before .before .before .before .before .before .before .before .args .free) (c .before .before .before .before .before .before .before .before .before .before .before .before .before .before .before .before .before .before .before .before .before .before .before .pre .0)) (c .before .before .before .before .before .before .before .before .before .before .before .before .before .before .before .find-leaf .ensures)) ∙ not-false _ (c .before .before .before .before .before .before .before .before .before .before .before .before .before .if3 .left)) _ (λ e. c .before .before .before .before .before .before .before .before .before .keep .ensures .1 (c .before .before .before .before .before .before .before .before .before .before .scarce .ensures ∙ e)) _ _ (c .before .before .before .before .before .before .delete-record .ensures) _ (search needs) (c .before .before .take-back .ensures), c .before .before .before .before .before .before .before .before .before .keep .ensures .0)
+returns-4 c =
+    let at-scarce = c .before .before .before .before .before .before .before .before .before .before in
+    let start = at-scarce .before .before .before .before .before .before .before .before .before .before .before .before .before in
+    let valid = at-scarce .before .before .before .before .before .before .before .before .before .before .valid in
+    let if1 = at-scarce .before .before .before .before .before .before .before .before .before .if1 in
+    let good-number = at-scarce .before .before .before .before .before .before .before .before .good-number in
+    let if2 = at-scarce .before .before .before .before .before .before .before .if2 in
+    let find-leaf = at-scarce .before .before .before .before .before .find-leaf in
+    let if3 = at-scarce .before .before .before .if3 in
+    let scarce = at-scarce .scarce in
+    let keep = c .before .before .before .before .before .before .before .before .before .keep in
+    let delete-record = c .before .before .before .before .before .before .delete-record in
+    let take-back = c .before .before .take-back in
+    rw (c .came-to .ensures) (
+      delete-changes (start .args .pool .now) (start .args .free) (start .pre .0) (start .args .r)
+          (sym (valid .ensures) ∙ not-false _ (if1 .left)) (sym (good-number .ensures) ∙ not-false _ (if2 .left))
+          (sym (shows-held _ (start .args .r) (find-leaf .result) (ready-whole (start .args .pool .now) (start .args .free) (start .pre .0))
+          (find-leaf .ensures))
+          ∙ not-false _ (if3 .left)) _ (λ e. keep .ensures .1 (scarce .ensures ∙ e)) _ _ (delete-record .ensures) _ (search needs)
+          (take-back .ensures),
+      keep .ensures .0,
+    )
 
 pub delete-spec : {M : Type 1} → statement M
 delete-spec =

@@ -9,11 +9,9 @@ use Rattle.request.proofs.good_number.Reads as reads
 use Rattle.request.proofs.good_number.Lts as lts
 use Rattle.geometry.proofs.le.Reads as le-reads
 
--- src/lib.rt:26:5
 le-requires : tie.Need-le-requires
 le-requires c κs = search needs
 
--- src/lib.rt:22:1
 returns : tie.Need-returns
 unfolding goodNumber
 returns c = rw (toZ-ofZ {w = w32} {z = c .before .before .args .n .0} (sfits-of (c .before .struct-told .given .0 .1))) at (c .le .ensures)

@@ -4,7 +4,6 @@ use mathlib.Core.Path.{sym, _∙_}
 use Rattle.rules_laws.proofs.Bools.{not-true, not-false}
 use Rattle.rules.specs.declared.Reply.the-variants.{BadRectangle, BadNumber, Held}
 use Rattle.request.proofs.Rows.{insert-3, insert-4, insert-6}
-use Rattle.request.proofs.Turns.{ready-fit, ready-whole, row-applies, insert-changes}
 use borrow.Author.Needs.{needs}
 use Rattle.request.proofs.insert.Statement.{statement}
 use Rattle.request.proofs.insert.Tie as tie
@@ -17,61 +16,96 @@ use Rattle.request.proofs.came_to.Reads as came-to-reads
 use Rattle.request.proofs.good_number.Reads as good-number-reads
 use Rattle.request.proofs.told.Reads as told-reads
 
--- src/lib.rt:148:9
 valid-requires : tie.Need-valid-requires
 valid-requires c κs = search needs
 
--- src/lib.rt:149:9
 told-requires : tie.Need-told-requires
 told-requires c κs = search needs
 
--- src/lib.rt:149:9
 returns : tie.Need-returns
-returns c = rw (c .told .ensures) (row-applies (c .before .before .before .before .before .args .pool .now) (c .before .before .before .before .before .args .free) (c .before .before .before .before .before .pre) (Insert (c .before .before .before .before .before .args .r)) BadRectangle (λ filled room. insert-3 _ filled room (c .before .before .before .before .before .args .r) (sym (c .before .before .valid .ensures) ∙ not-true _ (c .before .if1 .taken))))
+returns c =
+    let start = c .before .before .before .before .before in
+    let valid = c .before .before .valid in
+    rw (c .told .ensures)
+    (row-applies (start .args .pool .now) (start .args .free) (start .pre) (Insert (start .args .r)) BadRectangle
+    (λ filled room. insert-3 _ filled room (start .args .r) (sym (valid .ensures) ∙ not-true _ (c .before .if1 .taken))))
 
--- src/lib.rt:151:9
 good-number-requires : tie.Need-good-number-requires
 good-number-requires c κs = search needs
 
--- src/lib.rt:152:9
 told-requires-2 : tie.Need-told-requires-2
 told-requires-2 c κs = search needs
 
--- src/lib.rt:152:9
 returns-2 : tie.Need-returns-2
-returns-2 c = rw (c .told2 .ensures) (row-applies (c .before .before .before .before .before .before .before .args .pool .now) (c .before .before .before .before .before .before .before .args .free) (c .before .before .before .before .before .before .before .pre) (Insert (c .before .before .before .before .before .before .before .args .r)) BadNumber (λ filled room. insert-4 _ filled room (c .before .before .before .before .before .before .before .args .r) (sym (c .before .before .before .before .valid .ensures) ∙ not-false _ (c .before .before .before .if1 .left)) (sym (c .before .before .good-number .ensures) ∙ not-true _ (c .before .if2 .taken))))
+returns-2 c =
+    let start = c .before .before .before .before .before .before .before in
+    let valid = c .before .before .before .before .valid in
+    let if1 = c .before .before .before .if1 in
+    let good-number = c .before .before .good-number in
+    rw (c .told2 .ensures)
+    (row-applies (start .args .pool .now) (start .args .free) (start .pre) (Insert (start .args .r)) BadNumber
+    (λ filled room. insert-4 _ filled room (start .args .r) (sym (valid .ensures) ∙ not-false _ (if1 .left))
+    (sym (good-number .ensures) ∙ not-true _ (c .before .if2 .taken))))
 
--- src/lib.rt:154:8
 holds-requires : tie.Need-holds-requires
-holds-requires c κs = (c .before .before .before .before .before .before .before .pre .right, ready-whole (c .before .before .before .before .before .before .before .args .pool .now) (c .before .before .before .before .before .before .before .args .free) (c .before .before .before .before .before .before .before .pre))
+holds-requires c κs =
+    let start = c .before .before .before .before .before .before .before in
+    (start .pre .right, ready-whole (start .args .pool .now) (start .args .free) (start .pre))
 
--- src/lib.rt:155:9
 told-requires-3 : tie.Need-told-requires-3
 told-requires-3 c κs = search needs
 
--- src/lib.rt:155:9
 same-length : tie.Need-same-length
 same-length c = search needs
 
--- src/lib.rt:155:9
 returns-3 : tie.Need-returns-3
-returns-3 c = rw (c .told3 .ensures) (row-applies (c .before .before .before .before .before .before .before .before .before .before .args .pool .now) (c .before .before .before .before .before .before .before .before .before .before .args .free) (c .before .before .before .before .before .before .before .before .before .before .pre) (Insert (c .before .before .before .before .before .before .before .before .before .before .args .r)) Held (λ filled room. insert-6 _ filled room (c .before .before .before .before .before .before .before .before .before .before .args .r) (sym (c .before .before .before .before .before .before .before .valid .ensures) ∙ not-false _ (c .before .before .before .before .before .before .if1 .left)) (sym (c .before .before .before .before .before .good-number .ensures) ∙ not-false _ (c .before .before .before .before .if2 .left)) (sym (c .before .before .holds .ensures) ∙ c .before .if3 .taken)))
+returns-3 c =
+    let start = c .before .before .before .before .before .before .before .before .before .before in
+    let valid = c .before .before .before .before .before .before .before .valid in
+    let if1 = c .before .before .before .before .before .before .if1 in
+    let good-number = c .before .before .before .before .before .good-number in
+    let if2 = c .before .before .before .before .if2 in
+    let holds = c .before .before .holds in
+    rw (c .told3 .ensures)
+    (row-applies (start .args .pool .now) (start .args .free) (start .pre) (Insert (start .args .r)) Held
+    (λ filled room. insert-6 _ filled room (start .args .r) (sym (valid .ensures) ∙ not-false _ (if1 .left))
+    (sym (good-number .ensures) ∙ not-false _ (if2 .left)) (sym (holds .ensures) ∙ c .before .if3 .taken)))
 
--- src/lib.rt:157:9
 insert-record-requires : tie.Need-insert-record-requires
-insert-record-requires c κs = (ready-fit (c .before .before .before .before .before .before .before .before .before .before .args .pool .now) (c .before .before .before .before .before .before .before .before .before .before .args .free) (c .before .before .before .before .before .before .before .before .before .before .pre), (ready-whole (c .before .before .before .before .before .before .before .before .before .before .args .pool .now) (c .before .before .before .before .before .before .before .before .before .before .args .free) (c .before .before .before .before .before .before .before .before .before .before .pre), (((sym (c .before .before .before .before .before .before .before .valid .ensures) ∙ not-false _ (c .before .before .before .before .before .before .if1 .left)), (sym (c .before .before .before .before .before .good-number .ensures) ∙ not-false _ (c .before .before .before .before .if2 .left))), c .before .before .before .before .before .before .before .before .before .before .pre .known)))
+insert-record-requires c κs =
+    let start = c .before .before .before .before .before .before .before .before .before .before in
+    let valid = c .before .before .before .before .before .before .before .valid in
+    let if1 = c .before .before .before .before .before .before .if1 in
+    let good-number = c .before .before .before .before .before .good-number in
+    let if2 = c .before .before .before .before .if2 in (
+      ready-fit (start .args .pool .now) (start .args .free) (start .pre),
+      (
+        ready-whole (start .args .pool .now) (start .args .free) (start .pre),
+        (((sym (valid .ensures) ∙ not-false _ (if1 .left)), (sym (good-number .ensures) ∙ not-false _ (if2 .left))), start .pre .known),
+      ),
+    )
 
--- src/lib.rt:158:5
 came-to-requires : tie.Need-came-to-requires
 came-to-requires c κs = search needs
 
--- src/lib.rt:142:1
 same-length-2 : tie.Need-same-length-2
 same-length-2 c = search needs
 
--- src/lib.rt:142:1
 returns-4 : tie.Need-returns-4
-returns-4 c = rw (c .came-to .ensures) (insert-changes (c .before .before .before .before .before .before .before .before .before .before .before .before .before .args .pool .now) (c .before .before .before .before .before .before .before .before .before .before .before .before .before .args .free) (c .before .before .before .before .before .before .before .before .before .before .before .before .before .pre) (c .before .before .before .before .before .before .before .before .before .before .before .before .before .args .r) (sym (c .before .before .before .before .before .before .before .before .before .before .valid .ensures) ∙ not-false _ (c .before .before .before .before .before .before .before .before .before .if1 .left)) (sym (c .before .before .before .before .before .before .before .before .good-number .ensures) ∙ not-false _ (c .before .before .before .before .before .before .before .if2 .left)) (sym (c .before .before .before .before .before .holds .ensures) ∙ c .before .before .before .before .if3 .left) _ _ (search needs) (c .before .before .insert-record .ensures))
+returns-4 c =
+    let at-if2 = c .before .before .before .before .before .before .before in
+    let start = at-if2 .before .before .before .before .before .before in
+    let valid = at-if2 .before .before .before .valid in
+    let if1 = at-if2 .before .before .if1 in
+    let good-number = at-if2 .before .good-number in
+    let if2 = at-if2 .if2 in
+    let holds = c .before .before .before .before .before .holds in
+    let if3 = c .before .before .before .before .if3 in
+    let insert-record = c .before .before .insert-record in
+    rw (c .came-to .ensures)
+    (insert-changes (start .args .pool .now) (start .args .free) (start .pre) (start .args .r)
+    (sym (valid .ensures) ∙ not-false _ (if1 .left)) (sym (good-number .ensures) ∙ not-false _ (if2 .left))
+    (sym (holds .ensures) ∙ if3 .left) _ _ (search needs) (insert-record .ensures))
 
 pub insert-spec : {M : Type 1} → statement M
 insert-spec =

@@ -8,19 +8,18 @@ use Rattle.request.proofs.keep.Reads as reads
 use Rattle.request.proofs.keep.Lts as lts
 use Rattle.request.proofs.copy.Reads as copy-reads
 
--- src/lib.rt:87:9
 copy-requires : tie.Need-copy-requires
 copy-requires c κs = search needs
 
--- src/lib.rt:81:1
 same-length : tie.Need-same-length
 same-length c = search needs
 
--- src/lib.rt:81:1
 returns : tie.Need-returns
-returns c = (ap length (c .before .copy .ensures) ∙ c .before .before .before .before .pre, λ e. c .before .copy .ensures)
+returns c =
+    let start = c .before .before .before .before in
+    let copy = c .before .copy in
+    (ap length (copy .ensures) ∙ start .pre, λ e. copy .ensures)
 
--- src/lib.rt:81:1
 returns-2 : tie.Need-returns-2
 returns-2 c = (refl, λ e. never-both e (c .if1 .left))
 

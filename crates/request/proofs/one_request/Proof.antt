@@ -18,85 +18,102 @@ use Rattle.request.proofs.insert.Reads as insert-reads
 use Rattle.request.proofs.search.Reads as search-reads
 use Rattle.request.proofs.update.Reads as update-reads
 
--- src/lib.rt:306:11
 asked-requires : tie.Need-asked-requires
 asked-requires c κs = c .pre .1 .1 .0
 
--- src/lib.rt:307:23
 enum-known-r : tie.Need-enum-known-r
 enum-known-r c = search needs
 
--- src/lib.rt:307:29
 insert-requires : tie.Need-insert-requires
-insert-requires c κs = c .before .before .before .before .before .pre .0
+insert-requires c κs =
+    let start = c .before .before .before .before .before in
+    start .pre .0
 
--- src/lib.rt:308:23
 enum-known-r-2 : tie.Need-enum-known-r-2
 enum-known-r-2 c = search needs
 
--- src/lib.rt:308:29
 delete-requires : tie.Need-delete-requires
-delete-requires c κs = (c .before .before .before .before .before .before .pre .0, c .before .before .before .before .before .before .pre .1 .0)
+delete-requires c κs =
+    let start = c .before .before .before .before .before .before in
+    (start .pre .0, start .pre .1 .0)
 
--- src/lib.rt:309:23
 enum-known-old : tie.Need-enum-known-old
 enum-known-old c = search needs
 
--- src/lib.rt:309:36
 update-requires : tie.Need-update-requires
-update-requires c κs = (c .before .before .before .before .before .before .pre .0, c .before .before .before .before .before .before .pre .1 .0)
+update-requires c κs =
+    let start = c .before .before .before .before .before .before in
+    (start .pre .0, start .pre .1 .0)
 
--- src/lib.rt:310:23
 enum-known-window : tie.Need-enum-known-window
 enum-known-window c = search needs
 
--- src/lib.rt:310:34
 search-requires : tie.Need-search-requires
-search-requires c κs = (c .before .before .before .before .before .before .pre .0, (c .before .before .before .before .before .before .pre .1 .0, c .before .before .before .before .before .before .pre .1 .1 .1))
+search-requires c κs =
+    let start = c .before .before .before .before .before .before in
+    (start .pre .0, (start .pre .1 .0, start .pre .1 .1 .1))
 
--- src/lib.rt:299:1
 same-length : tie.Need-same-length
 same-length c = search needs
 
--- src/lib.rt:299:1
 returns : tie.Need-returns
-returns c = asks-one (λ a. Serves (length (c .before .before .before .before .before .before .before .args .pool .now)) (request ours (read (c .before .before .before .before .before .before .before .args .pool .now)) (c .before .before .before .before .before .before .before .args .filled) (c .before .before .before .before .before .before .before .args .room) a) _ _ _) (c .before .before .before .before .before .before .before .args .q) _ (c .before .before .before .before .before .before .asked .ensures ∙ ap some (c .before .before .before .before .r .given .1)) (quiet _ _ _ _ _ (c .before .before .before .before .before .before .before .pre .1 .0) (c .before .insert .ensures (c .before .before .before .before .before .before .before .args .filled) (c .before .before .before .before .before .before .before .args .room)))
+returns c =
+    let start = c .before .before .before .before .before .before .before in
+    let asked = c .before .before .before .before .before .before .asked in
+    let r = c .before .before .before .before .r in
+    asks-one (λ a. Serves (length (start .args .pool .now))
+    (request ours (read (start .args .pool .now)) (start .args .filled) (start .args .room) a) _ _ _) (start .args .q) _
+    (asked .ensures ∙ ap some (r .given .1))
+    (quiet _ _ _ _ _ (start .pre .1 .0) (c .before .insert .ensures (start .args .filled) (start .args .room)))
 
--- src/lib.rt:299:1
 same-length-2 : tie.Need-same-length-2
 same-length-2 c = search needs
 
--- src/lib.rt:299:1
 same-length-3 : tie.Need-same-length-3
 same-length-3 c = search needs
 
--- src/lib.rt:299:1
 returns-2 : tie.Need-returns-2
-returns-2 c = asks-one (λ a. Serves (length (c .before .before .before .before .before .before .before .before .before .args .pool .now)) (request ours (read (c .before .before .before .before .before .before .before .before .before .args .pool .now)) (c .before .before .before .before .before .before .before .before .before .args .filled) (c .before .before .before .before .before .before .before .before .before .args .room) a) _ _ _) (c .before .before .before .before .before .before .before .before .before .args .q) _ (c .before .before .before .before .before .before .before .before .asked .ensures ∙ ap some (c .before .before .before .before .before .before .r2 .given .1)) (quiet _ _ _ _ _ (c .before .before .delete .ensures .1 ∙ c .before .before .before .before .before .before .before .before .before .pre .1 .0) (c .before .before .delete .ensures .0 (c .before .before .before .before .before .before .before .before .before .args .filled) (c .before .before .before .before .before .before .before .before .before .args .room)))
+returns-2 c =
+    let start = c .before .before .before .before .before .before .before .before .before in
+    let asked = c .before .before .before .before .before .before .before .before .asked in
+    let r2 = c .before .before .before .before .before .before .r2 in
+    let delete = c .before .before .delete in
+    asks-one (λ a. Serves (length (start .args .pool .now))
+    (request ours (read (start .args .pool .now)) (start .args .filled) (start .args .room) a) _ _ _) (start .args .q) _
+    (asked .ensures ∙ ap some (r2 .given .1))
+    (quiet _ _ _ _ _ (delete .ensures .1 ∙ start .pre .1 .0) (delete .ensures .0 (start .args .filled) (start .args .room)))
 
--- src/lib.rt:299:1
 same-length-4 : tie.Need-same-length-4
 same-length-4 c = search needs
 
--- src/lib.rt:299:1
 same-length-5 : tie.Need-same-length-5
 same-length-5 c = search needs
 
--- src/lib.rt:299:1
 returns-3 : tie.Need-returns-3
-returns-3 c = asks-one (λ a. Serves (length (c .before .before .before .before .before .before .before .before .before .args .pool .now)) (request ours (read (c .before .before .before .before .before .before .before .before .before .args .pool .now)) (c .before .before .before .before .before .before .before .before .before .args .filled) (c .before .before .before .before .before .before .before .before .before .args .room) a) _ _ _) (c .before .before .before .before .before .before .before .before .before .args .q) _ (c .before .before .before .before .before .before .before .before .asked .ensures ∙ ap some (c .before .before .before .before .before .before .old .given .1)) (quiet _ _ _ _ _ (c .before .before .update .ensures .1 ∙ c .before .before .before .before .before .before .before .before .before .pre .1 .0) (c .before .before .update .ensures .0 (c .before .before .before .before .before .before .before .before .before .args .filled) (c .before .before .before .before .before .before .before .before .before .args .room)))
+returns-3 c =
+    let start = c .before .before .before .before .before .before .before .before .before in
+    let asked = c .before .before .before .before .before .before .before .before .asked in
+    let old = c .before .before .before .before .before .before .old in
+    let update = c .before .before .update in
+    asks-one (λ a. Serves (length (start .args .pool .now))
+    (request ours (read (start .args .pool .now)) (start .args .filled) (start .args .room) a) _ _ _) (start .args .q) _
+    (asked .ensures ∙ ap some (old .given .1))
+    (quiet _ _ _ _ _ (update .ensures .1 ∙ start .pre .1 .0) (update .ensures .0 (start .args .filled) (start .args .room)))
 
--- src/lib.rt:299:1
 same-length-6 : tie.Need-same-length-6
 same-length-6 c = search needs
 
--- src/lib.rt:299:1
 same-length-7 : tie.Need-same-length-7
 same-length-7 c = search needs
 
--- src/lib.rt:299:1
 returns-4 : tie.Need-returns-4
-returns-4 c = asks-one (λ a. Serves (length (c .before .before .before .before .before .before .before .before .args .pool .now)) (request ours (read (c .before .before .before .before .before .before .before .before .args .pool .now)) (c .before .before .before .before .before .before .before .before .args .filled) (c .before .before .before .before .before .before .before .before .args .room) a) _ _ _) (c .before .before .before .before .before .before .before .before .args .q) _ (c .before .before .before .before .before .before .before .asked .ensures ∙ ap some (c .before .before .before .before .before .window .given .1)) (c .before .search .ensures)
+returns-4 c =
+    let start = c .before .before .before .before .before .before .before .before in
+    let asked = c .before .before .before .before .before .before .before .asked in
+    let window = c .before .before .before .before .before .window in
+    asks-one (λ a. Serves (length (start .args .pool .now))
+    (request ours (read (start .args .pool .now)) (start .args .filled) (start .args .room) a) _ _ _) (start .args .q) _
+    (asked .ensures ∙ ap some (window .given .1)) (c .before .search .ensures)
 
 pub one-request-spec : {M : Type 1} → statement M
 one-request-spec =

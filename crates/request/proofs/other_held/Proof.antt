@@ -8,19 +8,15 @@ use Rattle.request.proofs.other_held.Lts as lts
 use Rattle.geometry.proofs.same_rect.Reads as same-rect-reads
 use Rattle.find_leaf.proofs.holds.Reads as holds-reads
 
--- src/lib.rt:172:8
 same-rect-requires : tie.Need-same-rect-requires
 same-rect-requires c κs = search needs
 
--- src/lib.rt:173:9
 returns : tie.Need-returns
 returns c = other-same _ _ _ (sym (c .before .same-rect .ensures) ∙ c .if1 .taken)
 
--- src/lib.rt:176:5
 holds-requires : tie.Need-holds-requires
 holds-requires c κs = search needs
 
--- src/lib.rt:166:1
 returns-2 : tie.Need-returns-2
 returns-2 c = c .holds .ensures ∙ other-new _ _ _ (sym (c .before .before .before .same-rect .ensures) ∙ c .before .before .if1 .left)
 

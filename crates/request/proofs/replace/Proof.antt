@@ -7,37 +7,46 @@ use Rattle.request.proofs.replace.Lts as lts
 use Rattle.insert.proofs.insert_record.Reads as insert-record-reads
 use Rattle.delete.proofs.delete_record.Reads as delete-record-reads
 
--- src/lib.rt:221:11
 delete-record-requires : tie.Need-delete-record-requires
-delete-record-requires c κs = (c .before .before .pre .0, (c .before .before .pre .1 .0, (c .before .before .pre .1 .1 .0, (c .before .before .pre .1 .1 .1 .0, c .before .before .pre .1 .1 .1 .1 .0))))
+delete-record-requires c κs =
+    let start = c .before .before in
+    (start .pre .0, (start .pre .1 .0, (start .pre .1 .1 .0, (start .pre .1 .1 .1 .0, start .pre .1 .1 .1 .1 .0))))
 
--- src/lib.rt:222:23
 enum-known-f : tie.Need-enum-known-f
 enum-known-f c = search needs
 
--- src/lib.rt:222:29
 insert-record-requires : tie.Need-insert-record-requires
-insert-record-requires c κs = let h = replace-half (c .before .before .before .before .before .before .before .before .args .pool .now) (c .before .before .before .before .before .before .before .before .pre .1 .0) (c .before .before .before .before .before .before .before .before .args .old) (c .before .before .before .before .before .before .before .before .args .new) (c .before .before .before .before .before .delete-record .last .0) (c .before .before .before .before .before .delete-record .result) _ (c .before .before .f .given .1) (c .before .before .before .before .before .delete-record .ensures) in (h .fit, (h .whole, (c .before .before .before .before .before .before .before .before .pre .1 .1 .1 .1 .1, h .known)))
+insert-record-requires c κs =
+    let start = c .before .before .before .before .before .before .before .before in
+    let delete-record = c .before .before .before .before .before .delete-record in
+    let f = c .before .before .f in
+    let h = replace-half (start .args .pool .now) (start .pre .1 .0) (start .args .old) (start .args .new) (delete-record .last .0)
+    (delete-record .result) _ (f .given .1) (delete-record .ensures) in
+    (h .fit, (h .whole, (start .pre .1 .1 .1 .1 .1, h .known)))
 
--- src/lib.rt:223:29
 enum-told : tie.Need-enum-told
 enum-told c = search needs
 
--- src/lib.rt:211:1
 same-length : tie.Need-same-length
 same-length c = search needs
 
--- src/lib.rt:211:1
 returns : tie.Need-returns
-returns c = replace-made (c .before .before .before .before .before .before .before .before .before .before .args .pool .now) (c .before .before .before .before .before .before .before .before .before .before .pre .1 .0) (c .before .before .before .before .before .before .before .before .before .before .args .old) (c .before .before .before .before .before .before .before .before .before .before .args .new) (c .before .before .before .before .before .before .before .delete-record .last .0) (c .before .before .before .before .before .before .before .delete-record .result) _ (c .before .before .before .before .f .given .1) (c .before .before .before .before .before .before .before .delete-record .ensures) _ _ (search needs) (c .before .insert-record .ensures)
+returns c =
+    let start = c .before .before .before .before .before .before .before .before .before .before in
+    let delete-record = c .before .before .before .before .before .before .before .delete-record in
+    let f = c .before .before .before .before .f in
+    replace-made (start .args .pool .now) (start .pre .1 .0) (start .args .old) (start .args .new) (delete-record .last .0)
+    (delete-record .result) _ (f .given .1) (delete-record .ensures) _ _ (search needs) (c .before .insert-record .ensures)
 
--- src/lib.rt:211:1
 same-length-2 : tie.Need-same-length-2
 same-length-2 c = search needs
 
--- src/lib.rt:211:1
 returns-2 : tie.Need-returns-2
-returns-2 c = replace-refused (c .before .before .before .before .before .before .args .pool .now) (c .before .before .before .before .before .before .pre .1 .0) (c .before .before .before .before .before .before .args .old) (c .before .before .before .before .before .before .args .new) (c .before .before .before .delete-record .last .0) (c .before .before .before .delete-record .result) (c .enum-told .given .1) (c .before .before .before .delete-record .ensures)
+returns-2 c =
+    let start = c .before .before .before .before .before .before in
+    let delete-record = c .before .before .before .delete-record in
+    replace-refused (start .args .pool .now) (start .pre .1 .0) (start .args .old) (start .args .new) (delete-record .last .0)
+    (delete-record .result) (c .enum-told .given .1) (delete-record .ensures)
 
 pub replace-spec : {M : Type 1} → statement M
 replace-spec =

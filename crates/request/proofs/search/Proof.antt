@@ -15,61 +15,94 @@ use Rattle.request.proofs.told.Reads as told-reads
 use Rattle.search.proofs.list.Reads as list-reads
 use Rattle.found_order.proofs.sort.Reads as sort-reads
 
--- src/lib.rt:185:9
 valid-requires : tie.Need-valid-requires
 valid-requires c κs = search needs
 
--- src/lib.rt:186:9
 told-requires : tie.Need-told-requires
 told-requires c κs = search needs
 
--- src/lib.rt:186:9
 returns : tie.Need-returns
-returns c = rw (c .told .ensures) (search-bad (c .before .before .before .args .pool .now) (c .before .before .before .args .free) (c .before .before .before .pre .0) (c .before .before .before .args .window) (c .before .before .before .args .filled) (c .before .before .before .args .room) _ (c .before .before .before .pre .1 .0) (sym (c .before .before .valid .ensures) ∙ not-true _ (c .before .if1 .taken)))
+returns c =
+    let start = c .before .before .before in
+    let valid = c .before .before .valid in
+    rw (c .told .ensures)
+    (search-bad (start .args .pool .now) (start .args .free) (start .pre .0) (start .args .window) (start .args .filled) (start .args .room)
+    _ (start .pre .1 .0) (sym (valid .ensures) ∙ not-true _ (c .before .if1 .taken)))
 
--- src/lib.rt:188:9
 list-requires : tie.Need-list-requires
-list-requires c κs = (c .before .before .before .pre .0 .right, (ready-low (c .before .before .before .args .pool .now) (c .before .before .before .args .free) (c .before .before .before .pre .0) (c .before .before .before .args .window), omega (arith, walk-room (c .before .before .before .args .pool .now) (c .before .before .before .args .free) (c .before .before .before .pre .0) (c .before .before .before .args .window), c .before .before .before .pre .1 .0)))
+list-requires c κs =
+    let start = c .before .before .before in (
+      start .pre .0 .right,
+      (
+        ready-low (start .args .pool .now) (start .args .free) (start .pre .0) (start .args .window),
+        omega (arith, walk-room (start .args .pool .now) (start .args .free) (start .pre .0) (start .args .window), start .pre .1 .0),
+      ),
+    )
 
--- src/lib.rt:189:17
 cast-found : tie.Need-cast-found
-cast-found c = record { fits = omega (arith, walk-small (c .before .before .before .before .before .before .args .pool .now) (c .before .before .before .before .before .before .args .free) (c .before .before .before .before .before .before .pre .0) (c .before .before .before .before .before .before .args .window), c .before .before .list .ensures .0) }
+cast-found c =
+    let start = c .before .before .before .before .before .before in
+    let list = c .before .before .list in
+    record {
+      fits = omega (arith, walk-small (start .args .pool .now) (start .args .free) (start .pre .0) (start .args .window), list .ensures .0);
+    }
 
--- src/lib.rt:190:18
 cast-opened : tie.Need-cast-opened
 cast-opened c = search needs
 
--- src/lib.rt:192:9
 told-requires-2 : tie.Need-told-requires-2
 told-requires-2 c κs = search needs
 
--- src/lib.rt:192:9
 same-length : tie.Need-same-length
 same-length c = search needs
 
--- src/lib.rt:192:9
 returns-2 : tie.Need-returns-2
-returns-2 c = rw (c .told2 .ensures) (search-full (c .before .before .before .before .before .before .before .before .before .before .args .pool .now) (c .before .before .before .before .before .before .before .before .before .before .args .free) (c .before .before .before .before .before .before .before .before .before .before .pre .0) (c .before .before .before .before .before .before .before .before .before .before .args .window) (c .before .before .before .before .before .before .before .before .before .before .args .filled) (c .before .before .before .before .before .before .before .before .before .before .args .room) _ (c .before .before .before .before .before .before .list .ensures .1 .1 .1 .1 .1 ∙ c .before .before .before .before .before .before .before .before .before .before .pre .1 .0) (sym (c .before .before .before .before .before .before .before .before .before .valid .ensures) ∙ not-false _ (c .before .before .before .before .before .before .before .before .if1 .left)) _ _ (c .before .before .before .before .before .before .list .ensures .0) (c .before .before .before .before .before .before .list .ensures .1 .0) (c .before .if2 .taken))
+returns-2 c =
+    let start = c .before .before .before .before .before .before .before .before .before .before in
+    let valid = c .before .before .before .before .before .before .before .before .before .valid in
+    let if1 = c .before .before .before .before .before .before .before .before .if1 in
+    let list = c .before .before .before .before .before .before .list in
+    rw (c .told2 .ensures)
+    (search-full (start .args .pool .now) (start .args .free) (start .pre .0) (start .args .window) (start .args .filled)
+    (start .args .room) _ (list .ensures .1 .1 .1 .1 .1 ∙ start .pre .1 .0) (sym (valid .ensures) ∙ not-false _ (if1 .left)) _ _
+    (list .ensures .0) (list .ensures .1 .0) (c .before .if2 .taken))
 
--- src/lib.rt:194:5
 sort-requires : tie.Need-sort-requires
-sort-requires c κs = (omega (arith, walk-room (c .before .before .before .before .before .before .before .before .before .before .args .pool .now) (c .before .before .before .before .before .before .before .before .before .before .args .free) (c .before .before .before .before .before .before .before .before .before .before .pre .0) (c .before .before .before .before .before .before .before .before .before .before .args .window), c .before .before .before .before .before .before .list .ensures .0, c .before .before .before .before .before .before .list .ensures .1 .1 .1 .1 .1, c .before .before .before .before .before .before .before .before .before .before .pre .1 .0), subst (Pointing (c .before .before .before .before .before .before .before .before .before .before .args .pool .now) _ 0) (sym (c .before .before .before .before .before .before .list .ensures .0)) (c .before .before .before .before .before .before .list .ensures .1 .1 .1 .1 .0))
+sort-requires c κs =
+    let start = c .before .before .before .before .before .before .before .before .before .before in
+    let list = c .before .before .before .before .before .before .list in (
+      omega (
+        arith,
+        walk-room (start .args .pool .now) (start .args .free) (start .pre .0) (start .args .window),
+        list .ensures .0,
+        list .ensures .1 .1 .1 .1 .1,
+        start .pre .1 .0,
+      ),
+      subst (Pointing (start .args .pool .now) _ 0) (sym (list .ensures .0)) (list .ensures .1 .1 .1 .1 .0),
+    )
 
--- src/lib.rt:195:58
 cast-t20 : tie.Need-cast-t20
 cast-t20 c = search needs
 
--- src/lib.rt:195:9
 answer-of-requires : tie.Need-answer-of-requires
 answer-of-requires c κs = search needs
 
--- src/lib.rt:179:1
 same-length-2 : tie.Need-same-length-2
 same-length-2 c = search needs
 
--- src/lib.rt:179:1
 returns-3 : tie.Need-returns-3
-returns-3 c = search-done (c .before .before .before .before .before .before .before .before .before .before .before .before .before .args .pool .now) (c .before .before .before .before .before .before .before .before .before .before .before .before .before .args .free) (c .before .before .before .before .before .before .before .before .before .before .before .before .before .pre .0) (c .before .before .before .before .before .before .before .before .before .before .before .before .before .args .window) (c .before .before .before .before .before .before .before .before .before .before .before .before .before .args .filled) (c .before .before .before .before .before .before .before .before .before .before .before .before .before .args .room) _ (c .before .before .sort .ensures .0 ∙ c .before .before .before .before .before .before .before .before .before .list .ensures .1 .1 .1 .1 .1 ∙ c .before .before .before .before .before .before .before .before .before .before .before .before .before .pre .1 .0) (sym (c .before .before .before .before .before .before .before .before .before .before .before .before .valid .ensures) ∙ not-false _ (c .before .before .before .before .before .before .before .before .before .before .before .if1 .left)) _ _ (c .before .before .before .before .before .before .before .before .before .list .ensures .0) (c .before .before .before .before .before .before .before .before .before .list .ensures .1 .0) (c .before .before .before .before .if2 .left) _ (c .before .before .before .before .before .before .before .before .before .list .ensures .1 .1 .1 .0) (c .before .before .sort .ensures .1 .1) (c .before .before .sort .ensures .1 .0) _ (c .answer-of .ensures)
+returns-3 c =
+    let at-if2 = c .before .before .before .before in
+    let start = at-if2 .before .before .before .before .before .before .before .before .before in
+    let valid = at-if2 .before .before .before .before .before .before .before .before .valid in
+    let if1 = at-if2 .before .before .before .before .before .before .before .if1 in
+    let list = at-if2 .before .before .before .before .before .list in
+    let if2 = at-if2 .if2 in
+    let sort = c .before .before .sort in
+    search-done (start .args .pool .now) (start .args .free) (start .pre .0) (start .args .window) (start .args .filled) (start .args .room)
+    _ (sort .ensures .0 ∙ list .ensures .1 .1 .1 .1 .1 ∙ start .pre .1 .0) (sym (valid .ensures) ∙ not-false _ (if1 .left)) _ _
+    (list .ensures .0) (list .ensures .1 .0) (if2 .left) _ (list .ensures .1 .1 .1 .0) (sort .ensures .1 .1) (sort .ensures .1 .0) _
+    (c .answer-of .ensures)
 
 pub search-spec : {M : Type 1} → statement M
 search-spec =

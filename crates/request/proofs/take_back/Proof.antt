@@ -10,25 +10,23 @@ use Rattle.request.proofs.copy.Reads as copy-reads
 enum-told : tie.Need-enum-told
 enum-told c = search needs
 
--- src/lib.rt:120:40
 enum-told-2 : tie.Need-enum-told-2
 enum-told-2 c = search needs
 
--- src/lib.rt:120:29
 copy-requires : tie.Need-copy-requires
 copy-requires c κs = search needs
 
--- src/lib.rt:114:1
 returns : tie.Need-returns
 returns c = back-made (c .before .before .args .o) _ _ _ _ (c .enum-told .given .1) refl
 
--- src/lib.rt:114:1
 same-length : tie.Need-same-length
 same-length c = search needs
 
--- src/lib.rt:114:1
 returns-2 : tie.Need-returns-2
-returns-2 c = back-refused (c .before .before .before .before .before .args .o) _ _ _ (c .before .before .before .enum-told2 .given .1) (c .before .copy .ensures)
+returns-2 c =
+    let start = c .before .before .before .before .before in
+    let enum-told2 = c .before .before .before .enum-told2 in
+    back-refused (start .args .o) _ _ _ (enum-told2 .given .1) (c .before .copy .ensures)
 
 pub take-back-spec : {M : Type 1} → statement M
 take-back-spec =

@@ -6,11 +6,9 @@ use Rattle.request.proofs.told.Reads as reads
 use Rattle.request.proofs.told.Lts as lts
 use Rattle.request.proofs.answer_of.Reads as answer-of-reads
 
--- src/lib.rt:130:9
 answer-of-requires : tie.Need-answer-of-requires
 answer-of-requires c κs = search needs
 
--- src/lib.rt:127:1
 returns : tie.Need-returns
 unfolding replied
 returns c = λ i. record { answer = c .answer-of .ensures i; listed = 0; free = c .before .args .free }

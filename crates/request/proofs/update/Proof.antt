@@ -21,105 +21,216 @@ use Rattle.request.proofs.scarce.Reads as scarce-reads
 use Rattle.request.proofs.take_back.Reads as take-back-reads
 use Rattle.request.proofs.told.Reads as told-reads
 
--- src/lib.rt:250:9
 valid-requires : tie.Need-valid-requires
 valid-requires c κs = search needs
 
--- src/lib.rt:251:9
 told-requires : tie.Need-told-requires
 told-requires c κs = search needs
 
--- src/lib.rt:251:9
 returns : tie.Need-returns
-returns c = rw (c .told .ensures) (row-applies (c .before .before .before .before .before .args .pool .now) (c .before .before .before .before .before .args .free) (c .before .before .before .before .before .pre .0) (Update (c .before .before .before .before .before .args .old) (c .before .before .before .before .before .args .new)) BadRectangle (λ filled room. update-old _ filled room (c .before .before .before .before .before .args .old) (c .before .before .before .before .before .args .new) (sym (c .before .before .valid .ensures) ∙ not-true _ (c .before .if1 .taken))), refl)
+returns c =
+    let start = c .before .before .before .before .before in
+    let valid = c .before .before .valid in
+    rw (c .told .ensures) (
+      row-applies (start .args .pool .now) (start .args .free) (start .pre .0) (Update (start .args .old) (start .args .new)) BadRectangle
+          (λ filled room. update-old _ filled room (start .args .old) (start .args .new)
+          (sym (valid .ensures) ∙ not-true _ (c .before .if1 .taken))),
+      refl,
+    )
 
--- src/lib.rt:253:9
 valid-requires-2 : tie.Need-valid-requires-2
 valid-requires-2 c κs = search needs
 
--- src/lib.rt:254:9
 told-requires-2 : tie.Need-told-requires-2
 told-requires-2 c κs = search needs
 
--- src/lib.rt:254:9
 returns-2 : tie.Need-returns-2
-returns-2 c = rw (c .told2 .ensures) (row-applies (c .before .before .before .before .before .before .before .args .pool .now) (c .before .before .before .before .before .before .before .args .free) (c .before .before .before .before .before .before .before .pre .0) (Update (c .before .before .before .before .before .before .before .args .old) (c .before .before .before .before .before .before .before .args .new)) BadRectangle (λ filled room. update-new _ filled room (c .before .before .before .before .before .before .before .args .old) (c .before .before .before .before .before .before .before .args .new) (sym (c .before .before .before .before .valid .ensures) ∙ not-false _ (c .before .before .before .if1 .left)) (sym (c .before .before .valid2 .ensures) ∙ not-true _ (c .before .if2 .taken))), refl)
+returns-2 c =
+    let start = c .before .before .before .before .before .before .before in
+    let valid = c .before .before .before .before .valid in
+    let if1 = c .before .before .before .if1 in
+    let valid2 = c .before .before .valid2 in
+    rw (c .told2 .ensures) (
+      row-applies (start .args .pool .now) (start .args .free) (start .pre .0) (Update (start .args .old) (start .args .new)) BadRectangle
+          (λ filled room. update-new _ filled room (start .args .old) (start .args .new) (sym (valid .ensures) ∙ not-false _ (if1 .left))
+          (sym (valid2 .ensures) ∙ not-true _ (c .before .if2 .taken))),
+      refl,
+    )
 
--- src/lib.rt:256:9
 good-number-requires : tie.Need-good-number-requires
 good-number-requires c κs = search needs
 
--- src/lib.rt:257:9
 told-requires-3 : tie.Need-told-requires-3
 told-requires-3 c κs = search needs
 
--- src/lib.rt:257:9
 returns-3 : tie.Need-returns-3
-returns-3 c = rw (c .told3 .ensures) (row-applies (c .before .before .before .before .before .before .before .before .before .args .pool .now) (c .before .before .before .before .before .before .before .before .before .args .free) (c .before .before .before .before .before .before .before .before .before .pre .0) (Update (c .before .before .before .before .before .before .before .before .before .args .old) (c .before .before .before .before .before .before .before .before .before .args .new)) BadNumber (λ filled room. update-4 _ filled room (c .before .before .before .before .before .before .before .before .before .args .old) (c .before .before .before .before .before .before .before .before .before .args .new) (sym (c .before .before .before .before .before .before .valid .ensures) ∙ not-false _ (c .before .before .before .before .before .if1 .left)) (sym (c .before .before .before .before .valid2 .ensures) ∙ not-false _ (c .before .before .before .if2 .left)) (sym (c .before .before .good-number .ensures) ∙ not-true _ (c .before .if3 .taken))), refl)
+returns-3 c =
+    let start = c .before .before .before .before .before .before .before .before .before in
+    let valid = c .before .before .before .before .before .before .valid in
+    let if1 = c .before .before .before .before .before .if1 in
+    let valid2 = c .before .before .before .before .valid2 in
+    let if2 = c .before .before .before .if2 in
+    let good-number = c .before .before .good-number in
+    rw (c .told3 .ensures) (
+      row-applies (start .args .pool .now) (start .args .free) (start .pre .0) (Update (start .args .old) (start .args .new)) BadNumber
+          (λ filled room. update-4 _ filled room (start .args .old) (start .args .new) (sym (valid .ensures) ∙ not-false _ (if1 .left))
+          (sym (valid2 .ensures) ∙ not-false _ (if2 .left)) (sym (good-number .ensures) ∙ not-true _ (c .before .if3 .taken))),
+      refl,
+    )
 
--- src/lib.rt:259:9
 find-leaf-requires : tie.Need-find-leaf-requires
-find-leaf-requires c κs = ((c .before .before .before .before .before .before .before .before .before .pre .0) .right, (low-enough (c .before .before .before .before .before .before .before .before .before .args .pool .now) ((c .before .before .before .before .before .before .before .before .before .pre .0) .right) (ready-whole (c .before .before .before .before .before .before .before .before .before .args .pool .now) (c .before .before .before .before .before .before .before .before .before .args .free) (c .before .before .before .before .before .before .before .before .before .pre .0))))
+find-leaf-requires c κs =
+    let start = c .before .before .before .before .before .before .before .before .before in (
+      (start .pre .0) .right,
+      (low-enough (start .args .pool .now) ((start .pre .0) .right)
+          (ready-whole (start .args .pool .now) (start .args .free) (start .pre .0))),
+    )
 
--- src/lib.rt:261:9
 told-requires-4 : tie.Need-told-requires-4
 told-requires-4 c κs = search needs
 
--- src/lib.rt:261:9
 same-length : tie.Need-same-length
 same-length c = search needs
 
--- src/lib.rt:261:9
 returns-4 : tie.Need-returns-4
-returns-4 c = rw (c .told4 .ensures) (row-applies (c .before .before .before .before .before .before .before .before .before .before .before .before .before .args .pool .now) (c .before .before .before .before .before .before .before .before .before .before .before .before .before .args .free) (c .before .before .before .before .before .before .before .before .before .before .before .before .before .pre .0) (Update (c .before .before .before .before .before .before .before .before .before .before .before .before .before .args .old) (c .before .before .before .before .before .before .before .before .before .before .before .before .before .args .new)) NotHeld (λ filled room. update-5 _ filled room (c .before .before .before .before .before .before .before .before .before .before .before .before .before .args .old) (c .before .before .before .before .before .before .before .before .before .before .before .before .before .args .new) (sym (c .before .before .before .before .before .before .before .before .before .before .valid .ensures) ∙ not-false _ (c .before .before .before .before .before .before .before .before .before .if1 .left)) (sym (c .before .before .before .before .before .before .before .before .valid2 .ensures) ∙ not-false _ (c .before .before .before .before .before .before .before .if2 .left)) (sym (c .before .before .before .before .before .before .good-number .ensures) ∙ not-false _ (c .before .before .before .before .before .if3 .left)) (sym (shows-held _ (c .before .before .before .before .before .before .before .before .before .before .before .before .before .args .old) (c .before .before .before .find-leaf .result) (ready-whole (c .before .before .before .before .before .before .before .before .before .before .before .before .before .args .pool .now) (c .before .before .before .before .before .before .before .before .before .before .before .before .before .args .free) (c .before .before .before .before .before .before .before .before .before .before .before .before .before .pre .0)) (c .before .before .before .find-leaf .ensures)) ∙ not-true _ (c .before .if4 .taken))), refl)
+returns-4 c =
+    let at-good-number = c .before .before .before .before .before .before in
+    let start = at-good-number .before .before .before .before .before .before .before in
+    let valid = at-good-number .before .before .before .before .valid in
+    let if1 = at-good-number .before .before .before .if1 in
+    let valid2 = at-good-number .before .before .valid2 in
+    let if2 = at-good-number .before .if2 in
+    let good-number = at-good-number .good-number in
+    let if3 = c .before .before .before .before .before .if3 in
+    let find-leaf = c .before .before .before .find-leaf in
+    rw (c .told4 .ensures) (
+      row-applies (start .args .pool .now) (start .args .free) (start .pre .0) (Update (start .args .old) (start .args .new)) NotHeld
+          (λ filled room. update-5 _ filled room (start .args .old) (start .args .new) (sym (valid .ensures) ∙ not-false _ (if1 .left))
+          (sym (valid2 .ensures) ∙ not-false _ (if2 .left)) (sym (good-number .ensures) ∙ not-false _ (if3 .left))
+          (sym (shows-held _ (start .args .old) (find-leaf .result) (ready-whole (start .args .pool .now) (start .args .free) (start .pre .0))
+          (find-leaf .ensures))
+          ∙ not-true _ (c .before .if4 .taken))),
+      refl,
+    )
 
--- src/lib.rt:263:8
 other-held-requires : tie.Need-other-held-requires
-other-held-requires c κs = ((c .before .before .before .before .before .before .before .before .before .before .before .before .before .pre .0) .right, ready-whole (c .before .before .before .before .before .before .before .before .before .before .before .before .before .args .pool .now) (c .before .before .before .before .before .before .before .before .before .before .before .before .before .args .free) (c .before .before .before .before .before .before .before .before .before .before .before .before .before .pre .0))
+other-held-requires c κs =
+    let start = c .before .before .before .before .before .before .before .before .before .before .before .before .before in
+    ((start .pre .0) .right, ready-whole (start .args .pool .now) (start .args .free) (start .pre .0))
 
--- src/lib.rt:264:9
 told-requires-5 : tie.Need-told-requires-5
 told-requires-5 c κs = search needs
 
--- src/lib.rt:264:9
 same-length-2 : tie.Need-same-length-2
 same-length-2 c = search needs
 
--- src/lib.rt:264:9
 returns-5 : tie.Need-returns-5
-returns-5 c = rw (c .told5 .ensures) (row-applies (c .before .before .before .before .before .before .before .before .before .before .before .before .before .before .before .before .args .pool .now) (c .before .before .before .before .before .before .before .before .before .before .before .before .before .before .before .before .args .free) (c .before .before .before .before .before .before .before .before .before .before .before .before .before .before .before .before .pre .0) (Update (c .before .before .before .before .before .before .before .before .before .before .before .before .before .before .before .before .args .old) (c .before .before .before .before .before .before .before .before .before .before .before .before .before .before .before .before .args .new)) Held (λ filled room. update-6 _ filled room (c .before .before .before .before .before .before .before .before .before .before .before .before .before .before .before .before .args .old) (c .before .before .before .before .before .before .before .before .before .before .before .before .before .before .before .before .args .new) (sym (c .before .before .before .before .before .before .before .before .before .before .before .before .before .valid .ensures) ∙ not-false _ (c .before .before .before .before .before .before .before .before .before .before .before .before .if1 .left)) (sym (c .before .before .before .before .before .before .before .before .before .before .before .valid2 .ensures) ∙ not-false _ (c .before .before .before .before .before .before .before .before .before .before .if2 .left)) (sym (c .before .before .before .before .before .before .before .before .before .good-number .ensures) ∙ not-false _ (c .before .before .before .before .before .before .before .before .if3 .left)) (sym (shows-held _ (c .before .before .before .before .before .before .before .before .before .before .before .before .before .before .before .before .args .old) (c .before .before .before .before .before .before .find-leaf .result) (ready-whole (c .before .before .before .before .before .before .before .before .before .before .before .before .before .before .before .before .args .pool .now) (c .before .before .before .before .before .before .before .before .before .before .before .before .before .before .before .before .args .free) (c .before .before .before .before .before .before .before .before .before .before .before .before .before .before .before .before .pre .0)) (c .before .before .before .before .before .before .find-leaf .ensures)) ∙ not-false _ (c .before .before .before .before .if4 .left)) (sym (c .before .before .other-held .ensures) ∙ c .before .if5 .taken)), refl)
+returns-5 c =
+    let at-if3 = c .before .before .before .before .before .before .before .before in
+    let start = at-if3 .before .before .before .before .before .before .before .before in
+    let valid = at-if3 .before .before .before .before .before .valid in
+    let if1 = at-if3 .before .before .before .before .if1 in
+    let valid2 = at-if3 .before .before .before .valid2 in
+    let if2 = at-if3 .before .before .if2 in
+    let good-number = at-if3 .before .good-number in
+    let if3 = at-if3 .if3 in
+    let find-leaf = c .before .before .before .before .before .before .find-leaf in
+    let if4 = c .before .before .before .before .if4 in
+    let other-held = c .before .before .other-held in
+    rw (c .told5 .ensures) (
+      row-applies (start .args .pool .now) (start .args .free) (start .pre .0) (Update (start .args .old) (start .args .new)) Held
+          (λ filled room. update-6 _ filled room (start .args .old) (start .args .new) (sym (valid .ensures) ∙ not-false _ (if1 .left))
+          (sym (valid2 .ensures) ∙ not-false _ (if2 .left)) (sym (good-number .ensures) ∙ not-false _ (if3 .left))
+          (sym (shows-held _ (start .args .old) (find-leaf .result) (ready-whole (start .args .pool .now) (start .args .free) (start .pre .0))
+          (find-leaf .ensures))
+          ∙ not-false _ (if4 .left)) (sym (other-held .ensures) ∙ c .before .if5 .taken)),
+      refl,
+    )
 
--- src/lib.rt:266:22
 scarce-requires : tie.Need-scarce-requires
-scarce-requires c κs = ((c .before .before .before .before .before .before .before .before .before .before .before .before .before .before .before .before .before .pre .0) .right, (low-enough (c .before .before .before .before .before .before .before .before .before .before .before .before .before .before .before .before .before .args .pool .now) ((c .before .before .before .before .before .before .before .before .before .before .before .before .before .before .before .before .before .pre .0) .right) (ready-whole (c .before .before .before .before .before .before .before .before .before .before .before .before .before .before .before .before .before .args .pool .now) (c .before .before .before .before .before .before .before .before .before .before .before .before .before .before .before .before .before .args .free) (c .before .before .before .before .before .before .before .before .before .before .before .before .before .before .before .before .before .pre .0))))
+scarce-requires c κs =
+    let start = c .before .before .before .before .before .before .before .before .before .before .before .before .before .before .before .before .before in (
+      (start .pre .0) .right,
+      (low-enough (start .args .pool .now) ((start .pre .0) .right)
+          (ready-whole (start .args .pool .now) (start .args .free) (start .pre .0))),
+    )
 
--- src/lib.rt:266:5
 keep-requires : tie.Need-keep-requires
-keep-requires c κs = sym (c .before .before .before .before .before .before .before .before .before .before .before .before .before .before .before .before .before .before .pre .1)
+keep-requires c κs =
+    let start = c .before .before .before .before .before .before .before .before .before .before .before .before .before .before .before .before .before .before in
+    sym (start .pre .1)
 
--- src/lib.rt:267:9
 replace-requires : tie.Need-replace-requires
-replace-requires c κs = (ready-fit (c .before .before .before .before .before .before .before .before .before .before .before .before .before .before .before .before .before .before .before .before .before .args .pool .now) (c .before .before .before .before .before .before .before .before .before .before .before .before .before .before .before .before .before .before .before .before .before .args .free) (c .before .before .before .before .before .before .before .before .before .before .before .before .before .before .before .before .before .before .before .before .before .pre .0), (ready-whole (c .before .before .before .before .before .before .before .before .before .before .before .before .before .before .before .before .before .before .before .before .before .args .pool .now) (c .before .before .before .before .before .before .before .before .before .before .before .before .before .before .before .before .before .before .before .before .before .args .free) (c .before .before .before .before .before .before .before .before .before .before .before .before .before .before .before .before .before .before .before .before .before .pre .0), ((c .before .before .before .before .before .before .before .before .before .before .before .before .before .before .before .before .before .before .before .before .before .pre .0) .known, (not-false _ (c .before .before .before .before .before .before .before .before .before .if4 .left), (c .before .before .before .before .before .before .before .before .before .before .before .find-leaf .ensures, ((sym (c .before .before .before .before .before .before .before .before .before .before .before .before .before .before .before .before .valid2 .ensures) ∙ not-false _ (c .before .before .before .before .before .before .before .before .before .before .before .before .before .before .before .if2 .left)), (sym (c .before .before .before .before .before .before .before .before .before .before .before .before .before .before .good-number .ensures) ∙ not-false _ (c .before .before .before .before .before .before .before .before .before .before .before .before .before .if3 .left))))))))
+replace-requires c κs =
+    let at-find-leaf = c .before .before .before .before .before .before .before .before .before .before .before in
+    let start = at-find-leaf .before .before .before .before .before .before .before .before .before .before in
+    let valid2 = at-find-leaf .before .before .before .before .before .valid2 in
+    let if2 = at-find-leaf .before .before .before .before .if2 in
+    let good-number = at-find-leaf .before .before .before .good-number in
+    let if3 = at-find-leaf .before .before .if3 in
+    let find-leaf = at-find-leaf .find-leaf in
+    let if4 = c .before .before .before .before .before .before .before .before .before .if4 in (
+      ready-fit (start .args .pool .now) (start .args .free) (start .pre .0),
+      (
+        ready-whole (start .args .pool .now) (start .args .free) (start .pre .0),
+        (
+          (start .pre .0) .known,
+          (
+            not-false _ (if4 .left),
+            (
+              find-leaf .ensures,
+              ((sym (valid2 .ensures) ∙ not-false _ (if2 .left)), (sym (good-number .ensures) ∙ not-false _ (if3 .left))),
+            ),
+          ),
+        ),
+      ),
+    )
 
--- src/lib.rt:268:5
 take-back-requires : tie.Need-take-back-requires
-take-back-requires c κs = c .before .before .before .before .before .before .keep .ensures .0 ∙ c .before .before .before .before .before .before .before .before .before .before .before .before .before .before .before .before .before .before .before .before .before .before .before .before .before .pre .1 ∙ sym (c .before .before .before .replace .kept .0)
+take-back-requires c κs =
+    let at-keep = c .before .before .before .before .before .before in
+    let start = at-keep .before .before .before .before .before .before .before .before .before .before .before .before .before .before .before .before .before .before .before in
+    let keep = at-keep .keep in
+    let replace = c .before .before .before .replace in
+    keep .ensures .0 ∙ start .pre .1 ∙ sym (replace .kept .0)
 
--- src/lib.rt:269:5
 came-to-requires : tie.Need-came-to-requires
 came-to-requires c κs = search needs
 
--- src/lib.rt:242:1
 same-length-3 : tie.Need-same-length-3
 same-length-3 c = search needs
 
--- src/lib.rt:242:1
 same-length-4 : tie.Need-same-length-4
 same-length-4 c = search needs
 
--- src/lib.rt:242:1
 returns-6 : tie.Need-returns-6
-returns-6 c = rw (c .came-to .ensures) (update-changes (c .before .before .before .before .before .before .before .before .before .before .before .before .before .before .before .before .before .before .before .before .before .before .before .before .before .before .before .before .args .pool .now) (c .before .before .before .before .before .before .before .before .before .before .before .before .before .before .before .before .before .before .before .before .before .before .before .before .before .before .before .before .args .free) (c .before .before .before .before .before .before .before .before .before .before .before .before .before .before .before .before .before .before .before .before .before .before .before .before .before .before .before .before .pre .0) (c .before .before .before .before .before .before .before .before .before .before .before .before .before .before .before .before .before .before .before .before .before .before .before .before .before .before .before .before .args .old) (sym (c .before .before .before .before .before .before .before .before .before .before .before .before .before .before .before .before .before .before .before .before .before .before .before .before .before .valid .ensures) ∙ not-false _ (c .before .before .before .before .before .before .before .before .before .before .before .before .before .before .before .before .before .before .before .before .before .before .before .before .if1 .left)) (sym (c .before .before .before .before .before .before .before .before .before .before .before .before .before .before .before .before .before .before .before .before .before .good-number .ensures) ∙ not-false _ (c .before .before .before .before .before .before .before .before .before .before .before .before .before .before .before .before .before .before .before .before .if3 .left)) (sym (shows-held _ (c .before .before .before .before .before .before .before .before .before .before .before .before .before .before .before .before .before .before .before .before .before .before .before .before .before .before .before .before .args .old) (c .before .before .before .before .before .before .before .before .before .before .before .before .before .before .before .before .before .before .find-leaf .result) (ready-whole (c .before .before .before .before .before .before .before .before .before .before .before .before .before .before .before .before .before .before .before .before .before .before .before .before .before .before .before .before .args .pool .now) (c .before .before .before .before .before .before .before .before .before .before .before .before .before .before .before .before .before .before .before .before .before .before .before .before .before .before .before .before .args .free) (c .before .before .before .before .before .before .before .before .before .before .before .before .before .before .before .before .before .before .before .before .before .before .before .before .before .before .before .before .pre .0)) (c .before .before .before .before .before .before .before .before .before .before .before .before .before .before .before .before .before .before .find-leaf .ensures)) ∙ not-false _ (c .before .before .before .before .before .before .before .before .before .before .before .before .before .before .before .before .if4 .left)) _ (λ e. c .before .before .before .before .before .before .before .before .before .keep .ensures .1 (c .before .before .before .before .before .before .before .before .before .before .scarce .ensures ∙ e)) (c .before .before .before .before .before .before .before .before .before .before .before .before .before .before .before .before .before .before .before .before .before .before .before .before .before .before .before .before .args .new) (sym (c .before .before .before .before .before .before .before .before .before .before .before .before .before .before .before .before .before .before .before .before .before .before .before .valid2 .ensures) ∙ not-false _ (c .before .before .before .before .before .before .before .before .before .before .before .before .before .before .before .before .before .before .before .before .before .before .if2 .left)) (sym (c .before .before .before .before .before .before .before .before .before .before .before .before .before .before .other-held .ensures) ∙ c .before .before .before .before .before .before .before .before .before .before .before .before .before .if5 .left) _ _ (c .before .before .before .before .before .before .replace .ensures) _ (search needs) (c .before .before .take-back .ensures), c .before .before .before .before .before .before .before .before .before .keep .ensures .0)
+returns-6 c =
+    let at-other-held = c .before .before .before .before .before .before .before .before .before .before .before .before .before .before in
+    let start = at-other-held .before .before .before .before .before .before .before .before .before .before .before .before .before .before in
+    let valid = at-other-held .before .before .before .before .before .before .before .before .before .before .before .valid in
+    let if1 = at-other-held .before .before .before .before .before .before .before .before .before .before .if1 in
+    let valid2 = at-other-held .before .before .before .before .before .before .before .before .before .valid2 in
+    let if2 = at-other-held .before .before .before .before .before .before .before .before .if2 in
+    let good-number = at-other-held .before .before .before .before .before .before .before .good-number in
+    let if3 = at-other-held .before .before .before .before .before .before .if3 in
+    let find-leaf = at-other-held .before .before .before .before .find-leaf in
+    let if4 = at-other-held .before .before .if4 in
+    let other-held = at-other-held .other-held in
+    let if5 = c .before .before .before .before .before .before .before .before .before .before .before .before .before .if5 in
+    let scarce = c .before .before .before .before .before .before .before .before .before .before .scarce in
+    let keep = c .before .before .before .before .before .before .before .before .before .keep in
+    let replace = c .before .before .before .before .before .before .replace in
+    let take-back = c .before .before .take-back in
+    rw (c .came-to .ensures) (
+      update-changes (start .args .pool .now) (start .args .free) (start .pre .0) (start .args .old)
+          (sym (valid .ensures) ∙ not-false _ (if1 .left)) (sym (good-number .ensures) ∙ not-false _ (if3 .left))
+          (sym (shows-held _ (start .args .old) (find-leaf .result) (ready-whole (start .args .pool .now) (start .args .free) (start .pre .0))
+          (find-leaf .ensures))
+          ∙ not-false _ (if4 .left)) _ (λ e. keep .ensures .1 (scarce .ensures ∙ e)) (start .args .new)
+          (sym (valid2 .ensures) ∙ not-false _ (if2 .left)) (sym (other-held .ensures) ∙ if5 .left) _ _ (replace .ensures) _ (search needs)
+          (take-back .ensures),
+      keep .ensures .0,
+    )
 
 pub update-spec : {M : Type 1} → statement M
 update-spec =

@@ -30,11 +30,12 @@ same-length c = search needs
 
 returns : tie.Need-returns
 returns c =
-    let s = c .before .before .before .before .before in
-    let n = c .before .before .before .before .number-at in
+    let start = c .before .before .before .before .before in
+    let number-at = c .before .before .before .before .number-at in
     let spot = c .before .before .before .spot in
-    let put = c .before .put-item in
-    went-one (s .pre .0) (s .args .i) (s .pre .1 .0) (s .pre .1 .1) (put .last .0) (n .result) (spot .result) (n .ensures) (spot .ensures) (put .ensures)
+    let put-item = c .before .put-item in
+    went-one (start .pre .0) (start .args .i) (start .pre .1 .0) (start .pre .1 .1) (put-item .last .0) (number-at .result) (spot .result)
+    (number-at .ensures) (spot .ensures) (put-item .ensures)
 
 pub list-record-spec : {M : Type 1} → statement M
 list-record-spec =

@@ -43,17 +43,22 @@ add-t5 : tie.Need-add-t5 Inv-loop μ-loop
 add-t5 c = search needs
 
 used-sound-requires : tie.Need-used-sound-requires Inv-loop μ-loop
-used-sound-requires c κs = let w = c .before .before .before .args .pool .now in record { right = c .before .before .before .pre; low = omega arith; high = omega (arith, c .loop-test .taken, c .before .loop .inv .size, read-slots w) }
+used-sound-requires c κs =
+    let start = c .before .before .before in
+    let w = start .args .pool .now in
+    record { right = start .pre; low = omega arith; high = omega (arith, c .loop-test .taken, c .before .loop .inv .size, read-slots w) }
 
 returns : tie.Need-returns Inv-loop μ-loop
 returns c =
-    let p = read (c .before .before .before .before .before .args .pool .now) in
-    let l = c .before .before .before .loop in
-    let there : l .i < length (p .slots) = omega (arith, c .before .before .loop-test .taken, l .inv .size) in
-    let asked = c .before .used-sound in
-    let is = ap (usedSound p) (slots-at p (l .i) there) ∙ sym (asked .ensures) ∙ not-true (asked .result) (c .if1 .taken) in
-    let in-list : l .i < length (slotNumbers p) = omega (arith, there, slots-size p) in
-    sym (every-fails (usedSound p) (slotNumbers p) (l .i) (slot 0) in-list is) ∙ l .inv .rest
+    let start = c .before .before .before .before .before in
+    let loop = c .before .before .before .loop in
+    let loop-test = c .before .before .loop-test in
+    let used-sound = c .before .used-sound in
+    let p = read (start .args .pool .now) in
+    let there : loop .i < length (p .slots) = omega (arith, loop-test .taken, loop .inv .size) in
+    let is = ap (usedSound p) (slots-at p (loop .i) there) ∙ sym (used-sound .ensures) ∙ not-true (used-sound .result) (c .if1 .taken) in
+    let in-list : loop .i < length (slotNumbers p) = omega (arith, there, slots-size p) in
+    sym (every-fails (usedSound p) (slotNumbers p) (loop .i) (slot 0) in-list is) ∙ loop .inv .rest
 
 add-i : tie.Need-add-i Inv-loop μ-loop
 add-i c = search needs
@@ -63,16 +68,18 @@ loop-less c = search needs
 
 loop-again : tie.Need-loop-again Inv-loop μ-loop
 loop-again c =
-    let p = read (c .before .before .before .before .before .args .pool .now) in
-    let l = c .before .before .before .loop in
-    let there : l .i < length (p .slots) = omega (arith, c .before .before .loop-test .taken, l .inv .size) in
-    let asked = c .before .used-sound in
-    let is = ap (usedSound p) (slots-at p (l .i) there) ∙ sym (asked .ensures) ∙ not-false (asked .result) (c .if1 .left) in
-    let in-list : l .i < length (slotNumbers p) = omega (arith, there, slots-size p) in
+    let start = c .before .before .before .before .before in
+    let loop = c .before .before .before .loop in
+    let loop-test = c .before .before .loop-test in
+    let used-sound = c .before .used-sound in
+    let p = read (start .args .pool .now) in
+    let there : loop .i < length (p .slots) = omega (arith, loop-test .taken, loop .inv .size) in
+    let is = ap (usedSound p) (slots-at p (loop .i) there) ∙ sym (used-sound .ensures) ∙ not-false (used-sound .result) (c .if1 .left) in
+    let in-list : loop .i < length (slotNumbers p) = omega (arith, there, slots-size p) in
     record {
-      size = l .inv .size;
+      size = loop .inv .size;
       most = omega arith;
-      rest = sym (every-goes (usedSound p) (slotNumbers p) (l .i) (slot 0) in-list is) ∙ l .inv .rest;
+      rest = sym (every-goes (usedSound p) (slotNumbers p) (loop .i) (slot 0) in-list is) ∙ loop .inv .rest;
     }
 
 returns-2 : tie.Need-returns-2 Inv-loop μ-loop

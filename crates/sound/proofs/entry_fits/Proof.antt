@@ -65,14 +65,17 @@ same-rect-requires c κs = search needs
 
 returns-3 : tie.Need-returns-3
 returns-3 c =
-    let s = c .before .before .before .before .before .before .before .before in
-    let p = read (s .args .pool .now) in
+    let start = c .before .before .before .before .before .before .before .before in
     let child = c .before .before .before .before .before .before .child in
-    let slot = c .before .before .before .before .before .is-slot in
-    let level = c .before .before .before .level-of .ensures ∙ ap (λ (t : SlotNumber). nodeAt p t .level) (child .ensures) in
+    let is-slot = c .before .before .before .before .before .is-slot in
+    let if1 = c .before .before .before .before .if1 in
+    let level-of = c .before .before .before .level-of in
+    let if2 = c .before .before .if2 in
+    let p = read (start .args .pool .now) in
+    let level = level-of .ensures ∙ ap (λ (t : SlotNumber). nodeAt p t .level) (child .ensures) in
     rw (
-      sym (slot .ensures ∙ ap (isSlot p) (child .ensures)) ∙ not-false (slot .result) (c .before .before .before .before .if1 .left),
-      eq-eqb _ _ (sym level ∙ c .before .before .if2 .left),
+      sym (is-slot .ensures ∙ ap (isSlot p) (child .ensures)) ∙ not-false (is-slot .result) (if1 .left),
+      eq-eqb _ _ (sym level ∙ if2 .left),
       c .same-rect .ensures,
       c .before .cover-of .ensures,
       child .ensures,

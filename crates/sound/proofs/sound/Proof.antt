@@ -40,11 +40,12 @@ all-sound-requires c κs = search needs
 
 returns-4 : tie.Need-returns-4
 returns-4 c =
-    let tidied = c .before .before .before .before .before .before .tidy in
-    let formed = c .before .before .before .before .shaped in
+    let tidy = c .before .before .before .before .before .before .tidy in
+    let if1 = c .before .before .before .before .before .if1 in
+    let shaped = c .before .before .before .before .shaped in
+    let if2 = c .before .before .before .if2 in
     c .all-sound .ensures
-    ∙ sym (tidy-shaped _ (sym (tidied .ensures) ∙ not-false _ (c .before .before .before .before .before .if1 .left))
-    (sym (formed .ensures) ∙ not-false _ (c .before .before .before .if2 .left)))
+    ∙ sym (tidy-shaped _ (sym (tidy .ensures) ∙ not-false _ (if1 .left)) (sym (shaped .ensures) ∙ not-false _ (if2 .left)))
 
 pub sound-spec : {M : Type 1} → statement M
 sound-spec =

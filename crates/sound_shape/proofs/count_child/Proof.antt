@@ -7,37 +7,34 @@ use Rattle.sound_shape.proofs.count_child.Reads as reads
 use Rattle.sound_shape.proofs.count_child.Lts as lts
 use Rattle.sound_shape.proofs.one_more.Reads as one-more-reads
 
--- src/lib.rt:210:9
 returns : tie.Need-returns
 returns c = no-slot (c .before .args .s) (c .before .args .counts .now) (λ t low high e. omega (arith, c .if1 .taken))
 
--- src/lib.rt:213:9
 returns-2 : tie.Need-returns-2
 returns-2 c = no-slot (c .before .before .args .s) (c .before .before .args .counts .now) (λ t low high e. omega (arith, c .if2 .taken))
 
--- src/lib.rt:215:30
 mul-one-more : tie.Need-mul-one-more
 mul-one-more c = search needs
 
--- src/lib.rt:215:30
 element-copy-out-one-more : tie.Need-element-copy-out-one-more
 element-copy-out-one-more c = search needs
 
--- src/lib.rt:215:21
 one-more-requires : tie.Need-one-more-requires
 one-more-requires c κs = search needs
 
--- src/lib.rt:215:5
 mul-counts : tie.Need-mul-counts
 mul-counts c = search needs
 
--- src/lib.rt:215:5
 element-write-counts : tie.Need-element-write-counts
 element-write-counts c = search needs
 
--- src/lib.rt:204:1
 returns-3 : tie.Need-returns-3
-returns-3 c = at-slot (c .before .before .before .before .args .s) (c .before .before .before .before .args .counts .now) (c .one-more .result) (c .before .before .before .if1 .left) (omega (arith, c .before .before .if2 .left, c .before .before .before .before .pre)) (c .one-more .ensures)
+returns-3 c =
+    let start = c .before .before .before .before in
+    let if1 = c .before .before .before .if1 in
+    let if2 = c .before .before .if2 in
+    at-slot (start .args .s) (start .args .counts .now) (c .one-more .result) (if1 .left) (omega (arith, if2 .left, start .pre))
+    (c .one-more .ensures)
 
 pub count-child-spec : {M : Type 1} → statement M
 count-child-spec =

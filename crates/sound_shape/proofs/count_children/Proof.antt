@@ -26,7 +26,12 @@ record Turn (es : List Entry) (n : ℕ) (counts₀ counts : List ℕ) (i : ℕ) 
   most : i ≤ n
   counted : Counting (take i es) counts₀ counts
 
-turn : {es : List Entry} {n : ℕ} {a b d : List ℕ} {i : ℕ} {t : SlotNumber} → Turn es n a b i → i < n → t ≡ childOf (getD es i noEntry) → OneMore t b d → Turn es n a d (i + 1)
+turn : {es : List Entry} {n : ℕ} {a b d : List ℕ} {i : ℕ} {t : SlotNumber}
+    → Turn es n a b i
+    → i < n
+    → t ≡ childOf (getD es i noEntry)
+    → OneMore t b d
+    → Turn es n a d (i + 1)
 turn {es} {n} {a} {b} {d} {i} t h e o = record {
   size = t .size;
   most = omega arith;
@@ -39,38 +44,47 @@ Inv-loop pool s counts₀ n i₀ counts i = Turn (entriesAt (read pool) s) n cou
 abbrev μ-loop : tie.MeasureT-loop
 μ-loop pool s counts₀ n i₀ counts i = n - i
 
--- src/lib.rt:225:9
 count-of-requires : tie.Need-count-of-requires Inv-loop μ-loop
 count-of-requires c κs = c .pre .0
 
--- src/lib.rt:227:5
 loop-holds : tie.Need-loop-holds Inv-loop μ-loop
 loop-holds c = record { size = c .count-of .ensures .0; most = omega arith; counted = counting-none (c .before .args .counts .now) }
 
--- src/lib.rt:228:13
 child-of-requires : tie.Need-child-of-requires Inv-loop μ-loop
-child-of-requires c κs = (c .before .before .before .pre .0, (omega (arith, c .loop-test .taken, c .before .loop .inv .size), c .before .before .before .pre .1 .0))
+child-of-requires c κs =
+    let start = c .before .before .before in
+    (start .pre .0, (omega (arith, c .loop-test .taken, c .before .loop .inv .size), start .pre .1 .0))
 
--- src/lib.rt:229:9
 count-child-requires : tie.Need-count-child-requires Inv-loop μ-loop
-count-child-requires c κs = c .before .before .before .loop .inv .counted .size ∙ c .before .before .before .before .before .pre .1 .1
+count-child-requires c κs =
+    let start = c .before .before .before .before .before in
+    let loop = c .before .before .before .loop in
+    loop .inv .counted .size ∙ start .pre .1 .1
 
--- src/lib.rt:230:9
 add-i : tie.Need-add-i Inv-loop μ-loop
 add-i c = search needs
 
--- src/lib.rt:227:5
 loop-less : tie.Need-loop-less Inv-loop μ-loop
 loop-less c = search needs
 
--- src/lib.rt:227:5
 loop-again : tie.Need-loop-again Inv-loop μ-loop
 unfolding entryAt entryFrom
-loop-again c = turn (c .before .before .before .before .loop .inv) (c .before .before .before .loop-test .taken) (c .before .before .child-of .ensures) (c .count-child .ensures)
+loop-again c =
+    let loop = c .before .before .before .before .loop in
+    let loop-test = c .before .before .before .loop-test in
+    let child-of = c .before .before .child-of in
+    turn (loop .inv) (loop-test .taken) (child-of .ensures) (c .count-child .ensures)
 
--- src/lib.rt:219:1
 returns : tie.Need-returns Inv-loop μ-loop
-returns c = let t = c .before .loop .inv in let e : c .before .loop .i ≡ length (entriesAt (read (c .before .before .before .args .pool .now)) (c .before .before .before .args .s)) = omega (arith, t .size, t .most, c .loop-test .left) in subst (λ (l : List Entry). Counting l (c .before .before .before .args .counts .now) (c .before .loop .counts)) (ap (λ (k : ℕ). take k (entriesAt (read (c .before .before .before .args .pool .now)) (c .before .before .before .args .s))) e ∙ take-length (entriesAt (read (c .before .before .before .args .pool .now)) (c .before .before .before .args .s))) (t .counted)
+returns c =
+    let start = c .before .before .before in
+    let loop = c .before .loop in
+    let t = loop .inv in
+    let e : loop .i ≡ length (entriesAt (read (start .args .pool .now)) (start .args .s)) =
+    omega (arith, t .size, t .most, c .loop-test .left) in
+    subst (λ (l : List Entry). Counting l (start .args .counts .now) (loop .counts))
+    (ap (λ (k : ℕ). take k (entriesAt (read (start .args .pool .now)) (start .args .s))) e
+    ∙ take-length (entriesAt (read (start .args .pool .now)) (start .args .s))) (t .counted)
 
 pub count-children-spec : {M : Type 1} → statement M
 count-children-spec =

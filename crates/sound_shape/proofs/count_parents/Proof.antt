@@ -25,7 +25,11 @@ record Turn (ns : List Node) (n : ℕ) (counts₀ counts : List ℕ) (s : ℕ) :
   most : s ≤ n + 1
   counted : Counting (innerOf (take (s - 1) ns)) counts₀ counts
 
-turn : {ns : List Node} {n : ℕ} {a b d : List ℕ} {s : ℕ} → Turn ns n a b s → s ≤ n → Counting (innerOf (getD ns (s - 1) freeNode ∷ [])) b d → Turn ns n a d (s + 1)
+turn : {ns : List Node} {n : ℕ} {a b d : List ℕ} {s : ℕ}
+    → Turn ns n a b s
+    → s ≤ n
+    → Counting (innerOf (getD ns (s - 1) freeNode ∷ [])) b d
+    → Turn ns n a d (s + 1)
 turn {ns} {n} {a} {b} {d} {s} t h o =
     let e : suc (s - 1) ≡ s + 1 - 1 = omega (arith, t .low) in
     record {
@@ -41,34 +45,61 @@ Inv-loop pool counts₀ n s₀ counts s = Turn (read pool .slots) n counts₀ co
 abbrev μ-loop : tie.MeasureT-loop
 μ-loop pool counts₀ n s₀ counts s = n + 1 - s
 
--- src/lib.rt:252:9
 slot-count-requires : tie.Need-slot-count-requires Inv-loop μ-loop
 slot-count-requires c κs = tt
 
--- src/lib.rt:254:5
 loop-holds : tie.Need-loop-holds Inv-loop μ-loop
-loop-holds c = record { size = c .slot-count .ensures ∙ sym (read-slots (c .before .args .pool .now)); low = omega arith; most = omega arith; counted = rw innerOf-none (counting-none (c .before .args .counts .now)) }
+loop-holds c =
+    let start = c .before in
+    record {
+      size = c .slot-count .ensures ∙ sym (read-slots (start .args .pool .now));
+      low = omega arith;
+      most = omega arith;
+      counted = rw innerOf-none (counting-none (start .args .counts .now));
+    }
 
--- src/lib.rt:255:9
 count-slot-requires : tie.Need-count-slot-requires Inv-loop μ-loop
-count-slot-requires c κs = (record { right = c .before .before .before .before .pre .0; low = c .before .before .loop .inv .low; high = omega (arith, c .before .loop-test .taken, c .before .before .loop .inv .size, read-slots (c .before .before .before .before .args .pool .now)) }, c .before .before .loop .inv .counted .size ∙ c .before .before .before .before .pre .1)
+count-slot-requires c κs =
+    let start = c .before .before .before .before in
+    let loop = c .before .before .loop in (
+      record {
+        right = start .pre .0;
+        low = loop .inv .low;
+        high = omega (arith, c .before .loop-test .taken, loop .inv .size, read-slots (start .args .pool .now));
+      },
+      loop .inv .counted .size ∙ start .pre .1,
+    )
 
--- src/lib.rt:256:9
 add-s : tie.Need-add-s Inv-loop μ-loop
-add-s c = omega (arith, c .before .before .loop-test .taken, c .before .before .before .loop .inv .size, few-slots (c .before .before .before .before .before .args .pool .now) (c .before .before .before .before .before .pre .0), read-slots (c .before .before .before .before .before .args .pool .now))
+add-s c =
+    let start = c .before .before .before .before .before in
+    let loop = c .before .before .before .loop in
+    let loop-test = c .before .before .loop-test in
+    omega (
+      arith,
+      loop-test .taken,
+      loop .inv .size,
+      few-slots (start .args .pool .now) (start .pre .0),
+      read-slots (start .args .pool .now),
+    )
 
--- src/lib.rt:254:5
 loop-less : tie.Need-loop-less Inv-loop μ-loop
 loop-less c = omega (arith, c .before .before .loop-test .taken)
 
--- src/lib.rt:254:5
 loop-again : tie.Need-loop-again Inv-loop μ-loop
 unfolding nodeAt
 loop-again c = turn (c .before .before .before .loop .inv) (c .before .before .loop-test .taken) (c .count-slot .ensures)
 
--- src/lib.rt:247:1
 returns : tie.Need-returns Inv-loop μ-loop
-returns c = let t = c .before .loop .inv in let e : c .before .loop .s - 1 ≡ length (read (c .before .before .before .args .pool .now) .slots) = omega (arith, t .size, t .most, c .loop-test .left) in subst (λ (l : List Entry). Counting l (c .before .before .before .args .counts .now) (c .before .loop .counts)) (ap (λ (k : ℕ). innerOf (take k (read (c .before .before .before .args .pool .now) .slots))) e ∙ ap innerOf (take-length (read (c .before .before .before .args .pool .now) .slots)) ∙ inner-all (read (c .before .before .before .args .pool .now))) (t .counted)
+returns c =
+    let start = c .before .before .before in
+    let loop = c .before .loop in
+    let t = loop .inv in
+    let e : loop .s - 1 ≡ length (read (start .args .pool .now) .slots) = omega (arith, t .size, t .most, c .loop-test .left) in
+    subst (λ (l : List Entry). Counting l (start .args .counts .now) (loop .counts))
+    (ap (λ (k : ℕ). innerOf (take k (read (start .args .pool .now) .slots))) e
+    ∙ ap innerOf (take-length (read (start .args .pool .now) .slots))
+    ∙ inner-all (read (start .args .pool .now))) (t .counted)
 
 pub count-parents-spec : {M : Type 1} → statement M
 count-parents-spec =

@@ -11,23 +11,38 @@ use Rattle.sound_shape.proofs.count_slot.Lts as lts
 use Rattle.pool.proofs.level_of.Reads as level-of-reads
 use Rattle.sound_shape.proofs.count_children.Reads as count-children-reads
 
--- src/lib.rt:240:8
 level-of-requires : tie.Need-level-of-requires
 level-of-requires c κs = search needs
 
--- src/lib.rt:241:9
 returns : tie.Need-returns
-returns c = rw (innerOf-no (nodeAt (read (c .before .before .args .pool .now)) (c .before .before .args .s)) (lt-leb 2 ((nodeAt (read (c .before .before .args .pool .now)) (c .before .before .args .s)) .level) (omega (arith, c .before .level-of .ensures, c .if1 .taken)))) (counting-none (c .before .before .args .counts .now))
+returns c =
+    let start = c .before .before in
+    rw (innerOf-no (nodeAt (read (start .args .pool .now)) (start .args .s))
+    (lt-leb 2 ((nodeAt (read (start .args .pool .now)) (start .args .s)) .level)
+    (omega (arith, c .before .level-of .ensures, c .if1 .taken)))) (counting-none (start .args .counts .now))
 
--- src/lib.rt:243:5
 count-children-requires : tie.Need-count-children-requires
 unfolding isLeaf
-count-children-requires c κs = (c .before .before .before .pre .0, (ne-eqb ((nodeAt (read (c .before .before .before .args .pool .now)) (c .before .before .before .args .s)) .level) 1 (λ e. omega (arith, c .before .before .level-of .ensures, c .before .if1 .left)), c .before .before .before .pre .1))
+count-children-requires c κs =
+    let start = c .before .before .before in
+    let level-of = c .before .before .level-of in (
+      start .pre .0,
+      (
+        ne-eqb ((nodeAt (read (start .args .pool .now)) (start .args .s)) .level) 1
+            (λ e. omega (arith, level-of .ensures, c .before .if1 .left)),
+        start .pre .1,
+      ),
+    )
 
--- src/lib.rt:235:1
 returns-2 : tie.Need-returns-2
 unfolding entriesAt
-returns-2 c = rw (innerOf-yes (nodeAt (read (c .before .before .before .before .args .pool .now)) (c .before .before .before .before .args .s)) (le-leb 2 ((nodeAt (read (c .before .before .before .before .args .pool .now)) (c .before .before .before .before .args .s)) .level) (omega (arith, c .before .before .before .level-of .ensures, c .before .before .if1 .left)))) (c .count-children .ensures)
+returns-2 c =
+    let start = c .before .before .before .before in
+    let level-of = c .before .before .before .level-of in
+    let if1 = c .before .before .if1 in
+    rw (innerOf-yes (nodeAt (read (start .args .pool .now)) (start .args .s))
+    (le-leb 2 ((nodeAt (read (start .args .pool .now)) (start .args .s)) .level) (omega (arith, level-of .ensures, if1 .left))))
+    (c .count-children .ensures)
 
 pub count-slot-spec : {M : Type 1} → statement M
 count-slot-spec = tie.close (tie.spec level-of-requires returns count-children-requires returns-2)

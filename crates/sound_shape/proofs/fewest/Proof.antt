@@ -5,17 +5,14 @@ use Rattle.sound_shape.proofs.fewest.Tie as tie
 use Rattle.sound_shape.proofs.fewest.Reads as reads
 use Rattle.sound_shape.proofs.fewest.Lts as lts
 
--- src/lib.rt:289:9
 returns : tie.Need-returns
 unfolding fewest
 returns c = rw (not-true (c .before .args .root) (c .if1 .taken))
 
--- src/lib.rt:285:1
 returns-2 : tie.Need-returns-2
 unfolding fewest
 returns-2 c = rw (not-false (c .before .before .args .root) (c .before .if1 .left), c .if2 .taken)
 
--- src/lib.rt:285:1
 returns-3 : tie.Need-returns-3
 unfolding fewest
 returns-3 c = rw (not-false (c .before .before .args .root) (c .before .if1 .left), c .if2 .left)

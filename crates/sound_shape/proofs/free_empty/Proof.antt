@@ -11,21 +11,23 @@ use Rattle.sound_shape.proofs.free_empty.Lts as lts
 use Rattle.pool.proofs.count_of.Reads as count-of-reads
 use Rattle.pool.proofs.level_of.Reads as level-of-reads
 
--- src/lib.rt:322:8
 level-of-requires : tie.Need-level-of-requires
 level-of-requires c κs = search needs
 
--- src/lib.rt:323:16
 count-of-requires : tie.Need-count-of-requires
 count-of-requires c κs = search needs
 
--- src/lib.rt:323:9
 returns : tie.Need-returns
-returns c = ap (λ (n : ℕ). eqb n 0) (c .count-of .ensures .0) ∙ free-entries (read (c .before .before .before .args .pool .now)) (c .before .before .before .args .s) (sym (c .before .before .level-of .ensures) ∙ c .before .if1 .taken)
+returns c =
+    let start = c .before .before .before in
+    let level-of = c .before .before .level-of in
+    ap (λ (n : ℕ). eqb n 0) (c .count-of .ensures .0)
+    ∙ free-entries (read (start .args .pool .now)) (start .args .s) (sym (level-of .ensures) ∙ c .before .if1 .taken)
 
--- src/lib.rt:318:1
 returns-2 : tie.Need-returns-2
-returns-2 c = used-entries (read (c .before .before .args .pool .now)) (c .before .before .args .s) (λ e. c .if1 .left (c .before .level-of .ensures ∙ e))
+returns-2 c =
+    let start = c .before .before in
+    used-entries (read (start .args .pool .now)) (start .args .s) (λ e. c .if1 .left (c .before .level-of .ensures ∙ e))
 
 pub free-empty-spec : {M : Type 1} → statement M
 free-empty-spec = tie.close (tie.spec level-of-requires count-of-requires returns returns-2)

@@ -9,11 +9,9 @@ use Rattle.sound_shape.proofs.height_sound.Reads as reads
 use Rattle.sound_shape.proofs.height_sound.Lts as lts
 use Rattle.pool.proofs.height_of.Reads as height-of-reads
 
--- src/lib.rt:373:10
 height-of-requires : tie.Need-height-of-requires
 height-of-requires c κs = search needs
 
--- src/lib.rt:369:1
 returns : tie.Need-returns
 returns c = ap (leb 1) (c .height-of .ensures) ∙ height-is (read (c .before .args .pool .now))
 

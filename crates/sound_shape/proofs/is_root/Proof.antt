@@ -7,15 +7,12 @@ use Rattle.sound_shape.proofs.is_root.Lts as lts
 use Rattle.pool.proofs.root_of.Reads as root-of-reads
 use Rattle.nodes.proofs.same_slot.Reads as same-slot-reads
 
--- src/lib.rt:270:18
 root-of-requires : tie.Need-root-of-requires
 root-of-requires c κs = search needs
 
--- src/lib.rt:270:5
 same-slot-requires : tie.Need-same-slot-requires
 same-slot-requires c κs = search needs
 
--- src/lib.rt:266:1
 returns : tie.Need-returns
 unfolding isRoot
 returns c = rw (c .before .root-of .ensures) at (c .same-slot .ensures)

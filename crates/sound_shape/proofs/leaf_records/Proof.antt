@@ -31,37 +31,81 @@ Inv-loop pool n sum₀ s₀ sum s = Turn (read pool .slots) n sum s
 abbrev μ-loop : tie.MeasureT-loop
 μ-loop pool n sum₀ s₀ sum s = n + 1 - s
 
--- src/lib.rt:408:9
 slot-count-requires : tie.Need-slot-count-requires Inv-loop μ-loop
 slot-count-requires c κs = tt
 
--- src/lib.rt:411:5
 loop-holds : tie.Need-loop-holds Inv-loop μ-loop
-loop-holds c = record { size = c .slot-count .ensures ∙ sym (read-slots (c .before .args .pool .now)); low = omega arith; high = omega arith; few = omega arith; all = omega arith }
+loop-holds c =
+    record {
+      size = c .slot-count .ensures ∙ sym (read-slots (c .before .args .pool .now));
+      low = omega arith;
+      high = omega arith;
+      few = omega arith;
+      all = omega arith;
+    }
 
--- src/lib.rt:412:16
 records-in-requires : tie.Need-records-in-requires Inv-loop μ-loop
-records-in-requires c κs = record { right = c .before .before .before .pre; low = c .before .loop .inv .low; high = omega (arith, c .loop-test .taken, c .before .loop .inv .size, read-slots (c .before .before .before .args .pool .now)) }
+records-in-requires c κs =
+    let start = c .before .before .before in
+    let loop = c .before .loop in
+    record {
+      right = start .pre;
+      low = loop .inv .low;
+      high = omega (arith, c .loop-test .taken, loop .inv .size, read-slots (start .args .pool .now));
+    }
 
--- src/lib.rt:412:9
 add-sum : tie.Need-add-sum Inv-loop μ-loop
-add-sum c = omega (arith, c .before .before .loop .inv .few, c .before .before .loop .inv .high, c .before .before .loop .inv .size, c .records-in .ensures .1, few-slots (c .before .before .before .before .args .pool .now) (c .before .before .before .before .pre), read-slots (c .before .before .before .before .args .pool .now))
+add-sum c =
+    let start = c .before .before .before .before in
+    let loop = c .before .before .loop in
+    omega (
+      arith,
+      loop .inv .few,
+      loop .inv .high,
+      loop .inv .size,
+      c .records-in .ensures .1,
+      few-slots (start .args .pool .now) (start .pre),
+      read-slots (start .args .pool .now),
+    )
 
--- src/lib.rt:413:9
 add-s : tie.Need-add-s Inv-loop μ-loop
-add-s c = omega (arith, c .before .loop-test .taken, c .before .before .loop .inv .size, few-slots (c .before .before .before .before .args .pool .now) (c .before .before .before .before .pre), read-slots (c .before .before .before .before .args .pool .now))
+add-s c =
+    let start = c .before .before .before .before in
+    let loop = c .before .before .loop in
+    omega (
+      arith,
+      c .before .loop-test .taken,
+      loop .inv .size,
+      few-slots (start .args .pool .now) (start .pre),
+      read-slots (start .args .pool .now),
+    )
 
--- src/lib.rt:411:5
 loop-less : tie.Need-loop-less Inv-loop μ-loop
 loop-less c = omega (arith, c .before .loop-test .taken)
 
--- src/lib.rt:411:5
 loop-again : tie.Need-loop-again Inv-loop μ-loop
-loop-again c = let t = c .before .before .loop .inv in let m = records-more (read (c .before .before .before .before .args .pool .now)) (c .before .before .loop .s) (c .before .before .loop .inv .low) (omega (arith, c .before .loop-test .taken, c .before .before .loop .inv .size)) in let r = c .records-in .ensures in record { size = t .size; low = omega arith; high = omega (arith, c .before .loop-test .taken); few = omega (arith, t .few, t .low, r .1); all = omega (arith, t .all, m, r .0) }
+loop-again c =
+    let start = c .before .before .before .before in
+    let loop = c .before .before .loop in
+    let loop-test = c .before .loop-test in
+    let t = loop .inv in
+    let m = records-more (read (start .args .pool .now)) (loop .s) (loop .inv .low) (omega (arith, loop-test .taken, loop .inv .size)) in
+    let r = c .records-in .ensures in
+    record {
+      size = t .size;
+      low = omega arith;
+      high = omega (arith, loop-test .taken);
+      few = omega (arith, t .few, t .low, r .1);
+      all = omega (arith, t .all, m, r .0);
+    }
 
--- src/lib.rt:404:1
 returns : tie.Need-returns Inv-loop μ-loop
-returns c = let t = c .before .loop .inv in let m = records-end (read (c .before .before .before .args .pool .now)) (c .before .loop .s) (omega (arith, c .loop-test .left, t .size)) in omega (arith, t .all, m)
+returns c =
+    let start = c .before .before .before in
+    let loop = c .before .loop in
+    let t = loop .inv in
+    let m = records-end (read (start .args .pool .now)) (loop .s) (omega (arith, c .loop-test .left, t .size)) in
+    omega (arith, t .all, m)
 
 pub leaf-records-spec : {M : Type 1} → statement M
 leaf-records-spec =

@@ -8,15 +8,12 @@ use Rattle.sound_shape.proofs.level_sound.Lts as lts
 use Rattle.pool.proofs.height_of.Reads as height-of-reads
 use Rattle.pool.proofs.level_of.Reads as level-of-reads
 
--- src/lib.rt:278:5
 level-of-requires : tie.Need-level-of-requires
 level-of-requires c κs = search needs
 
--- src/lib.rt:278:32
 height-of-requires : tie.Need-height-of-requires
 height-of-requires c κs = search needs
 
--- src/lib.rt:274:1
 returns : tie.Need-returns
 returns c = ap₂ leb (c .before .level-of .ensures) (c .height-of .ensures)
 

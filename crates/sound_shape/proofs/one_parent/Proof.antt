@@ -9,25 +9,30 @@ use Rattle.sound_shape.proofs.one_parent.Lts as lts
 use Rattle.pool.proofs.level_of.Reads as level-of-reads
 use Rattle.sound_shape.proofs.is_root.Reads as is-root-reads
 
--- src/lib.rt:308:8
 level-of-requires : tie.Need-level-of-requires
 level-of-requires c κs = search needs
 
--- src/lib.rt:309:9
 returns : tie.Need-returns
 returns c = free-parent (read (c .before .before .args .pool .now)) (c .before .before .args .s) (sym (c .before .level-of .ensures) ∙ c .if1 .taken)
 
--- src/lib.rt:311:8
 is-root-requires : tie.Need-is-root-requires
 is-root-requires c κs = search needs
 
--- src/lib.rt:312:9
 returns-2 : tie.Need-returns-2
-returns-2 c = root-parent (read (c .before .before .before .before .args .pool .now)) (c .before .before .before .before .args .s) (λ e. c .before .before .if1 .left (c .before .before .before .level-of .ensures ∙ e)) (sym (c .before .is-root .ensures) ∙ c .if2 .taken)
+returns-2 c =
+    let start = c .before .before .before .before in
+    let level-of = c .before .before .before .level-of in
+    let if1 = c .before .before .if1 in
+    root-parent (read (start .args .pool .now)) (start .args .s) (λ e. if1 .left (level-of .ensures ∙ e))
+    (sym (c .before .is-root .ensures) ∙ c .if2 .taken)
 
--- src/lib.rt:303:1
 returns-3 : tie.Need-returns-3
-returns-3 c = used-parent (read (c .before .before .before .before .args .pool .now)) (c .before .before .before .before .args .s) (λ e. c .before .before .if1 .left (c .before .before .before .level-of .ensures ∙ e)) (c .before .before .before .before .args .parents) (sym (c .before .is-root .ensures) ∙ c .if2 .left) (c .before .before .before .before .pre .1)
+returns-3 c =
+    let start = c .before .before .before .before in
+    let level-of = c .before .before .before .level-of in
+    let if1 = c .before .before .if1 in
+    used-parent (read (start .args .pool .now)) (start .args .s) (λ e. if1 .left (level-of .ensures ∙ e)) (start .args .parents)
+    (sym (c .before .is-root .ensures) ∙ c .if2 .left) (start .pre .1)
 
 pub one-parent-spec : {M : Type 1} → statement M
 one-parent-spec =

@@ -10,15 +10,12 @@ use Rattle.sound_shape.proofs.records_sound.Lts as lts
 use Rattle.pool.proofs.records_of.Reads as records-of-reads
 use Rattle.sound_shape.proofs.leaf_records.Reads as leaf-records-reads
 
--- src/lib.rt:423:5
 leaf-records-requires : tie.Need-leaf-records-requires
 leaf-records-requires c κs = search needs
 
--- src/lib.rt:423:27
 records-of-requires : tie.Need-records-of-requires
 records-of-requires c κs = search needs
 
--- src/lib.rt:419:1
 returns : tie.Need-returns
 returns c = ap₂ eqb (c .before .leaf-records .ensures) (c .records-of .ensures) ∙ record-counts-are (read (c .before .before .args .pool .now))
 

@@ -42,12 +42,14 @@ height-of-requires c κs = search needs
 
 returns-2 : tie.Need-returns-2
 returns-2 c =
-    let p = read (c .before .before .before .before .before .args .pool .now) in
-    let root = c .before .before .before .before .root-of in
-    let asked = c .before .before .before .is-slot in
-    let level = c .before .level-of .ensures ∙ ap (λ (t : SlotNumber). nodeAt p t .level) (root .ensures) in
+    let start = c .before .before .before .before .before in
+    let root-of = c .before .before .before .before .root-of in
+    let is-slot = c .before .before .before .is-slot in
+    let if1 = c .before .before .if1 in
+    let p = read (start .args .pool .now) in
+    let level = c .before .level-of .ensures ∙ ap (λ (t : SlotNumber). nodeAt p t .level) (root-of .ensures) in
     ap₂ eqb level (c .height-of .ensures)
-    ∙ root-level p (ap (isSlot p) (sym (root .ensures)) ∙ sym (asked .ensures) ∙ not-false (asked .result) (c .before .before .if1 .left))
+    ∙ root-level p (ap (isSlot p) (sym (root-of .ensures)) ∙ sym (is-slot .ensures) ∙ not-false (is-slot .result) (if1 .left))
 
 pub root-sound-spec : {M : Type 1} → statement M
 root-sound-spec =

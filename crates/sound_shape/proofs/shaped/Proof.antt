@@ -13,37 +13,40 @@ use Rattle.sound_shape.proofs.records_sound.Reads as records-sound-read
 use Rattle.sound_shape.proofs.root_sound.Reads as root-sound-reads
 use Rattle.sound_shape.proofs.shaped_nodes.Reads as shaped-nodes-reads
 
--- src/lib.rt:431:20
 height-sound-requires : tie.Need-height-sound-requires
 height-sound-requires c κs = search needs
 
--- src/lib.rt:431:40
 root-sound-requires : tie.Need-root-sound-requires
 root-sound-requires c κs = search needs
 
--- src/lib.rt:431:9
 and-requires : tie.Need-and-requires
 and-requires c κs = search needs
 
--- src/lib.rt:432:9
 shaped-nodes-requires : tie.Need-shaped-nodes-requires
 shaped-nodes-requires c κs = search needs
 
--- src/lib.rt:433:9
 records-sound-requires : tie.Need-records-sound-requires
 records-sound-requires c κs = search needs
 
--- src/lib.rt:434:9
 and-requires-2 : tie.Need-and-requires-2
 and-requires-2 c κs = search needs
 
--- src/lib.rt:434:5
 and-requires-3 : tie.Need-and-requires-3
 and-requires-3 c κs = search needs
 
--- src/lib.rt:427:1
 returns : tie.Need-returns
-returns c = c .and3 .ensures ∙ ap₂ _&&_ (c .before .and2 .ensures ∙ ap₂ _&&_ (c .before .before .before .before .and .ensures ∙ ap₂ _&&_ (c .before .before .before .before .before .before .height-sound .ensures) (c .before .before .before .before .before .root-sound .ensures)) (c .before .before .before .shaped-nodes .ensures)) (c .before .before .records-sound .ensures) ∙ shape-is (read (c .before .before .before .before .before .before .before .args .pool .now))
+returns c =
+    let start = c .before .before .before .before .before .before .before in
+    let height-sound = c .before .before .before .before .before .before .height-sound in
+    let root-sound = c .before .before .before .before .before .root-sound in
+    let and = c .before .before .before .before .and in
+    let shaped-nodes = c .before .before .before .shaped-nodes in
+    let records-sound = c .before .before .records-sound in
+    c .and3 .ensures
+    ∙ ap₂ _&&_
+    (c .before .and2 .ensures ∙ ap₂ _&&_ (and .ensures ∙ ap₂ _&&_ (height-sound .ensures) (root-sound .ensures)) (shaped-nodes .ensures))
+    (records-sound .ensures)
+    ∙ shape-is (read (start .args .pool .now))
 
 pub shaped-spec : {M : Type 1} → statement M
 shaped-spec =

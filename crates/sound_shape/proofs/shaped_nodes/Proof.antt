@@ -11,15 +11,12 @@ use Rattle.sound_shape.proofs.shaped_nodes.Lts as lts
 use Rattle.sound_shape.proofs.count_parents.Reads as count-parents-reads
 use Rattle.sound_shape.proofs.shaped_slots.Reads as shaped-slots-reads
 
--- src/lib.rt:366:5
 count-parents-requires : tie.Need-count-parents-requires
 count-parents-requires c κs = (c .before .pre, length-replicate {A = ℕ} mostSlots 0)
 
--- src/lib.rt:367:5
 shaped-slots-requires : tie.Need-shaped-slots-requires
 shaped-slots-requires c κs = (c .before .before .before .pre, c .before .count-parents .ensures .on [] counted-none)
 
--- src/lib.rt:361:1
 returns : tie.Need-returns
 returns c = search needs
 

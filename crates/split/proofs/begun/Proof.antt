@@ -7,42 +7,37 @@ use Rattle.split.proofs.begun.Tie as tie
 use Rattle.split.proofs.begun.Reads as reads
 use Rattle.split.proofs.begun.Lts as lts
 
--- src/lib.rt:301:5
 array-write-joined : tie.Need-array-write-joined
 array-write-joined c = search needs
 
--- src/lib.rt:302:5
 array-write-joined-2 : tie.Need-array-write-joined-2
 array-write-joined-2 c = search needs
 
--- src/lib.rt:304:5
 array-write-one : tie.Need-array-write-one
 array-write-one c = search needs
 
--- src/lib.rt:306:5
 array-write-two : tie.Need-array-write-two
 array-write-two c = search needs
 
--- src/lib.rt:307:20
 mul-coverOne : tie.Need-mul-coverOne
 mul-coverOne c = search needs
 
--- src/lib.rt:307:20
 array-copy-out-coverOne : tie.Need-array-copy-out-coverOne
 array-copy-out-coverOne c = search needs
 
--- src/lib.rt:308:20
 mul-coverTwo : tie.Need-mul-coverTwo
 mul-coverTwo c = search needs
 
--- src/lib.rt:308:20
 array-copy-out-coverTwo : tie.Need-array-copy-out-coverTwo
 array-copy-out-coverTwo c = search needs
 
--- src/lib.rt:293:1
 returns : tie.Need-returns
 unfolding rectFrom
-returns c = let s = c .before .before in (started-groups (s .pre .0) (s .pre .1 .0) (s .pre .1 .1), (started-ok (s .pre .0) (s .pre .1 .0) (s .pre .1 .1), (refl, refl)))
+returns c =
+    let start = c .before .before in (
+      started-groups (start .pre .0) (start .pre .1 .0) (start .pre .1 .1),
+      (started-ok (start .pre .0) (start .pre .1 .0) (start .pre .1 .1), (refl, refl)),
+    )
 
 pub begun-spec : {M : Type 1} → statement M
 begun-spec =

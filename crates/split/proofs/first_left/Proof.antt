@@ -25,33 +25,42 @@ Inv-loop joined i₀ i = Turn joined i
 abbrev μ-loop : tie.MeasureT-loop
 μ-loop joined i₀ i = 9 - i
 
--- src/lib.rt:146:5
 loop-holds : tie.Need-loop-holds Inv-loop μ-loop
 loop-holds c = search needs
 
--- src/lib.rt:147:13
 array-read-if1 : tie.Need-array-read-if1 Inv-loop μ-loop
 array-read-if1 c = search needs
 
--- src/lib.rt:148:13
 returns : tie.Need-returns Inv-loop μ-loop
-returns c = let l = c .before .before .loop in let m = c .before .before .before .args .t1 in let k : l .i < length m = omega arith in (sym (first-here m (l .i) k (not-true (getD m (l .i) false) (c .if1 .taken))) ∙ l .inv .rest, c .before .loop-test .taken)
+returns c =
+    let loop = c .before .before .loop in
+    let m = c .before .before .before .args .t1 in
+    let k : loop .i < length m = omega arith in
+    (sym (first-here m (loop .i) k (not-true (getD m (loop .i) false) (c .if1 .taken))) ∙ loop .inv .rest, c .before .loop-test .taken)
 
--- src/lib.rt:150:9
 add-i : tie.Need-add-i Inv-loop μ-loop
 add-i c = search needs
 
--- src/lib.rt:146:5
 loop-less : tie.Need-loop-less Inv-loop μ-loop
 loop-less c = search needs
 
--- src/lib.rt:146:5
 loop-again : tie.Need-loop-again Inv-loop μ-loop
-loop-again c = let l = c .before .before .loop in let m = c .before .before .before .args .t1 in let k : l .i < length m = omega arith in record { most = omega arith; nine = l .inv .nine; rest = sym (first-later m (l .i) k (not-false (getD m (l .i) false) (c .if1 .left))) ∙ l .inv .rest }
+loop-again c =
+    let loop = c .before .before .loop in
+    let m = c .before .before .before .args .t1 in
+    let k : loop .i < length m = omega arith in
+    record {
+      most = omega arith;
+      nine = loop .inv .nine;
+      rest = sym (first-later m (loop .i) k (not-false (getD m (loop .i) false) (c .if1 .left))) ∙ loop .inv .rest;
+    }
 
--- src/lib.rt:142:1
 returns-2 : tie.Need-returns-2 Inv-loop μ-loop
-returns-2 c = let l = c .before .loop in let m = c .before .before .args .t1 in let k : length m ≤ l .i = omega arith in (sym (first-never m (l .i) k) ∙ l .inv .rest, omega arith)
+returns-2 c =
+    let loop = c .before .loop in
+    let m = c .before .before .args .t1 in
+    let k : length m ≤ loop .i = omega arith in
+    (sym (first-never m (loop .i) k) ∙ loop .inv .rest, omega arith)
 
 pub first-left-spec : {M : Type 1} → statement M
 first-left-spec =

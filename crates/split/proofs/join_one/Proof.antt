@@ -7,35 +7,29 @@ use Rattle.split.proofs.join_one.Reads as reads
 use Rattle.split.proofs.join_one.Lts as lts
 use Rattle.geometry.proofs.cover.Reads as cover-reads
 
--- src/lib.rt:208:41
 mul-cover : tie.Need-mul-cover
 mul-cover c = search needs
 
--- src/lib.rt:208:41
 array-copy-out-cover : tie.Need-array-copy-out-cover
 array-copy-out-cover c = search needs
 
--- src/lib.rt:208:9
 cover-requires : tie.Need-cover-requires
 cover-requires c κs = search needs
 
--- src/lib.rt:209:5
 array-write-joined : tie.Need-array-write-joined
 array-write-joined c = search needs
 
--- src/lib.rt:210:5
 mul-one : tie.Need-mul-one
 mul-one c = search needs
 
--- src/lib.rt:210:5
 array-write-one : tie.Need-array-write-one
-array-write-one c = room (c .before .before .before .before .before .before .before .pre .0) (c .before .before .before .before .before .before .before .pre .1)
+array-write-one c =
+    let start = c .before .before .before .before .before .before .before in
+    room (start .pre .0) (start .pre .1)
 
--- src/lib.rt:214:15
 add-t12 : tie.Need-add-t12
 add-t12 c = search needs
 
--- src/lib.rt:197:1
 returns : tie.Need-returns
 unfolding rectFrom
 returns c = rw (c .cover .ensures)

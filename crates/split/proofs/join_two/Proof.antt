@@ -7,19 +7,15 @@ use Rattle.split.proofs.join_two.Lts as lts
 use Rattle.split.proofs.join_one.Reads as join-one-reads
 use Rattle.split.proofs.swapped.Reads as swapped-reads
 
--- src/lib.rt:228:28
 swapped-requires : tie.Need-swapped-requires
 swapped-requires c κs = search needs
 
--- src/lib.rt:228:13
 join-one-requires : tie.Need-join-one-requires
 join-one-requires c κs = let s = c .before in rw (c .swapped .ensures) (flipped-ok (s .pre .0), flipped-free (s .pre .1))
 
--- src/lib.rt:228:5
 swapped-requires-2 : tie.Need-swapped-requires-2
 swapped-requires-2 c κs = search needs
 
--- src/lib.rt:223:1
 returns : tie.Need-returns
 returns c = rw (c .swapped2 .ensures, c .before .join-one .ensures, c .before .before .swapped .ensures)
 

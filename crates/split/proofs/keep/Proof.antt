@@ -4,11 +4,9 @@ use Rattle.split.proofs.keep.Tie as tie
 use Rattle.split.proofs.keep.Reads as reads
 use Rattle.split.proofs.keep.Lts as lts
 
--- src/lib.rt:26:1
 returns : tie.Need-returns
 returns c = rw (lt-ltb _ _ (c .if1 .taken))
 
--- src/lib.rt:26:1
 returns-2 : tie.Need-returns-2
 returns-2 c = rw (le-ltb _ _ (c .if1 .left))
 

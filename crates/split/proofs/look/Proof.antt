@@ -9,28 +9,22 @@ use Rattle.split.proofs.look.Lts as lts
 use Rattle.split.proofs.preference.Reads as preference-reads
 use Rattle.split.proofs.wider.Reads as wider-reads
 
--- src/lib.rt:135:9
 returns : tie.Need-returns
 returns c = search needs
 
--- src/lib.rt:137:26
 mul-preference : tie.Need-mul-preference
 mul-preference c = search needs
 
--- src/lib.rt:137:26
 array-copy-out-preference : tie.Need-array-copy-out-preference
 array-copy-out-preference c = search needs
 
--- src/lib.rt:137:9
 preference-requires : tie.Need-preference-requires
 unfolding rectFrom
 preference-requires c κs = let s = c .before .before in (s .pre .0 .ok (s .args .i) (s .pre .1 .0), (s .pre .1 .1 .0, s .pre .1 .1 .1))
 
--- src/lib.rt:138:5
 wider-requires : tie.Need-wider-requires
 wider-requires c κs = search needs
 
--- src/lib.rt:127:1
 returns-2 : tie.Need-returns-2
 unfolding widerNext preference rectFrom
 returns-2 c = rw (c .before .before .before .if1 .left, c .wider .ensures, c .before .preference .ensures)

@@ -49,55 +49,55 @@ module _ {i : ℕ} {nine : List Rect} {b₀ b : KeyedSeeds} {j : ℕ} (u : Pass 
     rest = rw (kept-places (u .keyed) new-keyed) (sym (inner-step nine i (seedsOf b) j h) ∙ u .rest);
   }
 
--- src/lib.rt:40:13
 mul-a : tie.Need-mul-a Inv-loop μ-loop
 mul-a c = search needs
 
--- src/lib.rt:40:13
 array-copy-out-a : tie.Need-array-copy-out-a Inv-loop μ-loop
 array-copy-out-a c = search needs
 
--- src/lib.rt:42:17
 add-j : tie.Need-add-j Inv-loop μ-loop
 add-j c = search needs
 
--- src/lib.rt:43:5
 loop-holds : tie.Need-loop-holds Inv-loop μ-loop
 loop-holds c = record { most = omega arith; past = omega arith; keyed = c .before .pre .1 .1; rest = refl }
 
--- src/lib.rt:44:38
 mul-waste : tie.Need-mul-waste Inv-loop μ-loop
 mul-waste c = search needs
 
--- src/lib.rt:44:38
 array-copy-out-waste : tie.Need-array-copy-out-waste Inv-loop μ-loop
 array-copy-out-waste c = search needs
 
--- src/lib.rt:44:13
 waste-requires : tie.Need-waste-requires Inv-loop μ-loop
 unfolding rectFrom
-waste-requires c κs = let s = c .before .before .before .before in (s .pre .0 .ok (s .args .i) (s .pre .1 .0), s .pre .0 .ok (c .before .before .loop .j) (c .before .loop-test .taken))
+waste-requires c κs =
+    let start = c .before .before .before .before in
+    let loop = c .before .before .loop in
+    (start .pre .0 .ok (start .args .i) (start .pre .1 .0), start .pre .0 .ok (loop .j) (c .before .loop-test .taken))
 
--- src/lib.rt:45:9
 keep-requires : tie.Need-keep-requires Inv-loop μ-loop
 keep-requires c κs = search needs
 
--- src/lib.rt:53:9
 add-j-2 : tie.Need-add-j-2 Inv-loop μ-loop
 add-j-2 c = search needs
 
--- src/lib.rt:43:5
 loop-less : tie.Need-loop-less Inv-loop μ-loop
 loop-less c = search needs
 
--- src/lib.rt:43:5
 loop-again : tie.Need-loop-again Inv-loop μ-loop
 unfolding pair wasteOf rectFrom
-loop-again c = let s = c .before .before .before .before .before .before in let l = c .before .before .before .before .loop in rw (c .keep .ensures) (pass (l .inv) (c .before .before .before .loop-test .taken) (c .before .waste .result) (c .before .waste .ensures))
+loop-again c =
+    let loop = c .before .before .before .before .loop in
+    let loop-test = c .before .before .before .loop-test in
+    let waste = c .before .waste in
+    rw (c .keep .ensures) (pass (loop .inv) (loop-test .taken) (waste .result) (waste .ensures))
 
--- src/lib.rt:33:1
 returns : tie.Need-returns Inv-loop μ-loop
-returns c = let s = c .before .before .before in let l = c .before .loop in (sym (inner-none (s .args .t1) (s .args .i) (seedsOf (l .b)) (l .j) (c .loop-test .left)) ∙ l .inv .rest, l .inv .keyed)
+returns c =
+    let start = c .before .before .before in
+    let loop = c .before .loop in (
+      sym (inner-none (start .args .t1) (start .args .i) (seedsOf (loop .b)) (loop .j) (c .loop-test .left)) ∙ loop .inv .rest,
+      loop .inv .keyed,
+    )
 
 pub pairs-of-spec : {M : Type 1} → statement M
 pairs-of-spec =

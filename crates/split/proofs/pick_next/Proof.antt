@@ -45,51 +45,55 @@ Inv-loop one two nine joined at key best₀ i₀ best i = Turn one two nine join
 abbrev μ-loop : tie.MeasureT-loop
 μ-loop one two nine joined at key best₀ i₀ best i = 9 - i
 
--- src/lib.rt:163:9
 first-left-requires : tie.Need-first-left-requires Inv-loop μ-loop
 first-left-requires c κs = search needs
 
--- src/lib.rt:164:26
 mul-preference : tie.Need-mul-preference Inv-loop μ-loop
 mul-preference c = omega (arith, c .first-left .ensures .1)
 
--- src/lib.rt:164:26
 array-copy-out-preference : tie.Need-array-copy-out-preference Inv-loop μ-loop
 array-copy-out-preference c = c .first-left .ensures .1
 
--- src/lib.rt:164:9
 preference-requires : tie.Need-preference-requires Inv-loop μ-loop
 unfolding rectFrom
-preference-requires c κs = let s = c .before .before in (s .pre .0 .ok (c .before .first-left .result) (c .before .first-left .ensures .1), (s .pre .1 .0, s .pre .1 .1))
+preference-requires c κs =
+    let start = c .before .before in
+    let first-left = c .before .first-left in
+    (start .pre .0 .ok (first-left .result) (first-left .ensures .1), (start .pre .1 .0, start .pre .1 .1))
 
--- src/lib.rt:167:5
 loop-holds : tie.Need-loop-holds Inv-loop μ-loop
 unfolding preference rectFrom
-loop-holds c = let s = c .before .before .before in let f = c .before .before .first-left .ensures .0 in record { most = omega arith; marks = search needs; key = c .preference .ensures; rest = rw f (next-first (s .args .t1) (s .args .one) (s .args .two) (unjoined (s .args .t2) 0)) }
+loop-holds c =
+    let start = c .before .before .before in
+    let f = c .before .before .first-left .ensures .0 in
+    record {
+      most = omega arith;
+      marks = search needs;
+      key = c .preference .ensures;
+      rest = rw f (next-first (start .args .t1) (start .args .one) (start .args .two) (unjoined (start .args .t2) 0));
+    }
 
--- src/lib.rt:168:30
 array-read-look : tie.Need-array-read-look Inv-loop μ-loop
 array-read-look c = search needs
 
--- src/lib.rt:168:9
 look-requires : tie.Need-look-requires Inv-loop μ-loop
 look-requires c κs = let s = c .before .before .before .before .before in (s .pre .0, (c .loop-test .taken, (s .pre .1 .0, s .pre .1 .1)))
 
--- src/lib.rt:169:9
 add-i : tie.Need-add-i Inv-loop μ-loop
 add-i c = search needs
 
--- src/lib.rt:167:5
 loop-less : tie.Need-loop-less Inv-loop μ-loop
 loop-less c = search needs
 
--- src/lib.rt:167:5
 loop-again : tie.Need-loop-again Inv-loop μ-loop
 loop-again c = rw (c .look .ensures) (turn (c .before .before .loop .inv) (c .before .loop-test .taken))
 
--- src/lib.rt:157:1
 returns : tie.Need-returns Inv-loop μ-loop
-returns c = let s = c .before .before .before .before .before in let l = c .before .loop in let k : length (s .args .t2) ≤ l .i = omega arith in sym (next-none (s .args .t1) (s .args .one) (s .args .two) (s .args .t2) (l .best .at) (l .i) k) ∙ l .inv .rest
+returns c =
+    let start = c .before .before .before .before .before in
+    let loop = c .before .loop in
+    let k : length (start .args .t2) ≤ loop .i = omega arith in
+    sym (next-none (start .args .t1) (start .args .one) (start .args .two) (start .args .t2) (loop .best .at) (loop .i) k) ∙ loop .inv .rest
 
 pub pick-next-spec : {M : Type 1} → statement M
 pick-next-spec =

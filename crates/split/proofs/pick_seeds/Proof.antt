@@ -28,43 +28,51 @@ Inv-loop nine key b₀ i₀ b i = Round nine b i
 abbrev μ-loop : tie.MeasureT-loop
 μ-loop nine key b₀ i₀ b i = 9 - i
 
--- src/lib.rt:64:31
 array-copy-out-waste : tie.Need-array-copy-out-waste Inv-loop μ-loop
 array-copy-out-waste c = search needs
 
--- src/lib.rt:64:40
 array-copy-out-waste-2 : tie.Need-array-copy-out-waste-2 Inv-loop μ-loop
 array-copy-out-waste-2 c = search needs
 
--- src/lib.rt:64:9
 waste-requires : tie.Need-waste-requires Inv-loop μ-loop
 unfolding rectFrom
 waste-requires c κs = let s = c .before .before in (s .pre .ok 0 (omega arith), s .pre .ok 1 (omega arith))
 
--- src/lib.rt:71:5
 loop-holds : tie.Need-loop-holds Inv-loop μ-loop
 unfolding wasteOf rectFrom
-loop-holds c = let s = c .before .before .before in record { most = omega arith; keyed = record { order = omega arith; inside = omega arith; key = c .waste .ensures }; rest = outer-all (s .args .t1) (s .pre .nine) }
+loop-holds c =
+    let start = c .before .before .before in
+    record {
+      most = omega arith;
+      keyed = record { order = omega arith; inside = omega arith; key = c .waste .ensures };
+      rest = outer-all (start .args .t1) (start .pre .nine);
+    }
 
--- src/lib.rt:72:9
 pairs-of-requires : tie.Need-pairs-of-requires Inv-loop μ-loop
 pairs-of-requires c κs = let s = c .before .before .before .before .before in (s .pre, (c .loop-test .taken, c .before .loop .inv .keyed))
 
--- src/lib.rt:73:9
 add-i : tie.Need-add-i Inv-loop μ-loop
 add-i c = search needs
 
--- src/lib.rt:71:5
 loop-less : tie.Need-loop-less Inv-loop μ-loop
 loop-less c = search needs
 
--- src/lib.rt:71:5
 loop-again : tie.Need-loop-again Inv-loop μ-loop
-loop-again c = let s = c .before .before .before .before .before .before in let l = c .before .before .loop in record { most = omega arith; keyed = c .pairs-of .ensures .1; rest = rw (c .pairs-of .ensures .0) (sym (outer-step (s .args .t1) (seedsOf (l .b)) (l .i) (c .before .loop-test .taken)) ∙ l .inv .rest) }
+loop-again c =
+    let start = c .before .before .before .before .before .before in
+    let loop = c .before .before .loop in
+    record {
+      most = omega arith;
+      keyed = c .pairs-of .ensures .1;
+      rest = rw (c .pairs-of .ensures .0)
+          (sym (outer-step (start .args .t1) (seedsOf (loop .b)) (loop .i) (c .before .loop-test .taken)) ∙ loop .inv .rest);
+    }
 
--- src/lib.rt:59:1
 returns : tie.Need-returns Inv-loop μ-loop
-returns c = let s = c .before .before .before .before .before in let l = c .before .loop in (sym (outer-none (s .args .t1) (seedsOf (l .b)) (l .i) (c .loop-test .left)) ∙ l .inv .rest, l .inv .keyed)
+returns c =
+    let start = c .before .before .before .before .before in
+    let loop = c .before .loop in
+    (sym (outer-none (start .args .t1) (seedsOf (loop .b)) (loop .i) (c .loop-test .left)) ∙ loop .inv .rest, loop .inv .keyed)
 
 pub pick-seeds-spec : {M : Type 1} → statement M
 pick-seeds-spec =

@@ -9,21 +9,22 @@ use Rattle.split.proofs.preference.Lts as lts
 use Rattle.geometry.proofs.enlargement.Reads as enlargement-reads
 use Rattle.split.proofs.apart.Reads as apart-reads
 
--- src/lib.rt:106:11
 enlargement-requires : tie.Need-enlargement-requires
 enlargement-requires c κs = search needs
 
--- src/lib.rt:106:42
 enlargement-requires-2 : tie.Need-enlargement-requires-2
 enlargement-requires-2 c κs = search needs
 
--- src/lib.rt:106:5
 apart-requires : tie.Need-apart-requires
 apart-requires c κs = search needs
 
--- src/lib.rt:100:1
 returns : tie.Need-returns
-returns c = let r = c .before .before .before .args .r in let e = c .before .before .enlargement .ensures .0 in let f = c .before .enlargement2 .ensures .0 in c .apart .ensures ∙ sym (abs-minus (c .before .before .enlargement .result) (c .before .enlargement2 .result)) ∙ ap₂ (λ x y. natAbs (x -ℤ y)) e f
+returns c =
+    let enlargement = c .before .before .enlargement in
+    let enlargement2 = c .before .enlargement2 in
+    let e = enlargement .ensures .0 in
+    let f = enlargement2 .ensures .0 in
+    c .apart .ensures ∙ sym (abs-minus (enlargement .result) (enlargement2 .result)) ∙ ap₂ (λ x y. natAbs (x -ℤ y)) e f
 
 pub preference-spec : {M : Type 1} → statement M
 preference-spec =

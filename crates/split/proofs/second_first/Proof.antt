@@ -31,11 +31,12 @@ less-then-requires-2 c κs = search needs
 returns : tie.Need-returns
 unfolding secondFirst
 returns c =
-    by-rule
-    (c .before .before .before .before .before .enlargement .ensures .0)
-    (c .before .before .before .before .enlargement2 .ensures .0)
-    (c .less-then2 .ensures)
-    (by-rule (c .before .before .before .area .ensures .0) (c .before .before .area2 .ensures .0) (c .before .less-then .ensures) refl)
+    let enlargement = c .before .before .before .before .before .enlargement in
+    let enlargement2 = c .before .before .before .before .enlargement2 in
+    let area = c .before .before .before .area in
+    let area2 = c .before .before .area2 in
+    by-rule (enlargement .ensures .0) (enlargement2 .ensures .0) (c .less-then2 .ensures)
+    (by-rule (area .ensures .0) (area2 .ensures .0) (c .before .less-then .ensures) refl)
 
 pub second-first-spec : {M : Type 1} → statement M
 second-first-spec =

@@ -31,38 +31,55 @@ Inv-loop nine i j t₀ n₀ t n = Turn nine t n
 abbrev μ-loop : tie.MeasureT-loop
 μ-loop nine i j t₀ n₀ t n = 7 - n
 
--- src/lib.rt:327:9
 pick-seeds-requires : tie.Need-pick-seeds-requires Inv-loop μ-loop
 pick-seeds-requires c κs = c .pre
 
--- src/lib.rt:330:9
 begun-requires : tie.Need-begun-requires Inv-loop μ-loop
 begun-requires c κs = (c .before .pre, (c .pick-seeds .ensures .1 .order, c .pick-seeds .ensures .1 .inside))
 
--- src/lib.rt:332:5
 loop-holds : tie.Need-loop-holds Inv-loop μ-loop
-loop-holds c = let s = c .before .before in let b = c .begun .ensures in let p = c .before .pick-seeds .result in record { most = omega arith; ok = b .1 .0; count = omega (arith, b .1 .1); fill = record { one = omega (arith, b .1 .1); two = omega (arith, b .1 .1) }; rest = starts-same (s .args .nine) (c .begun .result) (p .first) (p .second) (s .pre .nine) (c .before .pick-seeds .ensures .0) (b .1 .1 .0) (b .1 .1 .1) (b .0) }
+loop-holds c =
+    let start = c .before .before in
+    let pick-seeds = c .before .pick-seeds in
+    let b = c .begun .ensures in
+    let p = pick-seeds .result in
+    record {
+      most = omega arith;
+      ok = b .1 .0;
+      count = omega (arith, b .1 .1);
+      fill = record { one = omega (arith, b .1 .1); two = omega (arith, b .1 .1) };
+      rest = starts-same (start .args .nine) (c .begun .result) (p .first) (p .second) (start .pre .nine) (pick-seeds .ensures .0)
+          (b .1 .1 .0) (b .1 .1 .1) (b .0);
+    }
 
--- src/lib.rt:333:9
 assign-requires : tie.Need-assign-requires Inv-loop μ-loop
-assign-requires c κs = let l = c .before .loop .inv in (c .before .before .before .before .pre, (l .ok, (omega (arith, l .count, c .loop-test .taken), l .fill)))
+assign-requires c κs =
+    let start = c .before .before .before .before in
+    let l = c .before .loop .inv in
+    (start .pre, (l .ok, (omega (arith, l .count, c .loop-test .taken), l .fill)))
 
--- src/lib.rt:334:9
 add-n : tie.Need-add-n Inv-loop μ-loop
 add-n c = search needs
 
--- src/lib.rt:332:5
 loop-less : tie.Need-loop-less Inv-loop μ-loop
 loop-less c = search needs
 
--- src/lib.rt:332:5
 loop-again : tie.Need-loop-again Inv-loop μ-loop
-loop-again c = let l = c .before .before .loop .inv in let a = c .assign .ensures in record { most = omega arith; ok = a .1 .0; count = omega (arith, a .1 .1 .0, l .count); fill = a .1 .1 .1; rest = a .0 ∙ l .rest }
+loop-again c =
+    let l = c .before .before .loop .inv in
+    let a = c .assign .ensures in
+    record { most = omega arith; ok = a .1 .0; count = omega (arith, a .1 .1 .0, l .count); fill = a .1 .1 .1; rest = a .0 ∙ l .rest }
 
--- src/lib.rt:321:1
 returns : tie.Need-returns Inv-loop μ-loop
 unfolding groupsOf
-returns c = let s = c .before .before .before .before in let l = c .before .loop .inv in let t = c .before .loop .t in let e : t .ones + t .twos ≡ 9 = omega (arith, l .count, l .most, c .loop-test .left) in let q = sym (ends-same (s .args .nine) t e) ∙ l .rest in (ap (λ (g : S.Groups). g .one) q, (ap (λ (g : S.Groups). g .two) q, whole (l .ok) (l .fill) e))
+returns c =
+    let start = c .before .before .before .before in
+    let loop = c .before .loop in
+    let l = loop .inv in
+    let t = loop .t in
+    let e : t .ones + t .twos ≡ 9 = omega (arith, l .count, l .most, c .loop-test .left) in
+    let q = sym (ends-same (start .args .nine) t e) ∙ l .rest in
+    (ap (λ (g : S.Groups). g .one) q, (ap (λ (g : S.Groups). g .two) q, whole (l .ok) (l .fill) e))
 
 pub split-nine-spec : {M : Type 1} → statement M
 split-nine-spec =

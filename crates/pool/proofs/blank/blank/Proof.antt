@@ -22,33 +22,41 @@ zero-all-requires c κs = search needs
 
 slice-set-of-pool : tie.Need-slice-set-of-pool
 slice-set-of-pool c =
-    let s = c .before .before .before .before .before .before in
-    let valid = sym (c .before .before .before .before .valid-length .ensures) ∙ c .before .before .before .if1 .taken in
-    let l = long (s .args .pool .now) valid in
+    let start = c .before .before .before .before .before .before in
+    let valid-length = c .before .before .before .before .valid-length in
+    let if1 = c .before .before .before .if1 in
+    let valid = sym (valid-length .ensures) ∙ if1 .taken in
+    let l = long (start .args .pool .now) valid in
     let kept = c .before .zero-all .kept .0 in
     omega arith
 
 slice-set-of-pool-2 : tie.Need-slice-set-of-pool-2
 slice-set-of-pool-2 c =
-    let s = c .before .before .before .before .before .before in
-    let valid = sym (c .before .before .before .before .valid-length .ensures) ∙ c .before .before .before .if1 .taken in
-    let l = long (s .args .pool .now) valid in
+    let start = c .before .before .before .before .before .before in
+    let valid-length = c .before .before .before .before .valid-length in
+    let if1 = c .before .before .before .if1 in
+    let valid = sym (valid-length .ensures) ∙ if1 .taken in
+    let l = long (start .args .pool .now) valid in
     let kept = c .before .zero-all .kept .0 in
     simp length-set (omega arith)
 
 slice-set-of-pool-3 : tie.Need-slice-set-of-pool-3
 slice-set-of-pool-3 c =
-    let s = c .before .before .before .before .before .before in
-    let valid = sym (c .before .before .before .before .valid-length .ensures) ∙ c .before .before .before .if1 .taken in
-    let l = long (s .args .pool .now) valid in
+    let start = c .before .before .before .before .before .before in
+    let valid-length = c .before .before .before .before .valid-length in
+    let if1 = c .before .before .before .if1 in
+    let valid = sym (valid-length .ensures) ∙ if1 .taken in
+    let l = long (start .args .pool .now) valid in
     let kept = c .before .zero-all .kept .0 in
     simp length-set (omega arith)
 
 slice-set-of-pool-4 : tie.Need-slice-set-of-pool-4
 slice-set-of-pool-4 c =
-    let s = c .before .before .before .before .before .before in
-    let valid = sym (c .before .before .before .before .valid-length .ensures) ∙ c .before .before .before .if1 .taken in
-    let l = long (s .args .pool .now) valid in
+    let start = c .before .before .before .before .before .before in
+    let valid-length = c .before .before .before .before .valid-length in
+    let if1 = c .before .before .before .if1 in
+    let valid = sym (valid-length .ensures) ∙ if1 .taken in
+    let l = long (start .args .pool .now) valid in
     let kept = c .before .zero-all .kept .0 in
     simp length-set (omega arith)
 
@@ -57,9 +65,11 @@ same-length c = search needs
 
 returns : tie.Need-returns
 returns c =
-    let s = c .before .before .before .before .before .before in
-    let valid = sym (c .before .before .before .before .valid-length .ensures) ∙ c .before .before .before .if1 .taken in
-    let q = sym (blank-valid (s .args .pool .now) valid) in
+    let start = c .before .before .before .before .before .before in
+    let valid-length = c .before .before .before .before .valid-length in
+    let if1 = c .before .before .before .if1 in
+    let valid = sym (valid-length .ensures) ∙ if1 .taken in
+    let q = sym (blank-valid (start .args .pool .now) valid) in
     (ap (λ (b : Blanked). pos (b .number)) q, ap mark (c .before .zero-all .ensures) ∙ ap (λ (b : Blanked). b .pool) q)
 
 same-length-2 : tie.Need-same-length-2

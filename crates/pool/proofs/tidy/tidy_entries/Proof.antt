@@ -86,12 +86,13 @@ loop-again c =
 
 returns-2 : tie.Need-returns-2 Inv-loop μ-loop
 returns-2 c =
-    let s = c .before .before .before in
-    let w = s .args .pool .now in
-    let es = entriesAt (read w) (s .args .s) in
-    let l = c .before .loop in
-    sym (parts-end entrySize entryWords entry-size w (slotStart (s .args .s) + slotHead) noEntry es (l .i) (omega (arith, c .loop-test .left, l .inv .size)))
-    ∙ l .inv .rest
+    let start = c .before .before .before in
+    let loop = c .before .loop in
+    let w = start .args .pool .now in
+    let es = entriesAt (read w) (start .args .s) in
+    sym (parts-end entrySize entryWords entry-size w (slotStart (start .args .s) + slotHead) noEntry es (loop .i)
+    (omega (arith, c .loop-test .left, loop .inv .size)))
+    ∙ loop .inv .rest
 
 pub tidy-entries-spec : {M : Type 1} → statement M
 tidy-entries-spec =

@@ -30,12 +30,14 @@ and-requires-2 c κs = search needs
 
 returns : tie.Need-returns
 returns c =
-    let s = c .before .before .before .before .before in
-    let w = s .args .pool .now in
+    let start = c .before .before .before .before .before in
+    let is-word = c .before .before .before .before .is-word in
+    let w = start .args .pool .now in
     let numbers = c .before .before .before .tidy-numbers .ensures in
     let rest = c .before .before .zeros .ensures in
-    c .and2 .ensures ∙ ap₂ _&&_ (c .before .before .before .before .is-word .ensures) (c .before .and .ensures ∙ ap₂ _&&_ numbers rest)
-    ∙ head-stands w (omega (arith, right-size w (s .pre)))
+    c .and2 .ensures
+    ∙ ap₂ _&&_ (is-word .ensures) (c .before .and .ensures ∙ ap₂ _&&_ numbers rest)
+    ∙ head-stands w (omega (arith, right-size w (start .pre)))
 
 pub tidy-head-spec : {M : Type 1} → statement M
 tidy-head-spec =

@@ -47,10 +47,12 @@ and-requires c κs = search needs
 
 returns : tie.Need-returns
 returns c =
-    let s = c .before .before .before .before .before in
-    let n = c .before .before .before .count-of in
-    let rest = rw (c .before .before .before .before .slot-start .ensures) at (c .before .zeros .ensures) in
-    c .and .ensures ∙ ap₂ _&&_ (c .before .before .tidy-entries .ensures) rest ∙ sym (slot-places (s .pre) (n .result) (n .ensures .0))
+    let start = c .before .before .before .before .before in
+    let slot-start = c .before .before .before .before .slot-start in
+    let count-of = c .before .before .before .count-of in
+    let tidy-entries = c .before .before .tidy-entries in
+    let rest = rw (slot-start .ensures) at (c .before .zeros .ensures) in
+    c .and .ensures ∙ ap₂ _&&_ (tidy-entries .ensures) rest ∙ sym (slot-places (start .pre) (count-of .result) (count-of .ensures .0))
 
 pub tidy-places-spec : {M : Type 1} → statement M
 tidy-places-spec =

@@ -39,11 +39,15 @@ and-requires-2 c κs = search needs
 
 returns : tie.Need-returns
 returns c =
-    let s = c .before .before .before .before .before .before .before in
-    let level = rw (c .before .before .before .before .before .before .slot-start .ensures) at (c .before .before .before .before .before .at-least .ensures) in
-    let count = rw (c .before .before .before .before .count-place .ensures) at (c .before .before .before .tidy-count .ensures) in
+    let start = c .before .before .before .before .before .before .before in
+    let slot-start = c .before .before .before .before .before .before .slot-start in
+    let at-least = c .before .before .before .before .before .at-least in
+    let count-place = c .before .before .before .before .count-place in
+    let tidy-count = c .before .before .before .tidy-count in
+    let level = rw (slot-start .ensures) at (at-least .ensures) in
+    let count = rw (count-place .ensures) at (tidy-count .ensures) in
     let places = c .before .before .tidy-places .ensures in
-    c .and2 .ensures ∙ ap₂ _&&_ level (c .before .and .ensures ∙ ap₂ _&&_ count places) ∙ slot-stands (s .pre)
+    c .and2 .ensures ∙ ap₂ _&&_ level (c .before .and .ensures ∙ ap₂ _&&_ count places) ∙ slot-stands (start .pre)
 
 pub tidy-slot-spec : {M : Type 1} → statement M
 tidy-slot-spec =

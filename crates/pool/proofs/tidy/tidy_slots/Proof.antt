@@ -47,16 +47,17 @@ tidy-slot-requires c κs =
 returns : tie.Need-returns Inv-loop μ-loop
 unfolding nodeAt
 returns c =
-    let w = c .before .before .before .before .before .args .pool .now in
-    let v = c .before .before .before .before .before .pre in
+    let start = c .before .before .before .before .before in
+    let loop = c .before .before .before .loop in
+    let w = start .args .pool .now in
     let ns = read w .slots in
-    let l = c .before .before .before .loop in
-    let i = l .s - 1 in
+    let i = loop .s - 1 in
     let t = c .before .before .loop-test .taken in
-    let here : i < length ns = omega (arith, l .inv .size, l .inv .low, read-slots w) in
-    let fits : headSize + slotSize * i + slotSize ≤ length w = omega (arith, l .inv .size, l .inv .low, right-size w v) in
-    sym (parts-stop slotSize nodeWords node-size w headSize freeNode ns i here fits (sym (c .before .tidy-slot .ensures) ∙ not-true _ (c .if1 .taken)))
-    ∙ l .inv .rest
+    let here : i < length ns = omega (arith, loop .inv .size, loop .inv .low, read-slots w) in
+    let fits : headSize + slotSize * i + slotSize ≤ length w = omega (arith, loop .inv .size, loop .inv .low, right-size w start .pre) in
+    sym (parts-stop slotSize nodeWords node-size w headSize freeNode ns i here fits
+    (sym (c .before .tidy-slot .ensures) ∙ not-true _ (c .if1 .taken)))
+    ∙ loop .inv .rest
 
 add-s : tie.Need-add-s Inv-loop μ-loop
 add-s c =
@@ -70,31 +71,32 @@ loop-less c = omega (arith, c .before .before .loop-test .taken)
 loop-again : tie.Need-loop-again Inv-loop μ-loop
 unfolding nodeAt
 loop-again c =
-    let w = c .before .before .before .before .before .args .pool .now in
-    let v = c .before .before .before .before .before .pre in
+    let start = c .before .before .before .before .before in
+    let loop = c .before .before .before .loop in
+    let w = start .args .pool .now in
     let ns = read w .slots in
-    let l = c .before .before .before .loop in
-    let i = l .s - 1 in
+    let i = loop .s - 1 in
     let t = c .before .before .loop-test .taken in
-    let here : i < length ns = omega (arith, l .inv .size, l .inv .low, read-slots w) in
-    let fits : headSize + slotSize * i + slotSize ≤ length w = omega (arith, l .inv .size, l .inv .low, right-size w v) in
-    let e : l .s + 1 - 1 ≡ i + 1 = omega (arith, l .inv .low) in
+    let here : i < length ns = omega (arith, loop .inv .size, loop .inv .low, read-slots w) in
+    let fits : headSize + slotSize * i + slotSize ≤ length w = omega (arith, loop .inv .size, loop .inv .low, right-size w start .pre) in
+    let e : loop .s + 1 - 1 ≡ i + 1 = omega (arith, loop .inv .low) in
     record {
-      size = l .inv .size;
+      size = loop .inv .size;
       low = omega arith;
       most = omega arith;
-      rest =
-          rw e
-          (sym (parts-on slotSize nodeWords node-size w headSize freeNode ns i here fits (sym (c .before .tidy-slot .ensures) ∙ not-false _ (c .if1 .left)))
-          ∙ l .inv .rest);
+      rest = rw e
+          (sym (parts-on slotSize nodeWords node-size w headSize freeNode ns i here fits
+          (sym (c .before .tidy-slot .ensures) ∙ not-false _ (c .if1 .left)))
+          ∙ loop .inv .rest);
     }
 
 returns-2 : tie.Need-returns-2 Inv-loop μ-loop
 returns-2 c =
+    let loop = c .before .loop in
     let w = c .before .before .before .args .pool .now in
-    let l = c .before .loop in
-    sym (parts-end slotSize nodeWords node-size w headSize freeNode (read w .slots) (l .s - 1) (omega (arith, c .loop-test .left, l .inv .size, read-slots w)))
-    ∙ l .inv .rest
+    sym (parts-end slotSize nodeWords node-size w headSize freeNode (read w .slots) (loop .s - 1)
+    (omega (arith, c .loop-test .left, loop .inv .size, read-slots w)))
+    ∙ loop .inv .rest
 
 pub tidy-slots-spec : {M : Type 1} → statement M
 tidy-slots-spec =

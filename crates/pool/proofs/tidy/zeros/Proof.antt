@@ -55,7 +55,10 @@ loop-again c =
     record { most = omega (arith, t); rest = sym on ∙ l .inv .rest }
 
 returns-2 : tie.Need-returns-2 Inv-loop μ-loop
-returns-2 c = sym (zeros-end (c .before .before .args .pool .now) (c .before .loop .i) (c .before .before .args .to) (omega (arith, c .loop-test .left))) ∙ c .before .loop .inv .rest
+returns-2 c =
+    let start = c .before .before in
+    let loop = c .before .loop in
+    sym (zeros-end (start .args .pool .now) (loop .i) (start .args .to) (omega (arith, c .loop-test .left))) ∙ loop .inv .rest
 
 pub zeros-spec : {M : Type 1} → statement M
 zeros-spec =
