@@ -25,12 +25,14 @@ put-signed-requires-4 c κs = search needs
 put-signed-requires-5 : tie.Need-put-signed-requires-5
 put-signed-requires-5 c κs =
     let at-put-signed3 = c .before .before .before .before .before .before .before .before .before in
+    let start = at-put-signed3 .before .before .before .before .before .before .before .before .before .before .before .before .before .before .before .before in
     let put-signed = at-put-signed3 .before .before .before .before .before .before .before .before .before .before .put-signed in
     let put-signed2 = at-put-signed3 .before .before .before .before .before .put-signed2 in
     let put-signed3 = at-put-signed3 .put-signed3 in
     let put-signed4 = c .before .before .before .before .put-signed4 in
     omega (
       arith,
+      start .pre,
       put-signed .ensures .1,
       put-signed2 .ensures .1,
       put-signed3 .ensures .1,
