@@ -54,7 +54,7 @@ returns c =
     let i = loop .s - 1 in
     let t = c .before .before .loop-test .taken in
     let here : i < length ns = omega (arith, loop .inv .size, loop .inv .low, read-slots w) in
-    let fits : headSize + slotSize * i + slotSize ≤ length w = omega (arith, loop .inv .size, loop .inv .low, right-size w start .pre) in
+    let fits : headSize + slotSize * i + slotSize ≤ length w = omega (arith, loop .inv .size, loop .inv .low, right-size w (start .pre)) in
     sym (parts-stop slotSize nodeWords node-size w headSize freeNode ns i here fits
     (sym (c .before .tidy-slot .ensures) ∙ not-true _ (c .if1 .taken)))
     ∙ loop .inv .rest
@@ -78,7 +78,7 @@ loop-again c =
     let i = loop .s - 1 in
     let t = c .before .before .loop-test .taken in
     let here : i < length ns = omega (arith, loop .inv .size, loop .inv .low, read-slots w) in
-    let fits : headSize + slotSize * i + slotSize ≤ length w = omega (arith, loop .inv .size, loop .inv .low, right-size w start .pre) in
+    let fits : headSize + slotSize * i + slotSize ≤ length w = omega (arith, loop .inv .size, loop .inv .low, right-size w (start .pre)) in
     let e : loop .s + 1 - 1 ≡ i + 1 = omega (arith, loop .inv .low) in
     record {
       size = loop .inv .size;
