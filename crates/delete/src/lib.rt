@@ -22,14 +22,20 @@ use find_leaf::Way;
 use free_slots::FreeSlots;
 use insert::Outcome;
 use rules::Entry;
+use rules::LEAST;
+use rules::MOST_HEIGHT;
+use rules::NINE;
 use rules::Record;
 use rules::SlotNumber;
 
+// A node that leaves has fewer entries than the least, and there is at most one for each level below the root.
+const MOST_ASIDE: usize = (LEAST - 1) * (MOST_HEIGHT - 1);
+
 // What CondenseTree has in hand on its way up: the entries set aside, each with the level of the node that it was in, and what is known of
-// the free slots. A node that leaves has at most two entries, and there are at most 7 levels below the root.
+// the free slots.
 struct Asides {
-    entries: [Entry; 14],
-    levels: [usize; 14],
+    entries: [Entry; MOST_ASIDE],
+    levels: [usize; MOST_ASIDE],
     count: usize,
     free: FreeSlots,
 }
@@ -37,7 +43,7 @@ struct Asides {
 // ---- D2, and CT3 and CT4 at one node
 
 // "Later entries close up": the first n, less the one at place i.
-fn close_up(entries: [Entry; 9], i: usize, n: usize) -> [Entry; 9]
+fn close_up(entries: [Entry; NINE], i: usize, n: usize) -> [Entry; NINE]
     requires { ⌜ (i < n) × (n ≤ 9) ⌝ }
     ensures { λ r. ⌜ take (n - 1) r ≡ without i (take n entries) ⌝ }
 {
@@ -73,7 +79,7 @@ fn zero_slot(pool: &mut [i32], s: SlotNumber)
     ensures is { λ _. ⌜ L.read (now (pool .exit)) ≡ P.zeroSlot (L.read (now (pool .entry))) s ⌝ }
     ensures fit { λ _. ⌜ Fit (now (pool .exit)) ⌝ }
 {
-    let none = [pool::no_entry(); 9];
+    let none = [pool::no_entry(); NINE];
     pool::put_node(pool, s, 0, none, 0);
 }
 
@@ -134,7 +140,7 @@ fn relieve(pool: &mut [i32], s: SlotNumber, i: usize, t: SlotNumber, asides: Asi
     requires { ⌜ asides .count ≤ 12 ⌝ }
     ensures { λ r. ⌜ Has (D.relieve (D.place s i) t (condensed (L.read (now (pool .entry))) (asidesOf asides))) r (now (pool .exit)) ⌝ }
 {
-    if pool::count_of(pool, t) < 3 {
+    if pool::count_of(pool, t) < LEAST {
         let level = pool::level_of(pool, t);
         let more = set_aside(pool, t, level, asides);
         take_out(pool, s, i);
@@ -153,8 +159,8 @@ fn none_aside(free: FreeSlots) -> Asides
     ensures roomy { λ r. ⌜ Roomy r ⌝ }
     ensures free { λ r. ⌜ r .free ≡ free ⌝ }
 {
-    let entries = [pool::no_entry(); 14];
-    let levels = [0; 14];
+    let entries = [pool::no_entry(); MOST_ASIDE];
+    let levels = [0; MOST_ASIDE];
     Asides {
         entries,
         levels,

@@ -1,5 +1,5 @@
 -- CT3 and CT4: a child shrank. With fewer than 3 entries it leaves its parent, its entries are set aside and its slot is zeroed; else its
--- entry is made tight. No node of the other children's trees has changed, since no slot is in two of them (Beside).
+-- entry is made tight. No node of the other children's trees has changed, since no slot is in two of them (Others).
 use mathlib.Core.Path.{_≡_, sym, ap, _∙_}
 use mathlib.Core.Logic.{_≢_, ⊎-elim}
 use mathlib.Core.List.{List, _∷_, _++_, map, Memᴰ·cast, List·Memᴰ·cases-cons, List·Memᴰ·append-cases}
@@ -27,7 +27,7 @@ use Rattle.insert_laws.specs.Grown.{Fits, Weights, weightUnder}
 use Rattle.insert_laws.proofs.Under.{under-inner, under-lower, under-used, entries-are, tree-made, weight-parts, weight-made, SameUnder, weight-frame, fits-frame, SameBelow, fits-below}
 use Rattle.insert_laws.proofs.Install.{other-level, put-head, head-twice, put-entries}
 use Rattle.insert_laws.proofs.Beside.{childAt, parent-node, child-entry, child-inside, weight-child, beside-fits, beside-apart}
-use Rattle.insert_laws.proofs.Beside.{Beside, top-same, top-level, now-slot, beside-same, tight-many, tight-long, tight-other}
+use Rattle.insert_laws.proofs.Beside.{Others, top-same, top-level, now-slot, beside-same, tight-many, tight-long, tight-other}
 use Rattle.insert_laws.proofs.Beside.{tight-below, tight-free, tight-head, tight-tree, tight-weighs}
 use Rattle.delete_laws.specs.Shrunk.{weightAside, Shrunk, condensed}
 use Rattle.delete_laws.proofs.Asides.{weight-aside-append, weight-asides, asides-fit, weight-aside-below}
@@ -51,7 +51,7 @@ module _ (p : Pool) (l : ℕ) (s : SlotNumber) (d : Tree p (suc (suc l)) s) (i :
   abbrev child : SlotNumber
   child = childAt p s i
 
-  beside : Beside p l s i q
+  beside : Others p l s i q
   beside = record { tree = d; there = there; once = once; long = g .long; kept = λ t u out. g .other t (u .slot .low) out }
 
   here : NodeIn p (suc (suc l)) s

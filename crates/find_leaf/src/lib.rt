@@ -12,14 +12,15 @@ ghost use Rattle.rules.specs.Delete as D;
 ghost use Rattle.sound_laws.specs.Tree.{Whole};
 ghost use Rattle.find_leaf.specs.Ways.{pathOf, Long, Gives};
 ghost use Rattle.find_leaf.specs.State.{findEntryFrom, findChildFrom, findBelow};
+use rules::MOST_HEIGHT;
 use rules::Record;
 use rules::SlotNumber;
 
 // The way down to a pair: for each level, from 1 on, the node that is passed and the entry's place in it.
 pub struct Way {
     pub found: bool,
-    pub nodes: [SlotNumber; 8],
-    pub places: [usize; 8],
+    pub nodes: [SlotNumber; MOST_HEIGHT],
+    pub places: [usize; MOST_HEIGHT],
 }
 
 // ---- ways
@@ -30,8 +31,8 @@ fn nowhere() -> Way
 {
     Way {
         found: false,
-        nodes: [SlotNumber(0); 8],
-        places: [0; 8],
+        nodes: [SlotNumber(0); MOST_HEIGHT],
+        places: [0; MOST_HEIGHT],
     }
 }
 

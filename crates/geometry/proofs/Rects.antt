@@ -14,8 +14,8 @@ use Rattle.rules.specs.declared.Rect.{Rect}
 abbrev pub back : ℤ → ℤ
 back z = toZ w32 (ofZ w32 z)
 
-abbrev Small : ℤ → Type 0
-Small z = mag z < 2 ^ hbits w32
+abbrev WordFits : ℤ → Type 0
+WordFits z = mag z < 2 ^ hbits w32
 
 pub record ReadBack (r : Rect) : Type 0 where
   pub lowX : back (r .lowX) ≡ r .lowX
@@ -24,7 +24,7 @@ pub record ReadBack (r : Rect) : Type 0 where
   pub highY : back (r .highY) ≡ r .highY
 
 -- from what a need is told of a struct
-pub rect-back : (r : Rect) {A B C D E : Type 0} → (A × Small (r .lowX)) × ((B × Small (r .lowY)) × ((C × Small (r .highX)) × ((D × Small (r .highY)) × E)))
+pub rect-back : (r : Rect) {A B C D E : Type 0} → (A × WordFits (r .lowX)) × ((B × WordFits (r .lowY)) × ((C × WordFits (r .highX)) × ((D × WordFits (r .highY)) × E)))
     → ReadBack r
 rect-back r g = record {
   lowX = toZ-ofZ (sfits-of (g .0 .1));
@@ -34,7 +34,7 @@ rect-back r g = record {
 }
 
 -- one of two numbers, by a function on their words
-pub by-words : (f : ℤ → ℤ → ℤ) {x y z : ℤ} → Small z → z ≡ f (back x) (back y) → back x ≡ x → back y ≡ y → back z ≡ f x y
+pub by-words : (f : ℤ → ℤ → ℤ) {x y z : ℤ} → WordFits z → z ≡ f (back x) (back y) → back x ≡ x → back y ≡ y → back z ≡ f x y
 by-words f s e p q = toZ-ofZ (sfits-of s) ∙ e ∙ ap₂ f p q
 
 -- a test of two words is one of their numbers

@@ -21,6 +21,8 @@ ghost use Rattle.insert.specs.State.{Inside, Here, WayDown, Beside, Fitt
 use free_slots::FreeSlots;
 use rules::Entry;
 use rules::FreeSlot;
+use rules::MOST;
+use rules::NINE;
 use rules::Pointer;
 use rules::Record;
 use rules::Rect;
@@ -44,26 +46,26 @@ pub enum Outcome {
 // ---- SplitNode
 
 // "A full node splits over nine entries, the eight in stored order and the new one ninth."
-fn nine_entries(pool: &[i32], s: SlotNumber, e: Entry) -> [Entry; 9]
+fn nine_entries(pool: &[i32], s: SlotNumber, e: Entry) -> [Entry; NINE]
     requires { ⌜ InPool (now pool) s ⌝ }
     requires { ⌜ length (P.entriesAt (L.read (now pool)) s) ≡ 8 ⌝ }
     ensures { λ r. ⌜ r ≡ P.entriesAt (L.read (now (pool .entry))) s ++ e ∷ [] ⌝ }
 {
     let mut es = pool::entries_of(pool, s);
-    es[8] = e;
+    es[MOST] = e;
     es
 }
 
 // Their rectangles. The array needs something in it before the loop: the first will do.
-fn rects_of(es: [Entry; 9]) -> [Rect; 9]
+fn rects_of(es: [Entry; NINE]) -> [Rect; NINE]
     requires { ⌜ length es ≡ 9 ⌝ }
     ensures { λ r. ⌜ r ≡ P.rects es ⌝ }
 {
     let first = es[0];
     let rect = first.rect;
-    let mut rects = [rect; 9];
+    let mut rects = [rect; NINE];
     let mut i: usize = 0;
-    while i < 9 {
+    while i < NINE {
         let e = es[i];
         let r = e.rect;
         rects[i] = r;
@@ -73,7 +75,7 @@ fn rects_of(es: [Entry; 9]) -> [Rect; 9]
 }
 
 // The entries at the first n of the places.
-fn group_of(es: [Entry; 9], places: [usize; 9], n: usize) -> [Entry; 9]
+fn group_of(es: [Entry; NINE], places: [usize; NINE], n: usize) -> [Entry; NINE]
     requires { ⌜ length es ≡ 9 ⌝ }
     requires { ⌜ n ≤ 9 ⌝ }
     requires { ⌜ Inside places n ⌝ }
@@ -94,8 +96,8 @@ fn put_group(
     pool: &mut [i32],
     s: SlotNumber,
     level: usize,
-    es: [Entry; 9],
-    places: [usize; 9],
+    es: [Entry; NINE],
+    places: [usize; NINE],
     n: usize,
 )
     requires { ⌜ Fit (now pool) ⌝ }
@@ -146,7 +148,7 @@ fn install(pool: &mut [i32], s: SlotNumber, e: Entry, free: FreeSlots) -> Growth
     requires { ⌜ Here (L.read (now pool)) s e ⌝ }
     ensures { λ r. ⌜ GrewTo (I.install I.ours (L.read (now (pool .entry))) s e) r (now (pool .exit)) ⌝ }
 {
-    if pool::count_of(pool, s) < 8 {
+    if pool::count_of(pool, s) < MOST {
         pool::add_entry(pool, s, e);
         return Growth::One(free);
     }
@@ -213,7 +215,7 @@ fn new_root(pool: &mut [i32], partner: Entry, free: FreeSlots) -> Outcome
                 rect,
                 pointer: Pointer::Child(root),
             };
-            let mut two = [old; 9];
+            let mut two = [old; NINE];
             two[1] = partner;
             pool::put_node(pool, t, height + 1, two, 2);
             pool::put_root(pool, t, height + 1);
@@ -244,7 +246,7 @@ fn one_if_full(pool: &[i32], s: SlotNumber) -> usize
     ensures is { λ r. ⌜ r ≡ leading (isFull (L.read (now (pool .entry)))) (s ∷ []) ⌝ }
     ensures most { λ r. ⌜ r ≤ 1 ⌝ }
 {
-    if pool::count_of(pool, s) < 8 { 0 } else { 1 }
+    if pool::count_of(pool, s) < MOST { 0 } else { 1 }
 }
 
 // How many full nodes the way up begins with: from the node that the entry goes into, n levels below the node at s, up to that node.

@@ -77,14 +77,14 @@ module _ (p : Pool) (l : ℕ) (s : SlotNumber) (d : Tree p (suc (suc l)) s) (i :
 
 -- ---- q is p with nothing changed but free slots and the child's tree
 
-pub record Beside (p : Pool) (l : ℕ) (s : SlotNumber) (i : ℕ) (q : Pool) : Type 0 where
+pub record Others (p : Pool) (l : ℕ) (s : SlotNumber) (i : ℕ) (q : Pool) : Type 0 where
   pub tree : Tree p (suc (suc l)) s
   pub there : i < length (entriesAt p s)
   pub once : Once (slotsIn p (suc (suc l)) s)
   pub long : length (p .slots) ≡ length (q .slots)
   pub kept : (t : SlotNumber) → Used p t → (Among t (slotsIn p (suc l) (childAt p s i)) → ⊥) → nodeAt p t ≡ nodeAt q t
 
-module _ {p : Pool} {l : ℕ} {s : SlotNumber} {i : ℕ} {q : Pool} (b : Beside p l s i q) where
+module _ {p : Pool} {l : ℕ} {s : SlotNumber} {i : ℕ} {q : Pool} (b : Others p l s i q) where
   here : NodeIn p (suc (suc l)) s
   here = parent-node p l s (b .tree) i (b .there)
 

@@ -12,12 +12,12 @@ use Rattle.sound_laws.specs.Tree.{slotsIn, Once, Tree}
 use Rattle.sound_laws.proofs.Walk.{top-among}
 use Rattle.insert_laws.specs.Grown.{spot, Grew}
 use Rattle.insert_laws.proofs.Under.{fits-below, weight-of-below}
-use Rattle.insert_laws.proofs.Beside.{childAt, child-inside, Beside, tight-long, tight-other, tight-below, tight-tree, tight-weighs}
+use Rattle.insert_laws.proofs.Beside.{childAt, child-inside, Others, tight-long, tight-other, tight-below, tight-tree, tight-weighs}
 
 module _ (p : Pool) (l : ℕ) (s : SlotNumber) (d : Tree p (suc (suc l)) s) (i : ℕ) (there : i < length (entriesAt p s))
     (once : Once (slotsIn p (suc (suc l)) s)) (q : Pool) {come left : Node} {taken : List SlotNumber}
     (g : Grew (spot p (suc l) (childAt p s i)) (spot q (suc l) (childAt p s i)) come left taken (slotsIn p (suc l) (childAt p s i))) where
-  pub grew-beside : Beside p l s i q
+  pub grew-beside : Others p l s i q
   grew-beside = record {
     tree = d;
     there = there;

@@ -35,14 +35,14 @@ once l o o′ a b = λ i. record {
 -- ---- the number
 
 -- the bits of the number are not zero
-abbrev Told : Verdict → Type 0
-Told v = not (eqb (ofZ w32 (verdictNumber v)) 0) ≡ true
+abbrev FaultTold : Verdict → Type 0
+FaultTold v = not (eqb (ofZ w32 (verdictNumber v)) 0) ≡ true
 
-told : (l : Lent) → EachGiven Told (callFault l)
+told : (l : Lent) → EachGiven FaultTold (callFault l)
 unfolding callFault verdictNumber
 told l =
-    given-row Told _ BadLists _ refl
-    (given-row Told _ BadLength _ refl (given-row Told _ NotSound _ refl (given-row Told _ NoRequest _ refl (given-none Told))))
+    given-row FaultTold _ BadLists _ refl
+    (given-row FaultTold _ BadLength _ refl (given-row FaultTold _ NotSound _ refl (given-row FaultTold _ NoRequest _ refl (given-none FaultTold))))
 
 module _ (l : Lent) (all : Bool) (asked : all ≡ every isRequest (l .requests)) (z : ℤ)
     (is : z ≡ refusalOf (l .pool) (length (l .workspace)) (length (l .requests)) (length (l .answers)) all) where
@@ -58,7 +58,7 @@ module _ (l : Lent) (all : Bool) (asked : all ≡ every isRequest (l .requests))
 
   pub is-refused : (v : Verdict) → callFault l ≡ some v → not (eqb (ofZ w32 z) 0) ≡ true
   unfolding faultNumber
-  is-refused v h = ap (λ (x : ℤ). not (eqb (ofZ w32 x) 0)) (number-is ∙ ap faultNumber h) ∙ subst (EachGiven Told) h (told l)
+  is-refused v h = ap (λ (x : ℤ). not (eqb (ofZ w32 x) 0)) (number-is ∙ ap faultNumber h) ∙ subst (EachGiven FaultTold) h (told l)
 
   -- "A refused call returns its number and writes nothing at all."
   pub left-alone : (v : Verdict) → callFault l ≡ some v → Allowed l (left z (l .pool) (l .workspace) (l .answers) (l .found))

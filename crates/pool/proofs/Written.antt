@@ -91,9 +91,9 @@ pub head-size : (p : Pool) → length (headWords p) ≡ headSize
 unfolding headWords padded
 head-size p = refl
 
-after : (p : Pool) → drop headSize (words p) ≡ joined (map nodeWords (p .slots))
+slots-after-head : (p : Pool) → drop headSize (words p) ≡ joined (map nodeWords (p .slots))
 unfolding words
-after p = drop-at (headWords p) (joined (map nodeWords (p .slots))) headSize (head-size p)
+slots-after-head p = drop-at (headWords p) (joined (map nodeWords (p .slots))) headSize (head-size p)
 
 module _ (p : Pool) where
   abbrev slotLists : List (List ℤ)
@@ -113,7 +113,7 @@ module _ (p : Pool) where
   slots-back : AllFine p → map nodeOf (runs slotSize (slotCount (words p)) (drop headSize (words p))) ≡ p .slots
   slots-back f =
       ap (map nodeOf)
-      (ap₂ (runs slotSize) (words-slots ∙ sym lists) (after p ∙ sym (append-nil (joined slotLists)))
+      (ap₂ (runs slotSize) (words-slots ∙ sym lists) (slots-after-head p ∙ sym (append-nil (joined slotLists)))
       ∙ runs-joined slotSize slotLists (node-wide (p .slots)) [])
       ∙ nodes-back (p .slots) f
 

@@ -6,6 +6,12 @@ pub const MOST: usize = 8;
 
 pub const LEAST: usize = 3;
 
+// "A full node splits over nine entries".
+pub const NINE: usize = MOST + 1;
+
+// "Height is 8 at most".
+pub const MOST_HEIGHT: usize = 8;
+
 // "Slots N: 1 to 4,096. A batch has 0 to 1,024 requests."
 pub const MOST_SLOTS: usize = 4096;
 

@@ -10,6 +10,7 @@ ghost use Rattle.rules.specs.Sound as S;
 ghost use Rattle.pool.specs.Slots.{InPool};
 ghost use Rattle.sound.specs.State.{entryFits, innerSound};
 use rules::Entry;
+use rules::MOST_HEIGHT;
 use rules::SlotNumber;
 
 // "A leaf entry needs a valid rectangle and number."
@@ -132,7 +133,7 @@ pub fn sound(pool: &[i32]) -> bool
     if !sound_shape::shaped(pool) {
         return false;
     }
-    if 8 < pool::height_of(pool) {
+    if MOST_HEIGHT < pool::height_of(pool) {
         return false;
     }
     all_sound(pool)

@@ -12,6 +12,8 @@ ghost use Rattle.rules.specs.Geometry as G;
 ghost use Rattle.rules.specs.Split as S;
 ghost use Rattle.split.specs.State.{AllValid, Keyed, wastesMore, seedsOf, widerNext, unjoined, firstOf, groupsOf, Free, Fill, Ok, flipped, withOne, ends, GroupsWhole};
 use geometry::less_then;
+use rules::LEAST;
+use rules::NINE;
 use rules::Rect;
 
 // ---- PickSeeds
@@ -31,7 +33,7 @@ fn keep(best: KeyedSeeds, other: KeyedSeeds) -> KeyedSeeds
 }
 
 // PS1 for one first member: the best pair so far, and those of the place i with each later one.
-fn pairs_of(nine: [Rect; 9], i: usize, best: KeyedSeeds) -> KeyedSeeds
+fn pairs_of(nine: [Rect; NINE], i: usize, best: KeyedSeeds) -> KeyedSeeds
     requires { ⌜ AllValid nine ⌝ }
     requires { ⌜ i < 9 ⌝ }
     requires { ⌜ Keyed nine best ⌝ }
@@ -41,7 +43,7 @@ fn pairs_of(nine: [Rect; 9], i: usize, best: KeyedSeeds) -> KeyedSeeds
     let a = nine[i];
     let mut b = best;
     let mut j = i + 1;
-    while j < 9 {
+    while j < NINE {
         let key = geometry::waste(a, nine[j]);
         b = keep(
             b,
@@ -57,7 +59,7 @@ fn pairs_of(nine: [Rect; 9], i: usize, best: KeyedSeeds) -> KeyedSeeds
 }
 
 // Largest d, then earliest first member, then earliest second.
-fn pick_seeds(nine: [Rect; 9]) -> KeyedSeeds
+fn pick_seeds(nine: [Rect; NINE]) -> KeyedSeeds
     requires { ⌜ AllValid nine ⌝ }
     ensures is { λ r. ⌜ seedsOf r ≡ S.pickSeeds nine ⌝ }
     ensures keyed { λ r. ⌜ Keyed nine r ⌝ }
@@ -69,7 +71,7 @@ fn pick_seeds(nine: [Rect; 9]) -> KeyedSeeds
         key,
     };
     let mut i: usize = 0;
-    while i < 9 {
+    while i < NINE {
         b = pairs_of(nine, i, b);
         i += 1;
     }
@@ -80,10 +82,10 @@ fn pick_seeds(nine: [Rect; 9]) -> KeyedSeeds
 
 // Two groups of places in the order of joining, with their covers, and for each place whether it has a group.
 pub struct Grouping {
-    pub joined: [bool; 9],
-    pub one: [usize; 9],
+    pub joined: [bool; NINE],
+    pub one: [usize; NINE],
     pub ones: usize,
-    pub two: [usize; 9],
+    pub two: [usize; NINE],
     pub twos: usize,
     pub coverOne: Rect,
     pub coverTwo: Rect,
@@ -126,7 +128,7 @@ fn wider(best: KeyedPlace, at: usize, key: u64) -> KeyedPlace
 
 // The place i is looked at, unless it has a group.
 fn look(
-    nine: [Rect; 9],
+    nine: [Rect; NINE],
     i: usize,
     joined: bool,
     one: Rect,
@@ -147,12 +149,12 @@ fn look(
 }
 
 // The first place that has no group, or 0.
-fn first_left(joined: [bool; 9]) -> usize
+fn first_left(joined: [bool; NINE]) -> usize
     ensures is { λ r. ⌜ r ≡ firstOf (unjoined joined 0) ⌝ }
     ensures small { λ r. ⌜ r < 9 ⌝ }
 {
     let mut i = 0;
-    while i < 9 {
+    while i < NINE {
         if !joined[i] {
             return i;
         }
@@ -162,7 +164,7 @@ fn first_left(joined: [bool; 9]) -> usize
 }
 
 // Largest absolute difference of the two enlargements, then earliest.
-fn pick_next(nine: [Rect; 9], joined: [bool; 9], one: Rect, two: Rect) -> usize
+fn pick_next(nine: [Rect; NINE], joined: [bool; NINE], one: Rect, two: Rect) -> usize
     requires { ⌜ AllValid nine ⌝ }
     requires { ⌜ G.valid one ≡ true ⌝ }
     requires { ⌜ G.valid two ≡ true ⌝ }
@@ -172,7 +174,7 @@ fn pick_next(nine: [Rect; 9], joined: [bool; 9], one: Rect, two: Rect) -> usize
     let key = preference(nine[at], one, two);
     let mut best = KeyedPlace { at, key };
     let mut i: usize = 0;
-    while i < 9 {
+    while i < NINE {
         best = look(nine, i, joined[i], one, two, best);
         i += 1;
     }
@@ -202,7 +204,7 @@ fn swapped(t: Grouping) -> Grouping
 }
 
 // The place k joins group 1, last.
-fn join_one(nine: [Rect; 9], t: Grouping, k: usize) -> Grouping
+fn join_one(nine: [Rect; NINE], t: Grouping, k: usize) -> Grouping
     requires { ⌜ Ok nine t ⌝ }
     requires { ⌜ Free t k ⌝ }
     ensures { λ r. ⌜ r ≡ withOne nine t k ⌝ }
@@ -228,7 +230,7 @@ fn join_one(nine: [Rect; 9], t: Grouping, k: usize) -> Grouping
 }
 
 // .. group 2.
-fn join_two(nine: [Rect; 9], t: Grouping, k: usize) -> Grouping
+fn join_two(nine: [Rect; NINE], t: Grouping, k: usize) -> Grouping
     requires { ⌜ Ok nine t ⌝ }
     requires { ⌜ Free t k ⌝ }
     ensures { λ r. ⌜ r ≡ flipped (withOne nine (flipped t) k) ⌝ }
@@ -251,7 +253,7 @@ fn second_first(r: Rect, one: Rect, two: Rect, ones: usize, twos: usize) -> bool
 }
 
 // QS2 and QS3: one place joins a group. Where a group needs all that are left, the first of them joins it, and so on to the last.
-fn assign(nine: [Rect; 9], t: Grouping) -> Grouping
+fn assign(nine: [Rect; NINE], t: Grouping) -> Grouping
     requires { ⌜ AllValid nine ⌝ }
     requires { ⌜ Ok nine t ⌝ }
     requires { ⌜ (t .ones + t .twos < 9) × Fill t ⌝ }
@@ -261,12 +263,12 @@ fn assign(nine: [Rect; 9], t: Grouping) -> Grouping
 {
     let ones = t.ones;
     let twos = t.twos;
-    let left = 9 - (ones + twos);
+    let left = NINE - (ones + twos);
     let joined = t.joined;
-    if ones + left == 3 {
+    if ones + left == LEAST {
         return join_one(nine, t, first_left(joined));
     }
-    if twos + left == 3 {
+    if twos + left == LEAST {
         return join_two(nine, t, first_left(joined));
     }
     let one = t.coverOne;
@@ -279,19 +281,19 @@ fn assign(nine: [Rect; 9], t: Grouping) -> Grouping
 }
 
 // QS1: the earlier seed opens group 1.
-fn begun(nine: [Rect; 9], i: usize, j: usize) -> Grouping
+fn begun(nine: [Rect; NINE], i: usize, j: usize) -> Grouping
     requires { ⌜ AllValid nine ⌝ }
     requires { ⌜ (i < j) × (j < 9) ⌝ }
     ensures is { λ r. ⌜ groupsOf r ≡ S.opening 9 (S.seeds i j) ⌝ }
     ensures ok { λ r. ⌜ Ok nine r ⌝ }
     ensures count { λ r. ⌜ (r .ones ≡ 1) × (r .twos ≡ 1) ⌝ }
 {
-    let mut joined = [false; 9];
+    let mut joined = [false; NINE];
     joined[i] = true;
     joined[j] = true;
-    let mut one = [0usize; 9];
+    let mut one = [0usize; NINE];
     one[0] = i;
-    let mut two = [0usize; 9];
+    let mut two = [0usize; NINE];
     two[0] = j;
     let coverOne = nine[i];
     let coverTwo = nine[j];
@@ -307,7 +309,7 @@ fn begun(nine: [Rect; 9], i: usize, j: usize) -> Grouping
 }
 
 // Nine rectangles in two groups, by Guttman's quadratic split.
-pub fn split_nine(nine: [Rect; 9]) -> Grouping
+pub fn split_nine(nine: [Rect; NINE]) -> Grouping
     requires { ⌜ AllValid nine ⌝ }
     ensures one { λ r. ⌜ take (r .ones) (r .one) ≡ S.quadraticGroups nine .one ⌝ }
     ensures two { λ r. ⌜ take (r .twos) (r .two) ≡ S.quadraticGroups nine .two ⌝ }
@@ -318,7 +320,7 @@ pub fn split_nine(nine: [Rect; 9]) -> Grouping
     let j = p.second;
     let mut t = begun(nine, i, j);
     let mut n: usize = 0;
-    while n < 7 {
+    while n < NINE - 2 {
         t = assign(nine, t);
         n += 1;
     }
