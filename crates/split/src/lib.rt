@@ -16,6 +16,9 @@ use rules::LEAST;
 use rules::NINE;
 use rules::Rect;
 
+// Two of the nine are seeds.
+const UNSEEDED: usize = NINE - 2;
+
 // ---- PickSeeds
 
 // Two places, the earlier first, and their d as `geometry::waste` counts it.
@@ -320,7 +323,7 @@ pub fn split_nine(nine: [Rect; NINE]) -> Grouping
     let j = p.second;
     let mut t = begun(nine, i, j);
     let mut n: usize = 0;
-    while n < NINE - 2 {
+    while n < UNSEEDED {
         t = assign(nine, t);
         n += 1;
     }
