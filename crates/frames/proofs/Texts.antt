@@ -77,3 +77,10 @@ moved-all at n old new h s f =
     let b = length-take-le n (drop at old) (omega arith) in
     ext-getD 0 (take n new) (take n (drop at old)) (omega arith)
     (λ k l. getD-take n new k 0 (omega arith) ∙ f k (omega arith) ∙ sym (getD-take n (drop at old) k 0 (omega arith) ∙ getD-drop at old k 0))
+
+-- .. and the others as they were
+pub others-kept : (n : ℕ) (old new : List ℕ) → length new ≡ length old → ((k : ℕ) → n ≤ k → getD new k 0 ≡ getD old k 0) → drop n new ≡ drop n old
+others-kept n old new s f =
+    let a = length-drop n new in
+    let b = length-drop n old in
+    ext-getD 0 (drop n new) (drop n old) (omega arith) (λ k l. getD-drop n new k 0 ∙ f (n + k) (omega arith) ∙ sym (getD-drop n old k 0))

@@ -363,8 +363,9 @@ pub fn bad_line(out: &mut [u8], at: usize, before: u64) -> usize
 // are.
 pub fn keep_rest(buffer: &mut [u8], at: usize, end: usize) -> usize
     requires { ⌜ (at ≤ end) × (end ≤ length (now buffer)) ⌝ }
-    ensures { λ r. ⌜ r ≡ end - at ⌝ }
-    ensures { λ r. ⌜ take (end - at) (now (buffer .exit)) ≡ take (end - at) (drop at (now (buffer .entry))) ⌝ }
+    ensures many { λ r. ⌜ r ≡ end - at ⌝ }
+    ensures front { λ r. ⌜ take (end - at) (now (buffer .exit)) ≡ take (end - at) (drop at (now (buffer .entry))) ⌝ }
+    ensures others { λ r. ⌜ drop (end - at) (now (buffer .exit)) ≡ drop (end - at) (now (buffer .entry)) ⌝ }
 {
     let rest = end - at;
     let mut i: usize = 0;

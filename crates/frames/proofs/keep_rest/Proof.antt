@@ -5,7 +5,7 @@ use Prim.Native.Nat.{ℕ, _+_, _-_, _≤_, _<_}
 use lib.ListN.{length, getD, length-set}
 use lib.Seq.{getD-set-other}
 use native.Mathlib.Omega.{arith}
-use Rattle.frames.proofs.Texts.{moved-more, moved-all}
+use Rattle.frames.proofs.Texts.{moved-more, moved-all, others-kept}
 use Rattle.frames.proofs.keep_rest.Statement.{statement}
 use Rattle.frames.proofs.keep_rest.Tie as tie
 
@@ -79,8 +79,11 @@ returns c =
     let t = loop .inv in
     let e : loop .i ≡ start .args .end - start .args .at = omega arith in (
       omega arith,
-      moved-all (start .args .at) (start .args .end - start .args .at) (start .args .buffer .now) (loop .buffer) (omega arith) (t .size)
-          (λ k h. t .moved k (omega arith)),
+      (
+        moved-all (start .args .at) (start .args .end - start .args .at) (start .args .buffer .now) (loop .buffer) (omega arith) (t .size)
+            (λ k h. t .moved k (omega arith)),
+        others-kept (start .args .end - start .args .at) (start .args .buffer .now) (loop .buffer) (t .size) (λ k h. t .same k (omega arith)),
+      ),
     )
 
 pub keep-rest-spec : {M : Type 1} → statement M

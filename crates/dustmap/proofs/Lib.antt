@@ -1,5 +1,0 @@
--- Laws of the program's steps.
-pub mod Calls
-pub mod Steps
-pub mod Rests
-pub mod First

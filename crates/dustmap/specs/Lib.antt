@@ -1,2 +1,0 @@
--- What stays true from step to step of the program.
-pub mod Running

@@ -1,0 +1,59 @@
+-- `answer`: the request does the call of the frame (Calls), and its lines are written after those that wait.
+use native.Mathlib.Omega.{arith}
+use mathlib.Core.Path.{sym, _∙_}
+use Rattle.program.proofs.Calls.{replies-by}
+use borrow.Author.Needs.{needs}
+use Rattle.program.proofs.answer.Statement.{statement}
+use Rattle.program.proofs.answer.Tie as tie
+use Rattle.request.proofs.Cases.{asks-something}
+
+one-request-requires : tie.Need-one-request-requires
+one-request-requires c κs =
+    let start = c .before .before .before in
+    (start .pre .0, (start .pre .1 .1 .0 ∙ sym (start .pre .1 .0), (start .pre .1 .1 .1 .0, omega arith)))
+
+found-list-requires : tie.Need-found-list-requires
+found-list-requires c κs =
+    let start = c .before .before .before .before .before .before .before .before .before .before in
+    let one-request = c .before .before .before .before .before .before .one-request in
+    let x = asks-something (start .args .q) (start .pre .1 .1 .1 .0) in
+    let v = one-request .ensures (x .0) (x .1) in
+    (v .same ∙ start .pre .1 .0, (v .work ∙ start .pre .1 .0, v .pointing))
+
+reply-lines-requires : tie.Need-reply-lines-requires
+reply-lines-requires c κs = search needs
+
+same-length : tie.Need-same-length
+same-length c = search needs
+
+same-length-2 : tie.Need-same-length-2
+same-length-2 c = search needs
+
+same-length-3 : tie.Need-same-length-3
+same-length-3 c = search needs
+
+returns : tie.Need-returns
+returns c =
+    let at-found-list = c .before .before .before .before in
+    let start = at-found-list .before .before .before .before .before .before .before .before .before .before .before in
+    let one-request = at-found-list .before .before .before .before .before .before .before .one-request in
+    let found-list = at-found-list .found-list in
+    let reply-lines = c .before .before .reply-lines in
+    let x = asks-something (start .args .q) (start .pre .1 .1 .1 .0) in
+    let v = one-request .ensures (x .0) (x .1) in
+    replies-by (start .args .pool .now) (start .args .q) (x .0) (start .args .before) (start .args .at) (start .args .out .now)
+    (reply-lines .last .0) (one-request .last .0) (one-request .last .1 .0) (one-request .result) (reply-lines .result) (found-list .result)
+    (start .pre .0 .right) (start .pre .0 .sound) (start .pre .1 .1 .1 .0) (x .1) v (found-list .ensures) (reply-lines .ensures .0)
+    (reply-lines .ensures .1)
+
+pub answer-spec : {M : Type 1} → statement M
+answer-spec =
+    tie.close
+    (tie.spec
+    one-request-requires
+    found-list-requires
+    reply-lines-requires
+    same-length
+    same-length-2
+    same-length-3
+    returns)

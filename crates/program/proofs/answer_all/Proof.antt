@@ -1,0 +1,178 @@
+-- `answer_all`: the claim holds at the start, goes through each round, and says at the end what was printed. The rounds that are left fall.
+use Rattle.program.proofs.Rests.{step-goes, step-ends, run-endless, finished-fits}
+use mir.Facts.{toZ-ofZ}
+use mathlib.Core.Path.{_≡_, sym, ap, subst, _∙_}
+use mathlib.Core.List.{List, [], _++_}
+use Prim.Native.Nat.{ℕ, _+_, _≤_}
+use native.Mathlib.Omega.{arith}
+use lib.ListN.{length}
+use lib.IntN.{ℤ}
+use borrow.Author.Needs.{needs}
+use Rattle.rules.specs.Layout.{validLength}
+use Rattle.rules.specs.Sound.{sound}
+use Rattle.frames.specs.Said.{Said}
+use Rattle.frames.proofs.Pieces.{said-start}
+use Rattle.program.specs.declared.Run.{Run}
+use Rattle.program.specs.Running.{poolSize, Claims, Stands}
+use Rattle.program.proofs.First.{first-long, first-right, first-sound}
+use Rattle.program.proofs.answer_all.Statement.{statement}
+use Rattle.program.proofs.answer_all.Tie as tie
+use Rattle.program.proofs.answer_all.Reads as reads
+use Rattle.program.proofs.answer_all.Lts as lts
+use Rattle.free_slots.proofs.free_slots.Reads as free-slots-reads
+use Rattle.io.proofs.large_buffer.Reads as large-buffer-reads
+use Rattle.pool.proofs.blank.blank.Reads as blank-reads
+use Rattle.program.proofs.round.Reads as round-reads
+
+-- what has been read, what has been handed over, and that what is printed of the first is the second and what is still in the output
+record Turn (pool work : List ℤ) (input out : List ℕ) (run : Run) (rounds : ℕ) : Type 0 where
+  words : length pool ≡ poolSize
+  space : length work ≡ poolSize
+  inputs : length input ≡ 65536
+  outs : length out ≡ 65536
+  stands : Stands pool input out run
+  counted : run .before + rounds ≤ 18446744073709551615
+  arrived : List ℕ
+  printed : List ℕ
+  claims : Claims pool input out run arrived printed
+
+abbrev Inv-loop : tie.InvT-loop
+Inv-loop pool₀ work₀ input₀ out₀ run₀ rounds₀ pool work input out run rounds = Turn pool work input out run rounds
+
+abbrev μ-loop : tie.MeasureT-loop
+μ-loop pool₀ work₀ input₀ out₀ run₀ rounds₀ pool work input out run rounds = rounds
+
+large-buffer-requires : tie.Need-large-buffer-requires Inv-loop μ-loop
+large-buffer-requires c κs = search needs
+
+large-buffer-requires-2 : tie.Need-large-buffer-requires-2 Inv-loop μ-loop
+large-buffer-requires-2 c κs = search needs
+
+slice-aggregate-blank : tie.Need-slice-aggregate-blank Inv-loop μ-loop
+slice-aggregate-blank c = search needs
+
+blank-requires : tie.Need-blank-requires Inv-loop μ-loop
+blank-requires c κs = search needs
+
+slice-aggregate-free-slots : tie.Need-slice-aggregate-free-slots Inv-loop μ-loop
+slice-aggregate-free-slots c = search needs
+
+free-slots-requires : tie.Need-free-slots-requires Inv-loop μ-loop
+free-slots-requires c κs = ap validLength (c .before .before .blank .ensures .1) ∙ first-right
+
+loop-holds : tie.Need-loop-holds Inv-loop μ-loop
+loop-holds c =
+    let blank = c .before .before .before .blank in
+    record {
+      words = ap length (blank .ensures .1) ∙ first-long;
+      space = search needs;
+      inputs = search needs;
+      outs = search needs;
+      stands = record {
+        ready = record {
+          right = ap validLength (blank .ensures .1) ∙ first-right;
+          sound = ap sound (blank .ensures .1) ∙ first-sound;
+          known = c .free-slots .ensures;
+        };
+        low = omega arith;
+        high = omega arith;
+        room = omega arith;
+      };
+      counted = omega arith;
+      arrived = [];
+      printed = [];
+      claims = subst (λ (p : List ℤ). Said [] [] 0 p []) (sym (blank .ensures .1)) said-start;
+    }
+
+slice-aggregate-round : tie.Need-slice-aggregate-round Inv-loop μ-loop
+slice-aggregate-round c = search needs
+
+slice-aggregate-round-2 : tie.Need-slice-aggregate-round-2 Inv-loop μ-loop
+slice-aggregate-round-2 c = search needs
+
+slice-aggregate-round-3 : tie.Need-slice-aggregate-round-3 Inv-loop μ-loop
+slice-aggregate-round-3 c = search needs
+
+slice-aggregate-round-4 : tie.Need-slice-aggregate-round-4 Inv-loop μ-loop
+slice-aggregate-round-4 c = search needs
+
+round-requires : tie.Need-round-requires Inv-loop μ-loop
+round-requires c κs =
+    let t = c .before .before .before .before .before .loop .inv in
+    (t .stands, (t .words, (t .space, (omega (arith, t .inputs), (omega (arith, t .outs), omega (arith, t .counted))))))
+
+enum-known-next : tie.Need-enum-known-next Inv-loop μ-loop
+enum-known-next c = search needs
+
+sub-rounds : tie.Need-sub-rounds Inv-loop μ-loop
+sub-rounds c = omega arith
+
+loop-less : tie.Need-loop-less Inv-loop μ-loop
+loop-less c = omega arith
+
+loop-again : tie.Need-loop-again Inv-loop μ-loop
+loop-again c =
+    let at-round = c .before .before .before .before .before .before .before in
+    let loop = at-round .before .before .before .before .before .before .loop in
+    let round = at-round .round in
+    let next = c .before .next in
+    let t = loop .inv in
+    let o = step-goes (loop .pool) (loop .input) (loop .out) (loop .run) (round .last .0) (round .last .1 .1 .0)
+    (round .last .1 .1 .1 .0) (round .result) (round .ensures) (next .given .0 .0) (next .given .1) in
+    record {
+      words = round .kept .0 ∙ t .words;
+      space = round .kept .1 .0 ∙ t .space;
+      inputs = round .kept .1 .1 .0 ∙ t .inputs;
+      outs = round .kept .1 .1 .1 .0 ∙ t .outs;
+      stands = o .stands;
+      counted = omega (arith, t .counted, o .counted);
+      arrived = t .arrived ++ o .piece;
+      printed = t .printed ++ o .sent;
+      claims = o .keeps (t .arrived) (t .printed) (t .claims);
+    }
+
+enum-known-status : tie.Need-enum-known-status Inv-loop μ-loop
+enum-known-status c = search needs
+
+returns : tie.Need-returns Inv-loop μ-loop
+returns c =
+    let at-round = c .before .before .before .before .before .before .before in
+    let loop = at-round .before .before .before .before .before .before .loop in
+    let round = at-round .round in
+    let status = c .before .status in
+    let t = loop .inv in
+    let o = step-ends (loop .pool) (loop .input) (loop .out) (loop .run) (round .last .0) (round .last .1 .1 .0)
+    (round .last .1 .1 .1 .0) (round .result) (round .ensures) (status .given .0 .0) (status .given .1) in
+    let f = o .finished (t .arrived) (t .printed) (t .claims) in
+    rw (toZ-ofZ (finished-fits f)) (record { arrived = t .arrived ++ o .piece; printed = t .printed ++ o .sent; finished = f })
+
+returns-2 : tie.Need-returns-2 Inv-loop μ-loop
+returns-2 c =
+    let t = c .before .loop .inv in
+    run-endless (c .before .loop .pool) (c .before .loop .input) (c .before .loop .out) (c .before .loop .run) (t .arrived) (t .printed) (t .claims)
+
+pub answer-all-spec : {M : Type 1} → statement M
+answer-all-spec =
+    tie.close
+    (tie.spec
+    Inv-loop
+    μ-loop
+    large-buffer-requires
+    large-buffer-requires-2
+    slice-aggregate-blank
+    blank-requires
+    slice-aggregate-free-slots
+    free-slots-requires
+    loop-holds
+    slice-aggregate-round
+    slice-aggregate-round-2
+    slice-aggregate-round-3
+    slice-aggregate-round-4
+    round-requires
+    enum-known-next
+    sub-rounds
+    loop-less
+    loop-again
+    enum-known-status
+    returns
+    returns-2)
