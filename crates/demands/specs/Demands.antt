@@ -64,14 +64,17 @@ pub record Ends (l : Lent) : Type 0 where
   -- "any pair of outcomes allowed by it is equal"
   pub only : (o : Left) → Allowed l o → o ≡ outcome
 
--- what comes back of a call, o, and what comes back of it without the request at place n, x: "A refused request changes neither pool nor found
--- list.", and the answers are those of the other requests
+-- what comes back of a call, o, and what comes back of it without the request at place n, x
 pub record SameWithout (n : ℕ) (o x : Left) : Type 0 where
+  -- "Otherwise the call returns 0": both do
   pub number : x .number ≡ o .number
+  -- "A refused request changes neither pool nor found list."
   pub pool : x .pool ≡ o .pool
-  pub workspace : x .workspace ≡ o .workspace
-  pub answers : x .answers ≡ take n (o .answers) ++ drop (suc n) (o .answers)
   pub found : x .found ≡ o .found
+  -- "On return 0 the workspace equals the pool."
+  pub workspace : x .workspace ≡ o .workspace
+  -- "its answer goes to the same place in the answer list": the answers to the other requests
+  pub answers : x .answers ≡ take n (o .answers) ++ drop (suc n) (o .answers)
 
 -- a request that is refused by its answer, or is a search
 abbrev pub NoChange : Request → Answer → Type 0
