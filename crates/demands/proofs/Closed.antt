@@ -1,33 +1,40 @@
--- A closed history that meets each hypothesis of the third demand: a pool of one slot is blanked; pairs go in, and requests are refused; a
--- call is refused; then a pair is replaced, and a search shows what is in force.
-use mathlib.Core.Path.{_≡_, refl}
-use mathlib.Core.List.{List, [], _∷_}
+-- A closed history that meets each hypothesis of the demands: a pool of one slot is blanked; pairs go in, and requests are refused; a call is
+-- refused; then a pair is replaced, and two searches show what is in force.
+use mathlib.Core.Path.{_≡_, refl, ap}
+use mathlib.Core.Logic.{inl}
+use mathlib.Core.List.{List, [], _∷_, _++_}
 use Prim.Native.Nat.{ℕ, _-_, _≤_}
 use native.Mathlib.Omega.{arith}
-use lib.ListN.{length, replicate}
+use lib.ListN.{length, replicate, length-append}
+use lib.Seq.{slice}
 use lib.IntN.{ℤ, pos}
 use Rattle.rules.specs.declared.Request.{Request}
-use Rattle.rules.specs.Pool.{blankPool, noRecord}
-use Rattle.rules.specs.Layout.{Blanked, words, blank}
-use Rattle.rules.specs.Insert.{ours}
+use Rattle.rules.specs.Lists.{those}
+use Rattle.rules.specs.Pool.{blankPool, stored, noRecord}
+use Rattle.rules.specs.Layout.{Blanked, words, read, blank}
+use Rattle.rules.specs.Search.{ordered}
+use Rattle.search_laws.specs.Window.{recordMeets}
 use Rattle.rules.specs.Answers.{answer}
-use Rattle.rules.specs.Call.{Lent, call, starting, doRequests}
+use Rattle.rules.specs.Call.{Lent, call}
 use Rattle.rules.specs.Computed.{document01}
 use Rattle.rules.specs.Histories.{box, insert, delete, update, search, shown}
 use Rattle.in_force_laws.specs.Force.{lessPair, change, inForce, forceBy, forceAfter, placesFilled, filledBy, filledAfter}
+use Rattle.in_force_laws.specs.Shows.{High}
 use Rattle.in_force_laws.specs.Batch.{howManyMeet, Told}
 use Rattle.demands.specs.Steps.{Step, Blank, Call, poolAfter, History, inForceAfter}
-use Rattle.demands.proofs.Demands.{demand-3}
+use Rattle.map.specs.Asking.{Allowed}
+use Rattle.demands.specs.Demands.{after, answerAfter, withRequests, SameWithout, NoChange}
+use Rattle.demands.proofs.Demands.{demand-1, demand-2, demand-3, demand-height}
 
 abbrev lends : List ℤ → List Request → ℕ → Lent
-lends w qs n = record { pool = w; workspace = w; requests = qs; answers = replicate n (answer 1 2 3 4); found = noRecord ∷ noRecord ∷ [] }
+lends w qs n = record { pool = w; workspace = w; requests = qs; answers = replicate n (answer 1 2 3 4); found = noRecord ∷ noRecord ∷ noRecord ∷ [] }
 
 -- ---- the steps
 
 start : Blanked
 start = blank (words (blankPool 0))
 
-first : Lent
+pub first : Lent
 first = lends (start .pool) (insert 7 (box 0 0 10 10) ∷ insert 7 (box 0 0 10 10) ∷ delete 9 (box 0 0 10 10) ∷ insert 8 (box 40 0 50 9) ∷ []) 4
 
 -- an answer list of another length
@@ -35,7 +42,7 @@ second : Lent
 second = lends (call first .pool) (delete 7 (box 0 0 10 10) ∷ []) 2
 
 pub last : Lent
-last = lends (call second .pool) (update 7 (box 0 0 10 10) (box 5 5 20 20) ∷ search (box 20 20 30 30) ∷ []) 2
+last = lends (call second .pool) (update 7 (box 0 0 10 10) (box 5 5 20 20) ∷ search (box 20 20 30 30) ∷ search (box 0 0 50 50) ∷ []) 3
 
 before-last : List Step
 before-last = Call second (call second) ∷ Call first (call first) ∷ Blank start ∷ []
@@ -82,9 +89,56 @@ unfolding document01 inForceAfter forceAfter forceBy inForce change lessPair fil
 closed-room = omega arith
 
 -- every hypothesis of the third demand is met, and this is what it says: record 7, which only touches the window, where it is now
-pub closed-shows : Told (doRequests ours 0 (update 7 (box 0 0 10 10) (box 5 5 20 20) ∷ []) (starting last) .pool)
-    (shown 7 (box 5 5 20 20) ∷ shown 8 (box 40 0 50 9) ∷ []) 0 (box 20 20 30 30) 1 (call last .answers) (shown 7 (box 5 5 20 20) ∷ noRecord ∷ [])
+pub closed-shows : Told (after last (update 7 (box 0 0 10 10) (box 5 5 20 20) ∷ []) .pool)
+    (shown 7 (box 5 5 20 20) ∷ shown 8 (box 40 0 50 9) ∷ []) 0 (box 20 20 30 30) 1 (call last .answers)
+    (shown 7 (box 5 5 20 20) ∷ shown 7 (box 5 5 20 20) ∷ shown 8 (box 40 0 50 9) ∷ [])
 unfolding document01 inForceAfter forceAfter forceBy inForce change lessPair filledAfter filledBy placesFilled before-last last second first start
 closed-shows =
     demand-3 0 before-last last (call last) closed-history closed-served .each (update 7 (box 0 0 10 10) (box 5 5 20 20) ∷ [])
-    (search (box 20 20 30 30)) [] refl (box 20 20 30 30) refl refl closed-room
+    (search (box 20 20 30 30)) (search (box 0 0 50 50) ∷ []) refl (box 20 20 30 30) refl refl closed-room
+
+-- .. the height of the pool that the history leaves, by the two records in force
+pub closed-high : High (read (call last .pool)) (shown 7 (box 5 5 20 20) ∷ shown 8 (box 40 0 50 9) ∷ [])
+unfolding document01 poolAfter inForceAfter forceAfter forceBy inForce change lessPair before-last last second first start
+closed-high = demand-height 0 (Call last (call last) ∷ before-last) closed-history
+
+-- ---- the first two demands
+
+allowed : (l : Lent) → Allowed l (call l)
+allowed l = record { number = refl; pool = refl; workspace = refl; answers = refl; found = refl }
+
+-- the last search fills the two places after the first
+pub closed-lists : slice 1 3 (call last .found)
+    ≡ ordered (those (recordMeets (box 0 0 50 50)) (stored (after last (update 7 (box 0 0 10 10) (box 5 5 20 20) ∷ search (box 20 20 30 30) ∷ []) .pool)))
+unfolding document01 last second first start
+closed-lists =
+    demand-2 last (call last) (allowed last) closed-served .lists (update 7 (box 0 0 10 10) (box 5 5 20 20) ∷ search (box 20 20 30 30) ∷ [])
+    (search (box 0 0 50 50)) [] refl (box 0 0 50 50) refl refl .listed
+
+first-served : call first .number ≡ pos 0
+unfolding document01 first start
+first-served = refl
+
+-- the pair that was in force already might as well not have been inserted
+pub closed-unasked : SameWithout 1 (call first)
+    (call (withRequests first (insert 7 (box 0 0 10 10) ∷ delete 9 (box 0 0 10 10) ∷ insert 8 (box 40 0 50 9) ∷ []) (replicate 3 (answer 1 2 3 4))))
+unfolding document01 first start
+closed-unasked =
+    demand-1 first (call first) (allowed first) .unasked first-served (insert 7 (box 0 0 10 10) ∷ []) (insert 7 (box 0 0 10 10))
+    (delete 9 (box 0 0 10 10) ∷ insert 8 (box 40 0 50 9) ∷ []) refl (λ e. omega (arith, e)) (replicate 3 (answer 1 2 3 4)) refl _ (allowed _)
+
+-- a delete of a pair that is not held, and nothing else
+pub idle : Lent
+idle = lends (call first .pool) (delete 9 (box 0 0 10 10) ∷ []) 1
+
+idle-served : call idle .number ≡ pos 0
+unfolding document01 idle first start
+idle-served = refl
+
+one-refused : (done : List Request) (q : Request) (rest : List Request) → idle .requests ≡ done ++ q ∷ rest → NoChange q (answerAfter (call idle) done)
+unfolding document01 idle first start
+one-refused [] q rest e = inl (λ z. omega (arith, z))
+one-refused (d ∷ ds) q rest e = absurd (omega (arith, ap length e, length-append ds (q ∷ rest)))
+
+pub closed-still : call idle .pool ≡ idle .pool
+closed-still = demand-1 idle (call idle) (allowed idle) .still idle-served one-refused

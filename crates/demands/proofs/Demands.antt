@@ -1,44 +1,56 @@
 -- The customer's three demands, proved of what `dustmap_call` promises: that is what `call` defines, request by request, and the pool that a
 -- history leaves holds the records in force.
-use mathlib.Core.Path.{_≡_, refl, sym, ap, subst, _∙_}
-use mathlib.Core.Logic.{_≢_}
-use mathlib.Core.Bool.{not, _||_}
-use mathlib.Core.List.{List, [], _∷_, _++_}
+use mathlib.Core.Path.{_≡_, refl, sym, ap, ap₂, subst, _∙_}
+use mathlib.Core.Logic.{_≢_, ⊎-elim}
+use mathlib.Core.Bool.{true, false, not}
+use mathlib.Core.List.{List, [], _∷_, _++_, append-nil, append-assoc}
 use mathlib.Core.Option.{Option, none, some}
 use Prim.Native.Nat.{ℕ, suc, _+_, _-_, _<_}
 use native.Mathlib.Omega.{arith}
-use lib.ListN.{length, getD, length-append}
-use lib.Seq.{getD-set-same}
-use lib.Dec.{ltb, eqb}
+use lib.ListN.{length, getD, take, drop, length-append}
+use lib.Seq.{slice, getD-set-same}
+use lib.Dec.{eqb}
 use lib.IntN.{ℤ, pos}
 use borrow.Author.Tests.{eq-eqb, ne-eqb}
+use Rattle.rules.specs.declared.Rect.{Rect}
 use Rattle.rules.specs.declared.Request.{Request}
 use Rattle.rules.specs.declared.Asked.{Asked}
+use Rattle.rules.specs.declared.Asked.the-variants.{Search}
 use Rattle.rules.specs.declared.Answer.{Answer}
+use Rattle.rules.specs.declared.Reply.the-variants.{Listed}
 use Rattle.rules.specs.declared.Verdict.{Verdict}
-use Rattle.rules.specs.declared.Verdict.the-variants.{BadLists, BadLength, NotSound}
-use Rattle.rules.specs.Numbers.{mostRequests}
-use Rattle.rules.specs.Pool.{Pool}
-use Rattle.rules.specs.Layout.{validLength, read}
-use Rattle.rules.specs.Sound.{sound, soundPool, nothingElse}
+use Rattle.rules.specs.Lists.{those}
+use Rattle.rules.specs.Pool.{Pool, stored}
+use Rattle.rules.specs.Layout.{validLength, words, read}
+use Rattle.rules.specs.Sound.{sound}
+use Rattle.rules.specs.Search.{ordered, found, opened}
 use Rattle.rules.specs.Insert.{ours}
-use Rattle.rules.specs.Answers.{answerOf, verdictNumber}
-use Rattle.rules.specs.Request.{asked}
-use Rattle.rules.specs.Call.{Lent, Left, Batch, callFault, refused, served, call, afterTurn, doRequest, doRequests, starting}
-use Rattle.rules_laws.proofs.Bools.{not-false, and-both}
+use Rattle.rules.specs.Answers.{answer, answerOf, verdictNumber}
+use Rattle.rules.specs.Request.{Turn, turn, asked}
+use Rattle.rules.specs.Call.{Lent, Left, Batch, isRequest, callFault, refused, served, call, afterTurn, doRequest, doRequests, starting}
+use Rattle.rules_laws.proofs.Bools.{not-false, or-neither}
 use Rattle.rules_laws.proofs.Splits.{ours-lawful}
 use Rattle.sound_laws.specs.Tree.{Whole}
-use Rattle.sound_laws.proofs.Sound.{sound-whole}
-use Rattle.in_force_laws.proofs.Faults.{no-row}
+use Rattle.search_laws.specs.Window.{recordMeets}
+use Rattle.search_laws.proofs.Order.{alike-length, ordered-alike}
+use Rattle.search_laws.proofs.Exact.{search-exact, opened-exact}
+use Rattle.in_force_laws.specs.Force.{forceAfter, filledAfter}
+use Rattle.in_force_laws.specs.Shows.{HoldsRecords, nodesMeeting, High}
+use Rattle.in_force_laws.specs.Batch.{howManyMeet}
 use Rattle.in_force_laws.proofs.Whole.{request-whole}
-use Rattle.in_force_laws.proofs.Batch.{noAnswer, answers-kept, answers-as-many, two-parts}
-use Rattle.in_force_laws.proofs.Call.{callBy-refused, callBy-served, no-fault, left-answers, answers-long, call-shows}
-use Rattle.demands.specs.Steps.{Step, Call, History, inForceAfter}
+use Rattle.in_force_laws.proofs.Search.{holds-high}
+use Rattle.in_force_laws.proofs.Batch.{noAnswer, answers-kept, answers-as-many, listed-end}
+use Rattle.in_force_laws.proofs.Filled.{part-filled}
+use Rattle.in_force_laws.proofs.Call.{callBy-refused, callBy-served, no-fault, left-answers, left-found, left-beyond, answers-long, call-part, call-shows}
+use Rattle.request.proofs.Sounds.{sound-fit, sound-tree}
+use Rattle.demands.specs.Steps.{Step, Call, poolAfter, History, inForceAfter}
 use Rattle.map.specs.Asking.{Allowed}
 use Rattle.map.proofs.Calls.{once}
-use Rattle.demands.specs.Demands.{after, turnAfter, answerAfter, Untouched, Ends, Refuses, Accepted, Does, Shows}
+use Rattle.demands.specs.Demands.{after, turnAfter, answerAfter, withRequests, Untouched, Ends, SameWithout, NoChange, Refuses}
+use Rattle.demands.specs.Demands.{Accepted, Lists, Does, Shows}
 use Rattle.demands.proofs.Holds.{history-holds}
-use Rattle.demands.proofs.Turns.{Either, either}
+use Rattle.demands.proofs.Turns.{Either, either, same-pool}
+use Rattle.demands.proofs.Unasked.{two-after, bare, given, every-less, passed, first-fine, first-pool, less-fine, less-asked, less-end, less-answers}
 
 -- ---- one outcome
 
@@ -52,13 +64,18 @@ demand-ends l = record {
 -- ---- a request in its call
 
 module _ (l : Lent) where
+  sound-first : callFault l ≡ none → sound (l .pool) ≡ true
+  sound-first h = not-false _ (passed l h .2)
+
   first-whole : callFault l ≡ none → Whole (starting l .pool)
-  unfolding callFault starting sound
-  first-whole h =
-      let a = no-row (ltb mostRequests (length (l .requests)) || not (eqb (length (l .answers)) (length (l .requests)))) BadLists _ h in
-      let b = no-row (not (validLength (l .pool)) || not (eqb (length (l .workspace)) (length (l .pool)))) BadLength _ (a .1) in
-      let d = no-row (not (sound (l .pool))) NotSound _ (b .1) in
-      sound-whole (read (l .pool)) (and-both (nothingElse (l .pool)) (soundPool (read (l .pool))) (not-false _ (d .0)) .1)
+  unfolding starting
+  first-whole h = sound-tree (l .pool) (sound-first h)
+
+  -- the words lent are those of the pool that is read from them
+  first-words : callFault l ≡ none → words (starting l .pool) ≡ l .pool
+  unfolding starting
+  first-words h =
+      sound-fit (l .pool) (not-false _ (or-neither (not (validLength (l .pool))) _ (passed l h .1) .0)) (sound-first h) .same
 
   step-whole : (i : ℕ) (b : Batch) (o : Option Asked) → Whole (b .pool) → Whole (doRequest ours i b o .pool)
   unfolding doRequest afterTurn
@@ -70,12 +87,6 @@ module _ (l : Lent) where
   all-whole i [] b w = w
   all-whole i (q ∷ qs) b w = all-whole (suc i) qs (doRequest ours i b (asked q)) (step-whole i b (asked q) w)
 
-  two : (done rest : List Request) → doRequests ours 0 (done ++ rest) (starting l) ≡ doRequests ours (length done) rest (after l done)
-  two done rest = two-parts ours 0 done rest (starting l) ∙ ap (λ (n : ℕ). doRequests ours n rest (after l done)) none-before
-    where
-      none-before : 0 + length done ≡ length done
-      none-before = omega arith
-
   module _ (fine : callFault l ≡ none) (done : List Request) (q : Request) (a : Asked) (is : asked q ≡ some a) where
     abbrev now : Batch
     now = after l done
@@ -85,16 +96,25 @@ module _ (l : Lent) where
 
     then : after l (done ++ q ∷ []) ≡ next
     unfolding doRequests
-    then = two done (q ∷ []) ∙ ap (λ (o : Option Asked). doRequest ours (length done) now o) is
+    then = two-after l done (q ∷ []) ∙ ap (λ (o : Option Asked). doRequest ours (length done) now o) is
 
     next-pool : next .pool ≡ turnAfter l done a .pool
     unfolding doRequest afterTurn
     next-pool = refl
 
-    one-either : Either (after l done .pool) a (turnAfter l done a)
-    one-either =
-        either (after l done .pool) (after l done .filled) (length (after l done .found) - after l done .filled)
-        (all-whole 0 done (starting l) (first-whole fine)) a
+    one-either : Either (after l done .pool) (after l done .filled) a (turnAfter l done a)
+    one-either = either (after l done .pool) (after l done .filled) (length (after l done .found) - after l done .filled) a
+
+    now-whole : Whole (now .pool)
+    now-whole = all-whole 0 done (starting l) (first-whole fine)
+
+    -- a request that is refused leaves all but the answer list
+    refused-bare : eqb (answerOf (turnAfter l done a .reply) .number) 0 ≡ false → bare next ≡ bare now
+    unfolding doRequest afterTurn
+    refused-bare n =
+        let e = one-either .refused n in
+        let none-more : now .filled + 0 ≡ now .filled = omega arith in
+        rw (e .0, e .1, none-more)
 
     module _ (rest : List Request) (all : l .requests ≡ done ++ q ∷ rest) where
       place-there : length done < length (now .answers)
@@ -109,7 +129,7 @@ module _ (l : Lent) where
       whole-parts : doRequests ours 0 (l .requests) (starting l) ≡ doRequests ours (suc (length done)) rest next
       unfolding doRequests
       whole-parts =
-          ap (λ (qs : List Request). doRequests ours 0 qs (starting l)) all ∙ two done (q ∷ rest)
+          ap (λ (qs : List Request). doRequests ours 0 qs (starting l)) all ∙ two-after l done (q ∷ rest)
           ∙ ap (λ (o : Option Asked). doRequests ours (suc (length done)) rest (doRequest ours (length done) now o)) is
 
       call-answer : getD (call l .answers) (length done) noAnswer ≡ answerOf (turnAfter l done a .reply)
@@ -117,6 +137,17 @@ module _ (l : Lent) where
       call-answer =
           ap (λ (xs : List Answer). getD xs (length done) noAnswer) (left-answers ours l fine ∙ ap (λ (b : Batch). b .answers) whole-parts)
           ∙ answers-kept ours (suc (length done)) rest next (length done) (omega arith) ∙ next-answer
+
+      call-found : call l .found ≡ doRequests ours (suc (length done)) rest next .found
+      unfolding call
+      call-found = left-found ours l fine ∙ ap (λ (b : Batch). b .found) whole-parts
+
+      -- the places filled before it, by the answers
+      filled-before : now .filled ≡ filledAfter 0 0 done (call l .answers)
+      unfolding call starting
+      filled-before =
+          rw (left-answers ours l fine, all)
+          (part-filled ours 0 done (q ∷ rest) (starting l) (omega (arith, answers-long ours l fine, ap length all, length-append done (q ∷ rest))))
 
 -- ---- D1
 
@@ -150,21 +181,117 @@ module _ (l : Lent) (o : Left) (k : Allowed l o) where
     pool-then : after l (done ++ q ∷ []) .pool ≡ turnAfter l done a .pool
     pool-then = ap (λ (b : Batch). b .pool) (then l (fine z) done q a is) ∙ next-pool l (fine z) done q a is
 
-    stays : answerAfter o done .number ≢ 0 → after l (done ++ q ∷ []) .pool ≡ after l done .pool
-    stays n =
-        pool-then
-        ∙ one-either l (fine z) done q a is .refused (ne-eqb _ 0 (λ e. n (ap (λ (x : Answer). x .number) told ∙ e)))
+    not-zero : answerAfter o done .number ≢ 0 → eqb (answerOf (turnAfter l done a .reply) .number) 0 ≡ false
+    not-zero n = ne-eqb _ 0 (λ e. n (ap (λ (x : Answer). x .number) told ∙ e))
 
-    accepts : answerAfter o done .number ≡ 0
-        → Accepted (after l done .pool) a (after l (done ++ q ∷ []) .pool) (turnAfter l done a .listed)
-    accepts y =
-        subst (λ (p : Pool). Accepted (after l done .pool) a p (turnAfter l done a .listed)) (sym pool-then)
-        (one-either l (fine z) done q a is .accepted (eq-eqb _ 0 (sym (ap (λ (x : Answer). x .number) told) ∙ y)))
+    is-zero : answerAfter o done .number ≡ 0 → eqb (answerOf (turnAfter l done a .reply) .number) 0 ≡ true
+    is-zero y = eq-eqb _ 0 (sym (ap (λ (x : Answer). x .number) told) ∙ y)
+
+    stays : answerAfter o done .number ≢ 0 → after l (done ++ q ∷ []) .pool ≡ after l done .pool
+    stays n = pool-then ∙ one-either l (fine z) done q a is .refused (not-zero n) .0
+
+    accepts : answerAfter o done .number ≡ 0 → Accepted (after l done .pool) a (after l (done ++ q ∷ []) .pool)
+    accepts y = subst (Accepted (after l done .pool) a) (sym pool-then) (one-either l (fine z) done q a is .accepted (is-zero y) .0)
+
+  -- a request that is refused might as well not have been asked
+  module _ (z : o .number ≡ pos 0) (done : List Request) (q : Request) (rest : List Request) (all : l .requests ≡ done ++ q ∷ rest)
+      (n : answerAfter o done .number ≢ 0) (answers : List Answer) (long : length answers ≡ length (done ++ rest)) where
+    abbrev less : Lent
+    less = withRequests l (done ++ rest) answers
+
+    none-done : bare (doRequest ours (length done) (after l done) (asked q)) ≡ bare (after l done)
+    none-done =
+        let a = less-asked l (fine z) done q rest all answers long in
+        rw (a .1) (refused-bare l (fine z) done q (a .0) (a .1) (not-zero z done q rest all (a .0) (a .1) n))
+
+    without : (x : Left) → Allowed less x → SameWithout (length done) o x
+    unfolding call served
+    without x y =
+        let f = less-fine l (fine z) done q rest all answers long in
+        let e = less-end l (fine z) done q rest all answers long none-done in
+        let mine = callBy-served ours l (fine z) in
+        let other = callBy-served ours less f in
+        record {
+          number = y .number ∙ ap (λ (v : Left). v .number) other ∙ sym (k .number ∙ ap (λ (v : Left). v .number) mine);
+          pool = y .pool ∙ ap (λ (v : Left). v .pool) other ∙ ap (λ (b : Batch). words (b .pool)) e ∙ sym (k .pool ∙ ap (λ (v : Left). v .pool) mine);
+          workspace =
+              y .workspace ∙ ap (λ (v : Left). v .workspace) other ∙ ap (λ (b : Batch). words (b .pool)) e
+              ∙ sym (k .workspace ∙ ap (λ (v : Left). v .workspace) mine);
+          answers =
+              y .answers ∙ less-answers l (fine z) done q rest all answers long none-done
+              ∙ ap (λ (xs : List Answer). take (length done) xs ++ drop (suc (length done)) xs) (sym (k .answers));
+          found = y .found ∙ ap (λ (v : Left). v .found) other ∙ ap (λ (b : Batch). b .found) e ∙ sym (k .found ∙ ap (λ (v : Left). v .found) mine);
+        }
+
+  -- ---- a call that changes nothing
+
+  module _ (z : o .number ≡ pos 0)
+      (h : (done : List Request) (q : Request) (rest : List Request) → l .requests ≡ done ++ q ∷ rest → NoChange q (answerAfter o done)) where
+    one-still : (done : List Request) (q : Request) (rest : List Request) → l .requests ≡ done ++ q ∷ rest
+        → after l (done ++ q ∷ []) .pool ≡ after l done .pool
+    one-still done q rest all = ⊎-elim refusal searched (h done q rest all)
+      where
+        refusal : answerAfter o done .number ≢ 0 → after l (done ++ q ∷ []) .pool ≡ after l done .pool
+        refusal n = let a = given q (every-less isRequest done q rest (rw all at (passed l (fine z) .3)) .0) in stays z done q rest all (a .0) (a .1) n
+
+        searched : (window : Rect) × (asked q ≡ some (Search window)) → after l (done ++ q ∷ []) .pool ≡ after l done .pool
+        searched s =
+            pool-then z done q rest all (Search (s .0)) (s .1) ∙ same-pool (one-either l (fine z) done q (Search (s .0)) (s .1))
+
+    all-still : (done rest : List Request) → l .requests ≡ done ++ rest → after l (done ++ rest) .pool ≡ after l done .pool
+    all-still done [] all = ap (λ (qs : List Request). after l qs .pool) (append-nil done)
+    all-still done (q ∷ rest) all =
+        ap (λ (qs : List Request). after l qs .pool) (sym (append-assoc done (q ∷ []) rest))
+        ∙ all-still (done ++ q ∷ []) rest (all ∙ sym (append-assoc done (q ∷ []) rest)) ∙ one-still done q rest all
+
+    lent-words : o .pool ≡ l .pool
+    unfolding call served doRequests
+    lent-words =
+        k .pool ∙ ap (λ (v : Left). v .pool) (callBy-served ours l (fine z)) ∙ ap words (all-still [] (l .requests) refl) ∙ first-words l (fine z)
 
   pub demand-1 : Refuses l o
-  demand-1 = record { refused = turned-off; served = taken-on; each = told; kept = stays }
+  demand-1 = record { refused = turned-off; served = taken-on; each = told; kept = stays; unasked = without; still = lent-words }
 
   -- ---- D2
+
+  module _ (z : o .number ≡ pos 0) (done : List Request) (q : Request) (rest : List Request) (all : l .requests ≡ done ++ q ∷ rest)
+      (window : Rect) (is : asked q ≡ some (Search window)) (y : answerAfter o done .number ≡ 0) where
+    abbrev p : Pool
+    p = after l done .pool
+
+    finds : turnAfter l done (Search window) ≡ turn p (Listed (length (found p window)) (after l done .filled) (opened p window)) (found p window)
+    finds = one-either l (fine z) done q (Search window) is .accepted (is-zero z done q rest all (Search window) is y) .1
+
+    exact : found p window ≡ ordered (those (recordMeets window) (stored p))
+    exact = search-exact p (now-whole l (fine z) done q (Search window) is) window
+
+    many : length (found p window) ≡ howManyMeet window (stored p)
+    many = ap length exact ∙ alike-length (ordered-alike (those (recordMeets window) (stored p)))
+
+    filled-then : after l done .filled ≡ filledAfter 0 0 done (o .answers)
+    filled-then =
+        filled-before l (fine z) done q (Search window) is rest all ∙ ap (filledAfter 0 0 done) (sym (k .answers))
+
+    says : answerAfter o done ≡ answer 0 (howManyMeet window (stored p)) (filledAfter 0 0 done (o .answers)) (suc (nodesMeeting p window))
+    unfolding answerOf
+    says =
+        told z done q rest all (Search window) is ∙ ap (λ (t : Turn). answerOf (t .reply)) finds
+        ∙ rw (many, filled-then, opened-exact p (now-whole l (fine z) done q (Search window) is) window)
+
+    stands : slice (after l done .filled) (after l done .filled + length (found p window)) (o .found) ≡ found p window
+    stands =
+        ap (slice (after l done .filled) (after l done .filled + length (found p window))) (k .found ∙ call-found l (fine z) done q (Search window) is rest all)
+        ∙ subst (λ (t : Turn). slice (after l done .filled) (after l done .filled + length (t .listed))
+        (doRequests ours (suc (length done)) rest (next l (fine z) done q (Search window) is) .found) ≡ t .listed) finds
+        (listed-end ours (length done) (after l done) (Search window) rest)
+
+    listing : Lists p window (filledAfter 0 0 done (o .answers)) (answerAfter o done) (o .found)
+    listing = record {
+      answered = says;
+      listed =
+          ap (λ (t : Answer). slice (t .start) (t .start + t .found) (o .found)) says
+          ∙ ap₂ (λ (s n : ℕ). slice s (s + n) (o .found)) (sym filled-then) (sym many) ∙ stands ∙ exact;
+    }
 
   pub demand-2 : o .number ≡ pos 0 → Does l o
   unfolding call served
@@ -172,9 +299,14 @@ module _ (l : Lent) (o : Left) (k : Allowed l o) where
       let e = callBy-served ours l (fine z) in
       record {
         each = accepts z;
+        lists = listing z;
+        beyond = rw (k .answers, k .found) (left-beyond ours l (fine z));
         pool = k .pool ∙ ap (λ (x : Left). x .pool) e;
-        workspace = k .workspace ∙ ap (λ (x : Left). x .workspace) e;
+        workspace = k .workspace ∙ ap (λ (x : Left). x .workspace) e ∙ sym (k .pool ∙ ap (λ (x : Left). x .pool) e);
         found = k .found ∙ ap (λ (x : Left). x .found) e;
+        before = λ done rest all answers long x y.
+            y .pool ∙ ap (λ (v : Left). v .pool) (callBy-served ours (withRequests l done answers) (first-fine l (fine z) done rest all answers long))
+            ∙ ap words (first-pool l (fine z) done rest all answers long);
       }
 
 -- ---- D3
@@ -183,7 +315,14 @@ pub demand-3 : (n : ℕ) (steps : List Step) (l : Lent) (o : Left) → History n
 unfolding call
 demand-3 n steps l o h z =
     let k = h .1 in
-    let holds = subst (λ (w : List ℤ). Rattle.in_force_laws.specs.Shows.HoldsRecords (read w) (inForceAfter steps)) (sym (h .0)) (history-holds n steps (h .2)) in
+    let rs = inForceAfter steps in
+    let holds = subst (λ (w : List ℤ). HoldsRecords (read w) rs) (sym (h .0)) (history-holds n steps (h .2)) in
+    let y = sym (k .number) ∙ z in
     rw (k .answers, k .found) (record {
-      each = λ done q rest all window s v room. call-shows ours l ours-lawful (inForceAfter steps) holds (sym (k .number) ∙ z) done q rest all window s v room;
+      each = λ done q rest all window s v room. call-shows ours l ours-lawful rs holds y done q rest all window s v room;
+      high = λ done rest all. holds-high (after l done .pool) (forceAfter rs 0 done (call l .answers)) (call-part ours l ours-lawful rs holds y done rest all);
     })
+
+-- .. and of the words that every history leaves, whatever its last step was
+pub demand-height : (n : ℕ) (steps : List Step) → History n steps → High (read (poolAfter n steps)) (inForceAfter steps)
+demand-height n steps h = holds-high (read (poolAfter n steps)) (inForceAfter steps) (history-holds n steps h)

@@ -1,6 +1,6 @@
 -- One request: what is refused leaves the pool, and what is accepted is what document 01 defines. By its table, for each kind alike.
 use mathlib.Core.Path.{_≡_, refl}
-use mathlib.Core.Bool.{true, false}
+use mathlib.Core.Bool.{Bool, true, false}
 use mathlib.Core.List.{[]}
 use Prim.Native.Nat.{ℕ}
 use lib.ListN.{length}
@@ -9,7 +9,7 @@ use Rattle.rules.specs.declared.Rect.{Rect}
 use Rattle.rules.specs.declared.Asked.{Asked}
 use Rattle.rules.specs.declared.Asked.the-variants.{Insert, Delete, Update, Search}
 use Rattle.rules.specs.declared.Reply.{Reply}
-use Rattle.rules.specs.declared.Reply.the-variants.{Listed}
+use Rattle.rules.specs.declared.Reply.the-variants.{Changed, Listed}
 use Rattle.rules.specs.Pool.{Pool}
 use Rattle.rules.specs.Search.{found, opened}
 use Rattle.rules.specs.Insert.{ours, Change, Done, NoneFree, insertRecord}
@@ -17,33 +17,46 @@ use Rattle.rules.specs.Delete.{deleteRecord, updateRecord}
 use Rattle.rules.specs.Answers.{answerOf}
 use Rattle.rules.specs.Request.{Turn, turn, afterChange, request}
 use Rattle.rules_laws.proofs.Orders.{never-both}
-use Rattle.sound_laws.specs.Tree.{Whole}
-use Rattle.search_laws.proofs.Exact.{search-exact}
 use Rattle.in_force_laws.proofs.Change.{Refused, request-cases}
 use Rattle.demands.specs.Demands.{Accepted}
 
--- a request is refused and changes nothing, or accepted and done
-pub record Either (p : Pool) (a : Asked) (t : Turn) : Type 0 where
-  pub refused : eqb (answerOf (t .reply) .number) 0 ≡ false → t .pool ≡ p
-  pub accepted : eqb (answerOf (t .reply) .number) 0 ≡ true → Accepted p a (t .pool) (t .listed)
+-- a search that is accepted replies with what it finds, and lists it
+abbrev Finds : Pool → ℕ → Asked → Turn → Type 0
+Finds p filled (Insert r) t = Unit {0}
+Finds p filled (Delete r) t = Unit {0}
+Finds p filled (Update old new) t = Unit {0}
+Finds p filled (Search window) t = t ≡ turn p (Listed (length (found p window)) filled (opened p window)) (found p window)
 
-refused-either : (p : Pool) (a : Asked) (reply : Reply) → Refused reply → Either p a (turn p reply [])
-refused-either p a reply h = record { refused = λ n. refl; accepted = λ y. never-both y h }
+-- a request is refused, and changes and lists nothing, or accepted and done
+pub record Either (p : Pool) (filled : ℕ) (a : Asked) (t : Turn) : Type 0 where
+  pub refused : eqb (answerOf (t .reply) .number) 0 ≡ false → (t .pool ≡ p) × (t .listed ≡ [])
+  pub accepted : eqb (answerOf (t .reply) .number) 0 ≡ true → Accepted p a (t .pool) × Finds p filled a t
 
-changes : (p : Pool) (a : Asked) (o : Change) → ((q : Pool) → o ≡ Done q → Accepted p a q []) → Either p a (afterChange p o)
-unfolding afterChange answerOf
-changes p a (Done q) h = record { refused = λ n. never-both refl n; accepted = λ y. h q refl }
-changes p a NoneFree h = record { refused = λ n. refl; accepted = λ y. never-both y refl }
+module _ (p : Pool) (filled : ℕ) where
+  refused-either : (a : Asked) (reply : Reply) → Refused reply → Either p filled a (turn p reply [])
+  refused-either a reply h = record { refused = λ n. (refl, refl); accepted = λ y. never-both y h }
 
-lists : (p : Pool) (window : Rect) (filled : ℕ) → Whole p
-    → Either p (Search window) (turn p (Listed (length (found p window)) filled (opened p window)) (found p window))
-unfolding answerOf
-lists p window filled w = record { refused = λ n. refl; accepted = λ y. (refl, search-exact p w window) }
+  changes : (a : Asked) (o : Change) → ((q : Pool) → o ≡ Done q → (t : Turn) → Accepted p a q × Finds p filled a t) → Either p filled a (afterChange p o)
+  unfolding afterChange answerOf
+  changes a (Done q) h = record { refused = λ n. never-both refl n; accepted = λ y. h q refl (turn q Changed []) }
+  changes a NoneFree h = record { refused = λ n. (refl, refl); accepted = λ y. never-both y refl }
 
-pub either : (p : Pool) (filled room : ℕ) → Whole p → (a : Asked) → Either p a (request ours p filled room a)
-either p filled room w =
-    request-cases ours p filled room (Either p) (refused-either p)
-    (λ r h. changes p (Insert r) (insertRecord ours p r) (λ q e. e))
-    (λ r h. changes p (Delete r) (deleteRecord ours p r) (λ q e. e))
-    (λ old new h. changes p (Update old new) (updateRecord ours p old new) (λ q e. e))
-    (λ window h. lists p window filled w)
+  lists : (window : Rect) → Either p filled (Search window) (turn p (Listed (length (found p window)) filled (opened p window)) (found p window))
+  unfolding answerOf
+  lists window = record { refused = λ n. never-both refl n; accepted = λ y. (refl, refl) }
+
+  pub either : (room : ℕ) (a : Asked) → Either p filled a (request ours p filled room a)
+  either room =
+      request-cases ours p filled room (Either p filled) refused-either
+      (λ r h. changes (Insert r) (insertRecord ours p r) (λ q e t. (e, tt)))
+      (λ r h. changes (Delete r) (deleteRecord ours p r) (λ q e t. (e, tt)))
+      (λ old new h. changes (Update old new) (updateRecord ours p old new) (λ q e t. (e, tt)))
+      (λ window h. lists window)
+
+-- a search, accepted or refused, leaves the pool
+pub same-pool : {p : Pool} {filled : ℕ} {window : Rect} {t : Turn} → Either p filled (Search window) t → t .pool ≡ p
+same-pool {p = p} {t = t} e = go (eqb (answerOf (t .reply) .number) 0) refl
+  where
+    go : (b : Bool) → eqb (answerOf (t .reply) .number) 0 ≡ b → t .pool ≡ p
+    go true h = e .accepted h .0
+    go false h = e .refused h .0

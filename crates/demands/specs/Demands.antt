@@ -1,11 +1,12 @@
 -- The customer's three demands, about every outcome that the promise of `dustmap_call` allows.
 use mathlib.Core.Path.{_≡_}
-use mathlib.Core.Logic.{_≢_}
+use mathlib.Core.Logic.{_≢_, _⊎_}
 use mathlib.Core.Bool.{true}
 use mathlib.Core.List.{List, [], _∷_, _++_}
 use mathlib.Core.Option.{none, some}
-use Prim.Native.Nat.{_-_, _≤_}
-use lib.ListN.{length, getD}
+use Prim.Native.Nat.{ℕ, suc, _+_, _-_, _≤_}
+use lib.ListN.{length, getD, take, drop}
+use lib.Seq.{slice}
 use lib.IntN.{pos}
 use Rattle.rules.specs.declared.Rect.{Rect}
 use Rattle.rules.specs.declared.Record.{Record}
@@ -26,6 +27,7 @@ use Rattle.rules.specs.Request.{Turn, asked, request}
 use Rattle.rules.specs.Call.{Lent, Left, Batch, callFault, doRequests, starting}
 use Rattle.search_laws.specs.Window.{recordMeets}
 use Rattle.in_force_laws.specs.Force.{forceAfter, filledAfter}
+use Rattle.in_force_laws.specs.Shows.{nodesMeeting, High}
 use Rattle.in_force_laws.specs.Batch.{howManyMeet, Told}
 use Rattle.demands.specs.Steps.{Step, inForceAfter}
 use Rattle.map.specs.Asking.{Allowed}
@@ -49,44 +51,98 @@ pub record Untouched (l : Lent) (o : Left) : Type 0 where
   pub answers : o .answers ≡ l .answers
   pub found : o .found ≡ l .found
 
--- D1: "Any pool contents, any request, any lent list can be handed in. Each call ends." There is one outcome, and only one
+-- the same lent to a call with other requests, and an answer list for them
+abbrev pub withRequests : Lent → List Request → List Answer → Lent
+withRequests l requests answers =
+    record { pool = l .pool; workspace = l .workspace; requests = requests; answers = answers; found = l .found }
+
+-- D1: "Any pool contents, any request, any lent list can be handed in.": for all that may be lent
 pub record Ends (l : Lent) : Type 0 where
+  -- "Each call ends.": there is an outcome that is allowed
   pub outcome : Left
   pub allowed : Allowed l outcome
+  -- "any pair of outcomes allowed by it is equal"
   pub only : (o : Left) → Allowed l o → o ≡ outcome
 
--- "Bad input gets the numbered refusal of document 01 under exactly the conditions given there.": a call is refused by the first row of its
--- table that applies, and then writes nothing; otherwise it returns 0. Each of its requests is answered by the first row of its own table
--- that applies; otherwise it is accepted. "A refused change leaves the pool as it found it."
+-- what comes back of a call, o, and what comes back of it without the request at place n, x
+pub record SameWithout (n : ℕ) (o x : Left) : Type 0 where
+  -- "Otherwise the call returns 0": both do
+  pub number : x .number ≡ o .number
+  -- "A refused request changes neither pool nor found list."
+  pub pool : x .pool ≡ o .pool
+  pub found : x .found ≡ o .found
+  -- "On return 0 the workspace equals the pool."
+  pub workspace : x .workspace ≡ o .workspace
+  -- "its answer goes to the same place in the answer list": the answers to the other requests
+  pub answers : x .answers ≡ take n (o .answers) ++ drop (suc n) (o .answers)
+
+-- a request that is refused by its answer, or is a search
+abbrev pub NoChange : Request → Answer → Type 0
+NoChange q told = (told .number ≢ 0) ⊎ ((window : Rect) × (asked q ≡ some (Search window)))
+
 pub record Refuses (l : Lent) (o : Left) : Type 0 where
+  -- "Bad input gets the numbered refusal of document 01 under exactly the conditions given there.": a call is refused by the first row of its
+  -- table that applies, and "writes nothing at all"
   pub refused : (v : Verdict) → callFault l ≡ some v → (o .number ≡ verdictNumber v) × Untouched l o
+  -- "Otherwise the call returns 0"
   pub served : callFault l ≡ none → o .number ≡ pos 0
+  -- "each request is done in turn .. and its answer goes to the same place in the answer list": each is answered by the first row of its own table that applies; otherwise it is accepted
   pub each : o .number ≡ pos 0 → (done : List Request) (q : Request) (rest : List Request) → l .requests ≡ done ++ q ∷ rest
       → (a : Asked) → asked q ≡ some a → answerAfter o done ≡ answerOf (turnAfter l done a .reply)
+  -- "A refused change leaves the pool as it found it.": the next request finds the same pool
   pub kept : o .number ≡ pos 0 → (done : List Request) (q : Request) (rest : List Request) → l .requests ≡ done ++ q ∷ rest
       → (a : Asked) → asked q ≡ some a → answerAfter o done .number ≢ 0 → after l (done ++ q ∷ []) .pool ≡ after l done .pool
+  -- .. and what comes back is what comes back of the call without it
+  pub unasked : o .number ≡ pos 0 → (done : List Request) (q : Request) (rest : List Request) → l .requests ≡ done ++ q ∷ rest
+      → answerAfter o done .number ≢ 0 → (answers : List Answer) → length answers ≡ length (done ++ rest)
+      → (x : Left) → Allowed (withRequests l (done ++ rest) answers) x → SameWithout (length done) o x
+  -- .. so that a call whose every request is refused, or is a search, leaves the words of the pool that it was lent
+  pub still : o .number ≡ pos 0 → ((done : List Request) (q : Request) (rest : List Request) → l .requests ≡ done ++ q ∷ rest → NoChange q (answerAfter o done))
+      → o .pool ≡ l .pool
 
--- D2: "Each accepted insert, delete and update leaves the pool that Guttman's algorithms leave, with quadratic split and document 01's tie
--- and slot rules. Each accepted search lists exactly the stored records whose rectangle meets the window."
-abbrev pub Accepted : Pool → Asked → Pool → List Record → Type 0
-Accepted p (Insert r) q listed = insertRecord ours p r ≡ Done q
-Accepted p (Delete r) q listed = deleteRecord ours p r ≡ Done q
-Accepted p (Update old new) q listed = updateRecord ours p old new ≡ Done q
-Accepted p (Search window) q listed = (q ≡ p) × (listed ≡ ordered (those (recordMeets window) (stored p)))
+-- D2: what an accepted request leaves of the pool that it finds
+abbrev pub Accepted : Pool → Asked → Pool → Type 0
+Accepted p (Insert r) q = insertRecord ours p r ≡ Done q
+Accepted p (Delete r) q = deleteRecord ours p r ≡ Done q
+Accepted p (Update old new) q = updateRecord ours p old new ≡ Done q
+Accepted p (Search window) q = q ≡ p
+
+-- an accepted search of the pool p with so many places of the found list filled before it, by its answer and the found list that come back
+pub record Lists (p : Pool) (window : Rect) (filled : ℕ) (told : Answer) (found : List Record) : Type 0 where
+  -- "The answer gives found count, start in the found list and nodes opened."; "start being the number of places filled before"
+  pub answered : told ≡ answer 0 (howManyMeet window (stored p)) filled (suc (nodesMeeting p window))
+  -- "exactly the stored records whose rectangle meets the window", at as many places as found, from start on
+  pub listed : slice (told .start) (told .start + told .found) found ≡ ordered (those (recordMeets window) (stored p))
 
 pub record Does (l : Lent) (o : Left) : Type 0 where
+  -- "Each accepted insert, delete and update leaves the pool that Guttman's algorithms leave, with quadratic split and document 01's tie and
+  -- slot rules."
   pub each : (done : List Request) (q : Request) (rest : List Request) → l .requests ≡ done ++ q ∷ rest → (a : Asked) → asked q ≡ some a
-      → answerAfter o done .number ≡ 0 → Accepted (after l done .pool) a (after l (done ++ q ∷ []) .pool) (turnAfter l done a .listed)
+      → answerAfter o done .number ≡ 0 → Accepted (after l done .pool) a (after l (done ++ q ∷ []) .pool)
+  -- "Each accepted search lists exactly the stored records whose rectangle meets the window."
+  pub lists : (done : List Request) (q : Request) (rest : List Request) → l .requests ≡ done ++ q ∷ rest
+      → (window : Rect) → asked q ≡ some (Search window) → answerAfter o done .number ≡ 0
+      → Lists (after l done .pool) window (filledAfter 0 0 done (o .answers)) (answerAfter o done) (o .found)
+  -- "places beyond stay": after the last place that a search filled, the found list is as it was lent
+  pub beyond : drop (filledAfter 0 0 (l .requests) (o .answers)) (o .found) ≡ drop (filledAfter 0 0 (l .requests) (o .answers)) (l .found)
+  -- what comes back is what the last one leaves
   pub pool : o .pool ≡ words (after l (l .requests) .pool)
-  pub workspace : o .workspace ≡ words (after l (l .requests) .pool)
   pub found : o .found ≡ after l (l .requests) .found
+  -- "On return 0 the workspace equals the pool."
+  pub workspace : o .workspace ≡ o .pool
+  -- "each request is done in turn": the pool that a request finds is what comes back of the call with those before it alone
+  pub before : (done rest : List Request) → l .requests ≡ done ++ rest → (answers : List Answer) → length answers ≡ length done
+      → (x : Left) → Allowed (withRequests l done answers) x → x .pool ≡ words (after l done .pool)
 
--- D3: "From a blank pool changed only by these requests, every search in a call that returns 0 (valid window, room in its list) shows the
--- records in force that meet the window, each once, in record order; the nodes opened are one for the root and one for each other node whose
--- cover meets the window; with n records and height h, h is 1 or 2·3^(h-1) ≤ n."
+-- D3: "From a blank pool changed only by these requests, ..
 pub record Shows (steps : List Step) (l : Lent) (o : Left) : Type 0 where
+  -- .. every search in a call that returns 0 (valid window, room in its list) shows the records in force that meet the window, each once, in
+  -- record order; the nodes opened are one for the root and one for each other node whose cover meets the window; ..
   pub each : (done : List Request) (q : Request) (rest : List Request) → l .requests ≡ done ++ q ∷ rest
       → (window : Rect) → asked q ≡ some (Search window) → valid window ≡ true
       → howManyMeet window (forceAfter (inForceAfter steps) 0 done (o .answers)) ≤ length (l .found) - filledAfter 0 0 done (o .answers)
       → Told (after l done .pool) (forceAfter (inForceAfter steps) 0 done (o .answers)) (filledAfter 0 0 done (o .answers)) window (length done)
       (o .answers) (o .found)
+  -- .. with n records and height h, h is 1 or 2·3^(h-1) ≤ n.": after each request of each call, and before the first
+  pub high : (done rest : List Request) → l .requests ≡ done ++ rest
+      → High (after l done .pool) (forceAfter (inForceAfter steps) 0 done (o .answers))

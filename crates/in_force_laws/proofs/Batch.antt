@@ -7,7 +7,7 @@ use mathlib.Core.Option.{Option, none, some}
 use Prim.Native.Nat.{ℕ, suc, _+_, _-_, _≤_, _<_}
 use native.Mathlib.Omega.{arith}
 use lib.ListN.{length, getD, set, take, drop, length-append, length-set}
-use lib.Seq.{sets, length-sets, sets-eq, slice, slice-empty, take-set-le, take-at, drop-at, length-take-le, getD-set-same, getD-set-other}
+use lib.Seq.{sets, length-sets, sets-eq, slice, slice-empty, take-set-le, drop-set-lt, take-at, drop-at, length-take-le, getD-set-same, getD-set-other}
 use Rattle.rules.specs.declared.Rect.{Rect}
 use Rattle.rules.specs.declared.Record.{Record}
 use Rattle.rules.specs.declared.Request.{Request}
@@ -26,7 +26,7 @@ use Rattle.search_laws.proofs.Order.{alike-length, ordered-alike}
 use Rattle.in_force_laws.specs.Force.{inForce, forceBy, forceAfter}
 use Rattle.in_force_laws.specs.Shows.{EachOnce, HoldsRecords, nodesMeeting, SearchShows}
 use Rattle.in_force_laws.specs.Batch.{howManyMeet, Told}
-use Rattle.in_force_laws.proofs.Change.{request-force}
+use Rattle.in_force_laws.proofs.Change.{listed-fits, request-force}
 use Rattle.in_force_laws.proofs.Search.{request-search}
 
 -- ---- runs of stores
@@ -35,6 +35,10 @@ module _ {A : Type 0} where
   sets-take : (vs l : List A) (i n : ℕ) → n ≤ i → take n (sets l i vs) ≡ take n l
   sets-take [] l i n h = refl
   sets-take (a ∷ vs) l i n h = sets-take vs (set l i a) (suc i) n (omega arith) ∙ take-set-le n l i a h
+
+  sets-drop : (vs l : List A) (i n : ℕ) → i + length vs ≤ n → drop n (sets l i vs) ≡ drop n l
+  sets-drop [] l i n h = refl
+  sets-drop (a ∷ vs) l i n h = sets-drop vs (set l i a) (suc i) n (omega arith) ∙ drop-set-lt n l i a (omega arith)
 
   -- what was stored stands there
   sets-slice : (vs l : List A) (i : ℕ) → length vs ≤ length l - i → slice i (i + length vs) (sets l i vs) ≡ vs
@@ -81,6 +85,11 @@ module _ (c : Choice) where
   step-take i b none n h = refl
   step-take i b (some a) n h = sets-take (request c (b .pool) (b .filled) (length (b .found) - b .filled) a .listed) (b .found) (b .filled) n h
 
+  step-drop : (i : ℕ) (b : Batch) (o : Option Asked) (n : ℕ) → doRequest c i b o .filled ≤ n → drop n (doRequest c i b o .found) ≡ drop n (b .found)
+  unfolding doRequest afterTurn
+  step-drop i b none n h = refl
+  step-drop i b (some a) n h = sets-drop (request c (b .pool) (b .filled) (length (b .found) - b .filled) a .listed) (b .found) (b .filled) n h
+
   -- ---- .. and those from place i on
 
   pub answers-kept : (i : ℕ) (qs : List Request) (b : Batch) (j : ℕ) → j < i → getD (doRequests c i qs b .answers) j noAnswer ≡ getD (b .answers) j noAnswer
@@ -103,6 +112,20 @@ module _ (c : Choice) where
   found-kept i [] b n h = refl
   found-kept i (q ∷ qs) b n h =
       found-kept (suc i) qs (doRequest c i b (asked q)) n (omega (arith, h, step-filled i b (asked q))) ∙ step-take i b (asked q) n h
+
+  filled-grows : (i : ℕ) (qs : List Request) (b : Batch) → b .filled ≤ doRequests c i qs b .filled
+  unfolding doRequests
+  filled-grows i [] b = omega arith
+  filled-grows i (q ∷ qs) b = omega (arith, step-filled i b (asked q), filled-grows (suc i) qs (doRequest c i b (asked q)))
+
+  -- "places beyond stay"
+  pub found-beyond : (i : ℕ) (qs : List Request) (b : Batch) (n : ℕ) → doRequests c i qs b .filled ≤ n
+      → drop n (doRequests c i qs b .found) ≡ drop n (b .found)
+  unfolding doRequests
+  found-beyond i [] b n h = refl
+  found-beyond i (q ∷ qs) b n h =
+      let b1 = doRequest c i b (asked q) in
+      found-beyond (suc i) qs b1 n h ∙ step-drop i b (asked q) n (omega (arith, h, filled-grows (suc i) qs b1))
 
   pub two-parts : (i : ℕ) (xs ys : List Request) (b : Batch) → doRequests c i (xs ++ ys) b ≡ doRequests c (i + length xs) ys (doRequests c i xs b)
   unfolding doRequests
@@ -150,6 +173,37 @@ module _ (c : Choice) where
         (batch-force (suc i) qs b1 (forceBy rs (asked q) (getD (b1 .answers) i noAnswer)) (step-force i b rs (asked q) k (omega (arith, h)))
         (omega (arith, h, step-long i b (asked q))))
 
+    -- .. and after the requests before any place of it, by the answers that the whole batch leaves
+    pub part-force : (i : ℕ) (xs ys : List Request) (b : Batch) (rs : List Record) → HoldsRecords (b .pool) rs
+        → i + length (xs ++ ys) ≤ length (b .answers)
+        → HoldsRecords (doRequests c i xs b .pool) (forceAfter rs i xs (doRequests c i (xs ++ ys) b .answers))
+    part-force i xs ys b rs k h =
+        let now = doRequests c i xs b in
+        let end = doRequests c i (xs ++ ys) b in
+        subst (HoldsRecords (now .pool)) (force-same rs i xs (now .answers) (end .answers) (λ j l.
+        sym (ap (λ (x : Batch). getD (x .answers) j noAnswer) (two-parts i xs ys b) ∙ answers-kept (i + length xs) ys now j l)))
+        (batch-force i xs b rs k (omega (arith, h, length-append xs ys)))
+
+  -- ---- what a request lists stands in the found list at the end
+
+  module _ (i : ℕ) (b : Batch) (a : Asked) where
+    abbrev listed : List Record
+    listed = request c (b .pool) (b .filled) (length (b .found) - b .filled) a .listed
+
+    listed-now : slice (b .filled) (b .filled + length listed) (doRequest c i b (some a) .found) ≡ listed
+    unfolding doRequest afterTurn
+    listed-now = sets-slice listed (b .found) (b .filled) (listed-fits c (b .pool) (b .filled) (length (b .found) - b .filled) a)
+
+    filled-now : doRequest c i b (some a) .filled ≡ b .filled + length listed
+    unfolding doRequest afterTurn
+    filled-now = refl
+
+    pub listed-end : (later : List Request)
+        → slice (b .filled) (b .filled + length listed) (doRequests c (suc i) later (doRequest c i b (some a)) .found) ≡ listed
+    listed-end later =
+        ap (drop (b .filled)) (found-kept (suc i) later (doRequest c i b (some a)) (b .filled + length listed) (omega (arith, filled-now)))
+        ∙ listed-now
+
   -- ---- a search
 
   module _ (i : ℕ) (b : Batch) (rs : List Record) (k : HoldsRecords (b .pool) rs) (h : i < length (b .answers)) (window : Rect) (v : valid window ≡ true)
@@ -167,18 +221,6 @@ module _ (c : Choice) where
     unfolding doRequest afterTurn answerOf
     told-now = getD-set-same (b .answers) i _ noAnswer h ∙ ap answerOf (shows .reply)
 
-    filled-now : now .filled ≡ b .filled + howManyMeet window rs
-    unfolding doRequest afterTurn
-    filled-now = ap (λ (n : ℕ). b .filled + n) many
-
-    listed-now : slice (b .filled) (b .filled + howManyMeet window rs) (now .found)
-        ≡ request c (b .pool) (b .filled) (length (b .found) - b .filled) (Search window) .listed
-    unfolding doRequest afterTurn
-    listed-now =
-        let t = request c (b .pool) (b .filled) (length (b .found) - b .filled) (Search window) in
-        ap (λ (n : ℕ). slice (b .filled) (b .filled + n) (sets (b .found) (b .filled) (t .listed))) (sym many)
-        ∙ sets-slice (t .listed) (b .found) (b .filled) (omega (arith, many, room))
-
     -- .. and at the end of the batch
     told-end : (later : List Request)
         → Told (b .pool) rs (b .filled) window i (doRequests c (suc i) later now .answers) (doRequests c (suc i) later now .found)
@@ -186,7 +228,7 @@ module _ (c : Choice) where
         let end = doRequests c (suc i) later now in
         let there : slice (b .filled) (b .filled + howManyMeet window rs) (end .found)
         ≡ request c (b .pool) (b .filled) (length (b .found) - b .filled) (Search window) .listed =
-        ap (drop (b .filled)) (found-kept (suc i) later now (b .filled + howManyMeet window rs) (omega (arith, filled-now))) ∙ listed-now in
+        ap (λ (n : ℕ). slice (b .filled) (b .filled + n) (end .found)) (sym many) ∙ listed-end i b (Search window) later in
         record {
           told = answers-kept (suc i) later now i (omega arith) ∙ told-now;
           shown = there ∙ shows .lists;
@@ -212,20 +254,12 @@ module _ (c : Choice) where
     inside : i + length earlier < length (b .answers)
     inside = omega (arith, h, length-append earlier (q ∷ later))
 
-    same-force : forceAfter rs i earlier (before .answers) ≡ forceAfter rs i earlier (end .answers)
-    same-force =
-        force-same rs i earlier (before .answers) (end .answers) (λ j l.
-        sym (ap (λ (x : Batch). getD (x .answers) j noAnswer) (two-parts i earlier (q ∷ later) b)
-        ∙ answers-kept (i + length earlier) (q ∷ later) before j l))
-
     pub batch-search : (window : Rect) → asked q ≡ some (Search window) → valid window ≡ true
         → howManyMeet window (forceAfter rs i earlier (end .answers)) ≤ length (b .found) - before .filled
         → Told (before .pool) (forceAfter rs i earlier (end .answers)) (before .filled) window (i + length earlier) (end .answers) (end .found)
     batch-search window s v room =
-        let holds : HoldsRecords (before .pool) (forceAfter rs i earlier (end .answers)) =
-        subst (HoldsRecords (before .pool)) same-force (batch-force lawful i earlier b rs k (omega (arith, inside))) in
         subst (λ (x : Batch).
         Told (before .pool) (forceAfter rs i earlier (end .answers)) (before .filled) window (i + length earlier) (x .answers) (x .found))
         (sym (end-is (some (Search window)) s))
-        (told-end (i + length earlier) before (forceAfter rs i earlier (end .answers)) holds (omega (arith, inside, answers-as-many i earlier b)) window v
+        (told-end (i + length earlier) before (forceAfter rs i earlier (end .answers)) (part-force lawful i earlier (q ∷ later) b rs k h) (omega (arith, inside, answers-as-many i earlier b)) window v
         (omega (arith, room, places-as-many i earlier b)) later)

@@ -6,7 +6,7 @@ use mathlib.Core.List.{List, [], _∷_, _++_}
 use mathlib.Core.Option.{Option, none, some}
 use Prim.Native.Nat.{ℕ, _+_, _-_, _≤_}
 use native.Mathlib.Omega.{arith}
-use lib.ListN.{length, length-append}
+use lib.ListN.{length, drop, length-append}
 use lib.Dec.{ltb, eqb}
 use lib.IntN.{ℤ, pos, negsuc}
 use borrow.Author.Tests.{eqb-true}
@@ -36,8 +36,8 @@ use Rattle.in_force_laws.specs.Batch.{howManyMeet, Told}
 use Rattle.in_force_laws.specs.History.{poolServed, forceOf, CallsServed}
 use Rattle.in_force_laws.proofs.Written.{whole-reads}
 use Rattle.in_force_laws.proofs.Faults.{EachGiven, given-none, given-row, no-row}
-use Rattle.in_force_laws.proofs.Batch.{batch-force, batch-search}
-use Rattle.in_force_laws.proofs.Filled.{part-filled}
+use Rattle.in_force_laws.proofs.Batch.{found-beyond, batch-force, part-force, batch-search}
+use Rattle.in_force_laws.proofs.Filled.{batch-filled, part-filled}
 
 -- ---- a call that returns 0 is not refused
 
@@ -97,6 +97,19 @@ module _ (c : Choice) (l : Lent) where
   unfolding served
   left-found h = ap (λ (x : Left). x .found) (callBy-served h)
 
+  -- the places filled when all is done, by the answers
+  all-filled : callFault l ≡ none → whole-batch .filled ≡ filledAfter 0 0 (l .requests) (callBy c l .answers)
+  unfolding starting
+  all-filled h = rw (left-answers h) (batch-filled c 0 (l .requests) (starting l) (omega (arith, answers-long h)))
+
+  -- "places beyond stay"
+  pub left-beyond : callFault l ≡ none
+      → drop (filledAfter 0 0 (l .requests) (callBy c l .answers)) (callBy c l .found) ≡ drop (filledAfter 0 0 (l .requests) (callBy c l .answers)) (l .found)
+  unfolding starting
+  left-beyond h =
+      ap (drop (filledAfter 0 0 (l .requests) (callBy c l .answers))) (left-found h)
+      ∙ found-beyond c 0 (l .requests) (starting l) (filledAfter 0 0 (l .requests) (callBy c l .answers)) (omega (arith, all-filled h))
+
   module _ (lawful : Lawful c) (rs : List Record) (k : HoldsRecords (read (l .pool)) rs) (z : callBy c l .number ≡ pos 0) where
     start-holds : HoldsRecords (starting l .pool) rs
     unfolding starting
@@ -113,6 +126,15 @@ module _ (c : Choice) (l : Lent) where
 
     pub call-pool : callBy c l .pool ≡ words (whole-batch .pool)
     call-pool = left-pool (no-fault z)
+
+    -- .. and so does the pool after the requests before any place of its request list
+    pub call-part : (earlier later : List Request) → l .requests ≡ earlier ++ later
+        → HoldsRecords (doRequests c 0 earlier (starting l) .pool) (forceAfter rs 0 earlier (callBy c l .answers))
+    unfolding starting
+    call-part earlier later is =
+        rw (left-answers (no-fault z), is)
+        (part-force c lawful 0 earlier later (starting l) rs start-holds
+        (subst (λ (qs : List Request). 0 + length qs ≤ length (starting l .answers)) is start-long))
 
     -- a search at any place of its request list
     module _ (earlier : List Request) (q : Request) (later : List Request) (is : l .requests ≡ earlier ++ q ∷ later) (window : Rect)

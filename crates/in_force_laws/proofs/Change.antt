@@ -4,10 +4,11 @@ use mathlib.Core.Path.{_≡_, refl, sym, subst}
 use mathlib.Core.Bool.{Bool, true, false, cond, not, _&&_, _||_}
 use mathlib.Core.List.{List, []}
 use mathlib.Core.Option.{Option, none, some}
-use Prim.Native.Nat.{ℕ}
+use Prim.Native.Nat.{ℕ, _≤_}
 use native.Mathlib.Omega.{arith}
-use lib.Dec.{eqb}
+use lib.Dec.{ltb, eqb}
 use lib.ListN.{length}
+use borrow.Author.Tests.{ltb-false}
 use Rattle.rules.specs.declared.Rect.{Rect}
 use Rattle.rules.specs.declared.Record.{Record}
 use Rattle.rules.specs.declared.Asked.{Asked}
@@ -105,6 +106,13 @@ module _ (p : Pool) where
       let e = no-row (held p (renewed old new) && not (samePair old (renewed old new))) Held _ (d .1) in
       (not-false _ (or-neither (not (valid (old .rect))) (not (valid new)) (a .0) .1), not-false _ (d .0), e .0)
 
+  pub search-passed : (room : ℕ) (window : Rect) → searchFault p room window ≡ none → length (found p window) ≤ room
+  unfolding searchFault
+  search-passed room window h =
+      let a = no-row (not (valid window)) BadRectangle _ h in
+      let b = no-row (ltb room (length (found p window))) (NoRoom (length (found p window)) (opened p window)) _ (a .1) in
+      ltb-false room (length (found p window)) (b .0)
+
 -- ---- a request opened at its table
 
 module _ (c : Choice) (p : Pool) (filled room : ℕ) where
@@ -174,6 +182,18 @@ module _ (c : Choice) (p : Pool) (filled room : ℕ) (P : Asked → Turn → Typ
       row-or-none (searchFault p room window) (search-refused p room window)
       (λ reply h g. subst (P (Search window)) (sym (search-some c p filled room window reply h)) (refused (Search window) reply g))
       (λ h. subst (P (Search window)) (sym (search-none c p filled room window h)) (listed window h))
+
+-- what a request lists has room
+module _ (c : Choice) (p : Pool) (filled room : ℕ) where
+  change-fits : (o : Change) → length (afterChange p o .listed) ≤ room
+  unfolding afterChange
+  change-fits (Done q) = omega arith
+  change-fits NoneFree = omega arith
+
+  pub listed-fits : (a : Asked) → length (request c p filled room a .listed) ≤ room
+  listed-fits =
+      request-cases c p filled room (λ a t. length (t .listed) ≤ room) (λ a reply h. omega arith) (λ r h. change-fits (insertRecord c p r))
+      (λ r h. change-fits (deleteRecord c p r)) (λ old new h. change-fits (updateRecord c p old new)) (search-passed p room)
 
 -- ---- each kind of change
 

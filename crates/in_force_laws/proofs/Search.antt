@@ -27,7 +27,7 @@ use Rattle.search_laws.specs.Order.{Alike}
 use Rattle.search_laws.proofs.Order.{alike-length, ordered-alike, ordered-same}
 use Rattle.search_laws.proofs.Exact.{search-exact, opened-exact, found-once}
 use Rattle.sound_laws.proofs.Heights.{height-records}
-use Rattle.in_force_laws.specs.Shows.{EachOnce, HoldsRecords, SearchShows}
+use Rattle.in_force_laws.specs.Shows.{EachOnce, HoldsRecords, High, SearchShows}
 use Rattle.in_force_laws.proofs.Change.{search-none}
 
 -- those of alike lists are alike
@@ -35,6 +35,12 @@ pub those-alike : (t : Record → Bool) (xs ys : List Record) → Alike xs ys �
 those-alike t xs ys a = record {
   each = λ q. ap length (sym (those-and t q xs)) ∙ a .each _ ∙ ap length (those-and t q ys);
 }
+
+-- the height of a pool that holds the records rs, by their number
+pub holds-high : (p : Pool) (rs : List Record) → HoldsRecords p rs → High p rs
+holds-high p rs k =
+    subst (λ (n : ℕ). (p .height ≡ 1) ⊎ (2 * 3 ^ (p .height - 1) ≤ n)) (k .whole .counted ∙ alike-length (k .alike))
+    (height-records p (k .whole))
 
 module _ (p : Pool) (rs : List Record) (k : HoldsRecords p rs) (window : Rect) where
   pub found-force : found p window ≡ ordered (those (recordMeets window) rs)
@@ -48,11 +54,6 @@ module _ (p : Pool) (rs : List Record) (k : HoldsRecords p rs) (window : Rect) w
 
   found-each : EachOnce (found p window)
   found-each = found-once p (k .whole) window (λ x. omega (arith, k .alike .each (samePair x), k .once x))
-
-  high : (p .height ≡ 1) ⊎ (2 * 3 ^ (p .height - 1) ≤ length rs)
-  high =
-      subst (λ (n : ℕ). (p .height ≡ 1) ⊎ (2 * 3 ^ (p .height - 1) ≤ n)) (k .whole .counted ∙ alike-length (k .alike))
-      (height-records p (k .whole))
 
   module _ (room : ℕ) where
     room-enough : valid window ≡ true → length (those (recordMeets window) rs) ≤ room → searchFault p room window ≡ none
@@ -68,7 +69,7 @@ module _ (p : Pool) (rs : List Record) (k : HoldsRecords p rs) (window : Rect) w
         once = found-each;
         reply = rw (found-many, opened-exact p (k .whole) window);
         same = refl;
-        high = high;
+        high = holds-high p rs k;
       }
 
       -- "valid window, room in its list"

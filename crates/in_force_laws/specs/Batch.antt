@@ -1,8 +1,7 @@
 -- A search of a batch, by what the batch leaves in the lists lent.
 use mathlib.Core.Path.{_≡_}
-use mathlib.Core.Logic.{_⊎_}
 use mathlib.Core.List.{List}
-use Prim.Native.Nat.{ℕ, suc, _+_, _-_, _*_, _^_, _≤_}
+use Prim.Native.Nat.{ℕ, suc, _+_}
 use lib.ListN.{length, getD}
 use lib.Seq.{slice}
 use Rattle.rules.specs.declared.Rect.{Rect}
@@ -13,7 +12,7 @@ use Rattle.rules.specs.Pool.{Pool}
 use Rattle.rules.specs.Search.{ordered}
 use Rattle.rules.specs.Answers.{answer}
 use Rattle.search_laws.specs.Window.{recordMeets}
-use Rattle.in_force_laws.specs.Shows.{EachOnce, nodesMeeting}
+use Rattle.in_force_laws.specs.Shows.{EachOnce, nodesMeeting, High}
 
 -- how many of the records meet the window
 abbrev pub howManyMeet : Rect → List Record → ℕ
@@ -25,4 +24,4 @@ pub record Told (p : Pool) (rs : List Record) (filled : ℕ) (window : Rect) (i 
   pub told : getD answers i (answer 0 0 0 0) ≡ answer 0 (howManyMeet window rs) filled (suc (nodesMeeting p window))
   pub shown : slice filled (filled + howManyMeet window rs) found ≡ ordered (those (recordMeets window) rs)
   pub once : EachOnce (slice filled (filled + howManyMeet window rs) found)
-  pub high : (p .height ≡ 1) ⊎ (2 * 3 ^ (p .height - 1) ≤ length rs)
+  pub high : High p rs

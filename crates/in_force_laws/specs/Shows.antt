@@ -30,12 +30,16 @@ pub record HoldsRecords (p : Pool) (rs : List Record) : Type 0 where
 abbrev pub nodesMeeting : Pool → Rect → ℕ
 nodesMeeting p window = length (those (nodeMeets p window) (those (otherNode p) (slotNumbers p)))
 
+-- "with n records and height h, h is 1 or 2·3^(h-1) ≤ n"
+abbrev pub High : Pool → List Record → Type 0
+High p rs = (p .height ≡ 1) ⊎ (2 * 3 ^ (p .height - 1) ≤ length rs)
+
 -- a search in a pool that holds the records rs, with so many places of the found list filled: it lists "the records in force that meet the
 -- window, each once, in record order"; it answers their number, the first place filled, and the nodes opened, "one for the root and one for
--- each other node whose cover meets the window"; with n records and height h, "h is 1 or 2·3^(h-1) ≤ n"
+-- each other node whose cover meets the window"
 pub record SearchShows (p : Pool) (rs : List Record) (filled : ℕ) (window : Rect) (t : Turn) : Type 0 where
   pub lists : t .listed ≡ ordered (those (recordMeets window) rs)
   pub once : EachOnce (t .listed)
   pub reply : t .reply ≡ Listed (length (those (recordMeets window) rs)) filled (suc (nodesMeeting p window))
   pub same : t .pool ≡ p
-  pub high : (p .height ≡ 1) ⊎ (2 * 3 ^ (p .height - 1) ≤ length rs)
+  pub high : High p rs
