@@ -6,28 +6,24 @@ use mathlib.Core.Option.{Option, none, some}
 use Prim.Native.Nat.{ℕ, zero, suc, _-_, _≤_, _<_}
 use native.Mathlib.Omega.{arith}
 use native.Mathlib.Numerals.{sub-one}
-use lib.ListN.{getD, set, replicate, length-set}
+use lib.ListN.{set, replicate, length-set}
 use lib.Seq.{getD-set-same, getD-set-other}
 use Rattle.rules.specs.declared.SlotNumber.{SlotNumber}
 use Rattle.rules.specs.Pool.{slot}
 use Rattle.rules.specs.Delete.{Path, place, orLater}
 use Rattle.rules_laws.proofs.Orders.{never-both}
+use Rattle.rules_laws.proofs.Places.{getD-alike}
 use Rattle.find_leaf.specs.declared.Way.{Way}
 use Rattle.find_leaf.specs.Ways.{pathOf, Long, UpTo, Gives}
 
 -- ---- no place
 
-same-there : {A : Type 0} (n k : ℕ) (a : A) → getD (replicate n a) k a ≡ a
-same-there zero k a = refl
-same-there (suc n) zero a = refl
-same-there (suc n) (suc k) a = same-there n k a
-
 -- a way with zeros at every level
 pub all-zeros : UpTo 0 (record { found = false; nodes = replicate 8 (slot 0); places = replicate 8 0 })
 all-zeros = record {
   long = record { nodes = refl; places = refl };
-  noNode = λ k _. same-there 8 k (slot 0);
-  noPlace = λ k _. same-there 8 k 0;
+  noNode = λ k _. getD-alike 8 k (slot 0);
+  noPlace = λ k _. getD-alike 8 k 0;
 }
 
 -- zeros above a level are zeros above every higher one

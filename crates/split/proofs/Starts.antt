@@ -2,7 +2,7 @@
 use mathlib.Core.Path.{_≡_, refl, sym, ap₂, _∙_}
 use mathlib.Core.Bool.{Bool, true, false}
 use mathlib.Core.List.{List, [], _∷_}
-use Prim.Native.Nat.{ℕ, zero, suc, _+_, _-_, _≤_, _<_}
+use Prim.Native.Nat.{ℕ, _+_, _-_, _≤_, _<_}
 use native.Mathlib.Nat.{add-zero}
 use native.Mathlib.Omega.{arith}
 use lib.ListN.{length, getD, set, replicate, length-set, getD-replicate}
@@ -12,6 +12,7 @@ use Rattle.rules.specs.Lists.{upFrom}
 use Rattle.rules.specs.Geometry.{coverAll}
 use Rattle.rules.specs.Choose.{rectFrom}
 use Rattle.rules.specs.Split as S
+use Rattle.rules_laws.proofs.Places.{getD-alike}
 use Rattle.split.specs.declared.Grouping.{Grouping}
 use Rattle.split.specs.State.{AllValid, unjoined, groupsOf, Fill, Ok, ends, GroupsWhole}
 use Rattle.split.proofs.Joins.{unjoined-set, unjoined-less, all-joined}
@@ -42,12 +43,7 @@ all-unmarked = refl
 
 -- no place after the first
 after : (k i : ℕ) → 1 ≤ k → getD (set places 0 i) k 0 ≡ 0
-after k i h = getD-set-other places 0 k i 0 (omega arith) ∙ zeros 9 k
-  where
-    zeros : (n k : ℕ) → getD {A = ℕ} (replicate n 0) k 0 ≡ 0
-    zeros zero k = refl
-    zeros (suc n) zero = refl
-    zeros (suc n) (suc k) = zeros n k
+after k i h = getD-set-other places 0 k i 0 (omega arith) ∙ getD-alike 9 k 0
 
 -- the only place of a group of one
 only : (k i : ℕ) → k < 1 → i < 9 → getD (set places 0 i) k 0 < 9
