@@ -18,10 +18,10 @@ constexpr Size sizes[] = {{128, 400, 200}, {4'096, 14'000, 1'024}};
 constexpr int times = 5;
 
 // One at a time, the call costs far more than the request, and the same for each, so a part of them will do.
-constexpr size_t part = 8;
+constexpr size_t eighth = 8;
 
 // Calls with no request: as many as the longest workload has with a batch of 1.
-constexpr size_t empty_calls = Map::most / part;
+constexpr size_t empty_calls = Map::most / eighth;
 
 // The least time of several runs, in microseconds, since anything else that runs at the time can only add. Each starts from a copy.
 template <class State, class Run> double least(const State &start, Run run) {
@@ -77,7 +77,7 @@ void time_workload(const Size &size, const Workload &w) {
     start.make_room(w.timed);
     const double boost = boost_time(w, Map(start).shown(w.timed));
     const size_t all = w.timed.size();
-    print_times(size, w, 1, map_time(start, w, all / part, 1), boost);
+    print_times(size, w, 1, map_time(start, w, all / eighth, 1), boost);
     print_times(size, w, all, map_time(start, w, all, all), boost);
     std::fflush(stdout);
 }
