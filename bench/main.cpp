@@ -17,6 +17,12 @@ struct Size {
 constexpr Size sizes[] = {{128, 400, 200}, {4'096, 14'000, 1'024}};
 constexpr int times = 5;
 
+// One at a time, the call costs far more than the request, and the same for each, so a part of them will do.
+constexpr size_t eighth = 8;
+
+// Calls with no request: as many as the longest workload has with a batch of 1.
+constexpr size_t empty_calls = Map::most / eighth;
+
 // The least time of several runs, in microseconds, since anything else that runs at the time can only add. Each starts from a copy.
 template <class State, class Run> double least(const State &start, Run run) {
     double best = std::numeric_limits<double>::infinity();
@@ -71,8 +77,7 @@ void time_workload(const Size &size, const Workload &w) {
     start.make_room(w.timed);
     const double boost = boost_time(w, Map(start).shown(w.timed));
     const size_t all = w.timed.size();
-    // One at a time, the call costs far more than the request, and the same for each, so a part of them will do.
-    print_times(size, w, 1, map_time(start, w, all / 8, 1), boost);
+    print_times(size, w, 1, map_time(start, w, all / eighth, 1), boost);
     print_times(size, w, all, map_time(start, w, all, all), boost);
     std::fflush(stdout);
 }
@@ -87,7 +92,10 @@ Map filled(const Size &size, const Requests &inserts) {
 void print_call(const Size &size, const Requests &inserts) {
     const Map map = filled(size, inserts);
     const dustmap_request none{};
-    std::printf("| %zu | %.1f |\n", size.slots, least(map, [&](Map &m) { m.call(&none, 0); }));
+    const double all = least(map, [&](Map &m) {
+        for (size_t k = 0; k < empty_calls; ++k) m.call(&none, 0);
+    });
+    std::printf("| %zu | %.2f |\n", size.slots, all / static_cast<double>(empty_calls));
 }
 
 void print_memory(const Size &size, const Requests &inserts) {
@@ -110,7 +118,8 @@ int main() {
     for (const Size &size : sizes) {
         for (const Workload &w : workloads(size.records, size.changes)) time_workload(size, w);
     }
-    std::printf("\nThe call alone, with a batch of 0, in microseconds.\n\n| Slots | A call with no request |\n|---|---|\n");
+    std::printf("\nThe call alone, with a batch of 0, in microseconds, over %zu calls one after another, the least of %d runs.\n\n"
+                "| Slots | A call with no request |\n|---|---|\n", empty_calls, times);
     for (const Size &size : sizes) print_call(size, inserts(size));
     std::printf("\nMemory per record. The workspace has as many words again as the pool.\n\n"
                 "| Slots | Records | Words of the pool | Words of slots in use | Bytes of the pool | Bytes of slots in use | "

@@ -4,7 +4,8 @@
  * the pool is all that one call leaves to the next.
  *
  * The lists may hold any words: every input has an answer. The caller has to see to what C cannot check: each pointer is
- * valid for its length, even where that is 0, and no list that is written overlaps another.
+ * valid for its length, even where that is 0; no list that is written overlaps another; and nothing else writes to a list, or
+ * reads one that is written, during a call.
  */
 #ifndef DUSTMAP_H
 #define DUSTMAP_H

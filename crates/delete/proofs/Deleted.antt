@@ -43,7 +43,7 @@ use Rattle.delete.proofs.Listed.{listed-length}
 
 shows-some : (o : Option Path) (l : ℕ) (way : Way) → way .found ≡ true → Gives o l way → (o ≡ some (pathOf l way)) × Long way
 shows-some none l way t h = never-both t (h .0)
-shows-some (some path) l way t h = (ap some (sym (h .1)), h .2)
+shows-some (some path) l way t h = (ap some (sym (h .1)), h .2 .long)
 
 -- a change that was made
 removes-made : (Good : Pool → Type 0) (v : List ℤ) (f : FreeSlots) (w : List ℤ) (c : Change) → EachPool Good c → Removes v c (Made f) w

@@ -3,3 +3,4 @@ pub mod Places
 pub mod Steps
 pub mod Turns
 pub mod Held
+pub mod Once

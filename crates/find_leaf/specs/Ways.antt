@@ -3,7 +3,7 @@ use mathlib.Core.Path.{_≡_}
 use mathlib.Core.Bool.{true, false}
 use mathlib.Core.List.{[], _∷_}
 use mathlib.Core.Option.{Option, none, some}
-use Prim.Native.Nat.{ℕ, zero, suc}
+use Prim.Native.Nat.{ℕ, zero, suc, _≤_}
 use lib.ListN.{length, getD}
 use Rattle.rules.specs.Pool.{slot}
 use Rattle.rules.specs.Delete.{Path, place}
@@ -19,7 +19,13 @@ pub record Long (w : Way) : Type 0 where
   pub nodes : length (w .nodes) ≡ 8
   pub places : length (w .places) ≡ 8
 
--- what FindLeaf gives from level l down, as the code has it
+-- .. and above level l there are zeros
+pub record UpTo (l : ℕ) (w : Way) : Type 0 where
+  pub long : Long w
+  pub noNode : (k : ℕ) → l ≤ k → getD (w .nodes) k (slot 0) ≡ slot 0
+  pub noPlace : (k : ℕ) → l ≤ k → getD (w .places) k 0 ≡ 0
+
+-- what FindLeaf gives from level l down, as the code has it: with no way, zeros
 abbrev pub Gives : Option Path → ℕ → Way → Type 0
-Gives none l w = (w .found ≡ false) × Long w
-Gives (some path) l w = (w .found ≡ true) × (pathOf l w ≡ path) × Long w
+Gives none l w = (w .found ≡ false) × UpTo 0 w
+Gives (some path) l w = (w .found ≡ true) × (pathOf l w ≡ path) × UpTo l w

@@ -10,7 +10,7 @@ ghost use Rattle.rules.specs.Layout as L;
 ghost use Rattle.rules.specs.Pool as P;
 ghost use Rattle.rules.specs.Delete as D;
 ghost use Rattle.sound_laws.specs.Tree.{Whole};
-ghost use Rattle.find_leaf.specs.Ways.{pathOf, Long, Gives};
+ghost use Rattle.find_leaf.specs.Ways.{pathOf, UpTo, Gives};
 ghost use Rattle.find_leaf.specs.State.{findEntryFrom, findChildFrom, findBelow};
 use rules::MOST_HEIGHT;
 use rules::Record;
@@ -38,7 +38,7 @@ fn nowhere() -> Way
 
 // The way w, which goes on below the level given, with place i of the node at s in front of it.
 fn placed(w: Way, level: usize, s: SlotNumber, i: usize) -> Way
-    requires { ⌜ Long w ⌝ }
+    requires { ⌜ UpTo (level - 1) w ⌝ }
     requires { ⌜ 1 ≤ level ⌝ }
     requires { ⌜ level ≤ 8 ⌝ }
     ensures { λ r. ⌜ Gives (some (D.place s i ∷ pathOf (level - 1) w)) level r ⌝ }

@@ -34,6 +34,10 @@ Small (Child s) = s .0 ≤ mostSlots
 pub record SmallAll (es : List Entry) (n : ℕ) : Type 0 where
   pub small : (i : ℕ) → i < n → Small (getD es i noEntry .pointer)
 
+-- from place n on there is none
+pub record NoneFrom (n : ℕ) (es : List Entry) : Type 0 where
+  pub none : (i : ℕ) → n ≤ i → getD es i noEntry ≡ noEntry
+
 -- the entry at place i of the first n, or none
 abbrev pub usedAt : List Entry → ℕ → ℕ → Entry
 usedAt es n i = cond (ltb i n) (getD es i noEntry) noEntry

@@ -11,7 +11,7 @@ ghost use Rattle.rules.specs.Numbers.{most, mostSlots};
 ghost use Rattle.rules.specs.Layout as L;
 ghost use Rattle.rules.specs.Pool as P;
 ghost use Rattle.rules.specs.Choose.{rectFrom};
-ghost use Rattle.pool.specs.Slots.{Fit, InPool, KindAll, Small, SmallAll, usedAt};
+ghost use Rattle.pool.specs.Slots.{Fit, InPool, KindAll, NoneFrom, Small, SmallAll, usedAt};
 
 pub mod blank;
 pub mod tidy;
@@ -264,10 +264,11 @@ pub fn no_entry() -> Entry
     }
 }
 
-// A node's entries, with room for one more.
+// A node's entries, with room for one more: entries whose words are all zero stand after them.
 pub fn entries_of(pool: &[i32], s: SlotNumber) -> [Entry; MOST + 1]
     requires { ⌜ InPool (now pool) s ⌝ }
-    ensures { λ r. ⌜ take (length (P.entriesAt (L.read (now (pool .entry))) s)) r ≡ P.entriesAt (L.read (now (pool .entry))) s ⌝ }
+    ensures is { λ r. ⌜ take (length (P.entriesAt (L.read (now (pool .entry))) s)) r ≡ P.entriesAt (L.read (now (pool .entry))) s ⌝ }
+    ensures rest { λ r. ⌜ NoneFrom (length (P.entriesAt (L.read (now (pool .entry))) s)) r ⌝ }
 {
     let n = count_of(pool, s);
     let mut es = [no_entry(); MOST + 1];

@@ -3,7 +3,7 @@ use mathlib.Core.Path.{_≡_, refl, sym, ap, ap₂, subst, _∙_}
 use mathlib.Core.List.{List, [], _∷_, _++_, map, List·Memᴰ, List·Memᴰ·head, List·Memᴰ·tail, Memᴰ·cast}
 use Prim.Native.Nat.{ℕ, zero, suc, _+_, _-_, _≤_, _<_}
 use native.Mathlib.Omega.{arith}
-use lib.ListN.{length, getD}
+use lib.ListN.{length, getD, replicate}
 use Rattle.rules.specs.Lists.{upFrom}
 
 module _ {A : Type 0} where
@@ -25,6 +25,12 @@ module _ {A : Type 0} where
   getD-any [] k d e h = absurd (omega arith)
   getD-any (x ∷ xs) zero d e h = refl
   getD-any (x ∷ xs) (suc k) d e h = getD-any xs k d e (omega arith)
+
+  -- one thing at every place, and read after the last as well
+  pub getD-alike : (n k : ℕ) (a : A) → getD (replicate n a) k a ≡ a
+  getD-alike zero k a = refl
+  getD-alike (suc n) zero a = refl
+  getD-alike (suc n) (suc k) a = getD-alike n k a
 
   pub nothing : (xs : List A) → length xs ≡ 0 → xs ≡ []
   nothing [] h = refl

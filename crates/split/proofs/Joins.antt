@@ -51,6 +51,14 @@ unjoined-less (false ∷ js) zero i h e = omega arith
 unjoined-less (true ∷ js) (suc k) i h e = unjoined-less js k (suc i) (omega arith) e
 unjoined-less (false ∷ js) (suc k) i h e = omega (arith, unjoined-less js k (suc i) (omega arith) e)
 
+-- where none is left, every place has joined a group
+pub all-joined : (js : List Bool) (i : ℕ) → length (unjoined js i) ≡ 0 → (k : ℕ) → k < length js → getD js k false ≡ true
+unfolding unjoined
+all-joined [] i e k h = absurd (omega arith)
+all-joined (true ∷ js) i e zero h = refl
+all-joined (true ∷ js) i e (suc k) h = all-joined js (suc i) e k (omega arith)
+all-joined (false ∷ js) i e k h = absurd (omega (arith, e))
+
 -- ---- covers
 
 fold-snoc : (c : Rect) (rs : List Rect) (r : Rect) → foldl cover c (rs ++ r ∷ []) ≡ cover (foldl cover c rs) r
@@ -79,6 +87,8 @@ flipped-ok o = record {
   twos = o .ones;
   inOne = o .inTwo;
   inTwo = o .inOne;
+  afterOne = o .afterTwo;
+  afterTwo = o .afterOne;
   coverOne = o .coverTwo;
   coverTwo = o .coverOne;
   validOne = o .validTwo;
@@ -126,6 +136,8 @@ module _ {rs : List Rect} {t : Grouping} {k : ℕ} (v : AllValid rs) (o : Ok rs 
     twos = o .twos;
     inOne = inside;
     inTwo = o .inTwo;
+    afterOne = λ n h. getD-set-other (t .one) (t .ones) n k 0 (omega (arith, h)) ∙ o .afterOne n (omega (arith, h));
+    afterTwo = o .afterTwo;
     coverOne = ap (λ c. cover c (rectFrom rs k)) (o .coverOne) ∙ sym (cover-snoc rs (take (t .ones) (t .one)) k long) ∙ ap (S.coverGroup rs) (sym members);
     coverTwo = o .coverTwo;
     validOne = cover-valid (t .coverOne) (rectFrom rs k) (o .validOne) (v .ok k (f .inside));

@@ -5,3 +5,4 @@ pub mod Joins
 pub mod Steps
 pub mod Turns
 pub mod Starts
+pub mod Once

@@ -2,7 +2,7 @@
 use mathlib.Core.Path.{_≡_, refl, sym, ap₂, _∙_}
 use mathlib.Core.Bool.{Bool, true, false}
 use mathlib.Core.List.{List, [], _∷_}
-use Prim.Native.Nat.{ℕ, _+_, _-_, _<_}
+use Prim.Native.Nat.{ℕ, _+_, _-_, _≤_, _<_}
 use native.Mathlib.Nat.{add-zero}
 use native.Mathlib.Omega.{arith}
 use lib.ListN.{length, getD, set, replicate, length-set, getD-replicate}
@@ -12,9 +12,10 @@ use Rattle.rules.specs.Lists.{upFrom}
 use Rattle.rules.specs.Geometry.{coverAll}
 use Rattle.rules.specs.Choose.{rectFrom}
 use Rattle.rules.specs.Split as S
+use Rattle.rules_laws.proofs.Places.{getD-alike}
 use Rattle.split.specs.declared.Grouping.{Grouping}
 use Rattle.split.specs.State.{AllValid, unjoined, groupsOf, Fill, Ok, ends, GroupsWhole}
-use Rattle.split.proofs.Joins.{unjoined-set, unjoined-less}
+use Rattle.split.proofs.Joins.{unjoined-set, unjoined-less, all-joined}
 use Rattle.split.proofs.Steps.{none}
 
 abbrev unmarked : List Bool
@@ -39,6 +40,10 @@ started rs i j =
 all-unmarked : unjoined unmarked 0 ≡ upFrom 0 9
 unfolding unjoined upFrom
 all-unmarked = refl
+
+-- no place after the first
+after : (k i : ℕ) → 1 ≤ k → getD (set places 0 i) k 0 ≡ 0
+after k i h = getD-set-other places 0 k i 0 (omega arith) ∙ getD-alike 9 k 0
 
 -- the only place of a group of one
 only : (k i : ℕ) → k < 1 → i < 9 → getD (set places 0 i) k 0 < 9
@@ -78,6 +83,8 @@ module _ {rs : List Rect} (v : AllValid rs) {i j : ℕ} (ij : i < j) (j9 : j < 9
     twos = omega arith;
     inOne = λ k h. only k i h (omega arith);
     inTwo = λ k h. only k j h j9;
+    afterOne = λ k h. after k i h;
+    afterTwo = λ k h. after k j h;
     coverOne = refl;
     coverTwo = refl;
     validOne = v .ok i (omega arith);
@@ -98,8 +105,8 @@ pub ends-same : (rs : List Rect) (t : Grouping) → t .ones + t .twos ≡ 9 → 
 unfolding ends
 ends-same rs t e = let z : 9 - (t .ones + t .twos) ≡ 0 = omega arith in rw z (none (S.pickNext rs) (S.joinsTwo rs) (groupsOf t))
 
-pub whole : {rs : List Rect} {t : Grouping} → Ok rs t → Fill t → t .ones + t .twos ≡ 9 → GroupsWhole t
-whole o f e = record {
+pub whole : {rs : List Rect} {t : Grouping} → Ok rs t → Fill t → t .ones + t .twos ≡ 9 → GroupsWhole rs t
+whole {t = t} o f e = record {
   all = e;
   ones = omega (arith, f .one);
   twos = omega (arith, f .two);
@@ -107,4 +114,10 @@ whole o f e = record {
   two9 = o .two9;
   inOne = o .inOne;
   inTwo = o .inTwo;
+  joined9 = o .joined9;
+  joined = λ k h. all-joined (t .joined) 0 (omega (arith, o .all, e)) k (omega (arith, o .joined9, h));
+  afterOne = o .afterOne;
+  afterTwo = o .afterTwo;
+  coverOne = o .coverOne;
+  coverTwo = o .coverTwo;
 }

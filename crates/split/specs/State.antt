@@ -70,7 +70,7 @@ pub record Fill (t : Grouping) : Type 0 where
   pub one : 3 ≤ t .ones + remaining t
   pub two : 3 ≤ t .twos + remaining t
 
--- the struct is complete: every place has its mark, and the covers are those of the groups
+-- the struct is complete: every place has its mark, there is nothing after the groups, and the covers are those of the groups
 pub record Ok (rs : List Rect) (t : Grouping) : Type 0 where
   pub joined9 : length (t .joined) ≡ 9
   pub one9 : length (t .one) ≡ 9
@@ -80,6 +80,8 @@ pub record Ok (rs : List Rect) (t : Grouping) : Type 0 where
   pub twos : 1 ≤ t .twos
   pub inOne : (k : ℕ) → k < t .ones → getD (t .one) k 0 < 9
   pub inTwo : (k : ℕ) → k < t .twos → getD (t .two) k 0 < 9
+  pub afterOne : (k : ℕ) → t .ones ≤ k → getD (t .one) k 0 ≡ 0
+  pub afterTwo : (k : ℕ) → t .twos ≤ k → getD (t .two) k 0 ≡ 0
   pub coverOne : t .coverOne ≡ S.coverGroup rs (take (t .ones) (t .one))
   pub coverTwo : t .coverTwo ≡ S.coverGroup rs (take (t .twos) (t .two))
   pub validOne : valid (t .coverOne) ≡ true
@@ -115,8 +117,9 @@ withOne rs t k =
 unfoldable pub ends : List Rect → Grouping → S.Groups
 ends rs t = S.distribute (S.pickNext rs) (S.joinsTwo rs) (remaining t) (groupsOf t)
 
--- what a caller may rely on: 3 to 6 places in each group, all of them places of the nine
-pub record GroupsWhole (t : Grouping) : Type 0 where
+-- what a caller may rely on beside the groups: every place has joined one, there are 3 to 6 in each, all of them places of the nine, zeros
+-- after them, and the covers are those of the groups
+pub record GroupsWhole (rs : List Rect) (t : Grouping) : Type 0 where
   pub all : t .ones + t .twos ≡ 9
   pub ones : 3 ≤ t .ones
   pub twos : 3 ≤ t .twos
@@ -124,3 +127,9 @@ pub record GroupsWhole (t : Grouping) : Type 0 where
   pub two9 : length (t .two) ≡ 9
   pub inOne : (k : ℕ) → k < t .ones → getD (t .one) k 0 < 9
   pub inTwo : (k : ℕ) → k < t .twos → getD (t .two) k 0 < 9
+  pub joined9 : length (t .joined) ≡ 9
+  pub joined : (k : ℕ) → k < 9 → getD (t .joined) k false ≡ true
+  pub afterOne : (k : ℕ) → t .ones ≤ k → getD (t .one) k 0 ≡ 0
+  pub afterTwo : (k : ℕ) → t .twos ≤ k → getD (t .two) k 0 ≡ 0
+  pub coverOne : t .coverOne ≡ S.coverGroup rs (take (t .ones) (t .one))
+  pub coverTwo : t .coverTwo ≡ S.coverGroup rs (take (t .twos) (t .two))

@@ -316,7 +316,7 @@ pub fn split_nine(nine: [Rect; NINE]) -> Grouping
     requires { ⌜ AllValid nine ⌝ }
     ensures one { λ r. ⌜ take (r .ones) (r .one) ≡ S.quadraticGroups nine .one ⌝ }
     ensures two { λ r. ⌜ take (r .twos) (r .two) ≡ S.quadraticGroups nine .two ⌝ }
-    ensures whole { λ r. ⌜ GroupsWhole r ⌝ }
+    ensures whole { λ r. ⌜ GroupsWhole nine r ⌝ }
 {
     let p = pick_seeds(nine);
     let i = p.first;

@@ -49,7 +49,7 @@ put-node-requires c κs =
     let f = start .pre .0 in
     let g = start .pre .1 .0 in
     let size = count-of .ensures .0 in
-    let front = entries-of .ensures in
+    let front = entries-of .ensures .0 in
     let closed = close-up .ensures in (
       f,
       (
@@ -84,7 +84,7 @@ returns c =
     let g = start .pre .1 .0 in (
       put-node .ensures .0
           ∙ taken-out f g (start .args .i) (count-of .result) (entries-of .result) (close-up .result) (start .pre .1 .1) (count-of .ensures .0)
-          (entries-of .ensures) (close-up .ensures) (level-of .result) (level-of .ensures),
+          (entries-of .ensures .0) (close-up .ensures) (level-of .result) (level-of .ensures),
       put-node .ensures .1,
     )
 

@@ -7,7 +7,7 @@ use Rattle.rules.specs.Layout.{read}
 use Rattle.rules_laws.proofs.Bools.{not-true, not-false}
 use Rattle.nodes.proofs.Slots.{most-entries}
 use Rattle.find_leaf.specs.State.{findBelow}
-use Rattle.find_leaf.proofs.Places.{gives-long}
+use Rattle.find_leaf.proofs.Places.{higher, gives-up}
 use Rattle.find_leaf.proofs.Turns.{none-in, leaf-in, inner-in, child-ends, child-found, child-later, below-none, below-in}
 use Prim.Native.Nat.{ℕ, _<_}
 use borrow.Fn.Kinds.{In}
@@ -146,7 +146,8 @@ find-from-placed-requires t c κs =
     let s = c .before .before .before in
     let p = read (s .args .pool .now) in
     let way = c .before .find-below in (
-      gives-long (findBelow p (s .args .r) (s .args .below) (entryAt p (s .args .s) (s .args .i))) (s .args .below) (way .result) (way .ensures),
+      higher (omega arith) (gives-up (findBelow p (s .args .r) (s .args .below) (entryAt p (s .args .s) (s .args .i))) (s .args .below) (way .result)
+          (way .ensures)),
       (omega arith, omega (arith, s .pre .1 .1 .0)),
     )
 

@@ -19,7 +19,7 @@ returns : tie.Need-returns
 returns c =
     let start = c .before in
     nine-are (c .entries-of .result) (entriesAt (read (start .args .pool .now)) (start .args .s)) (start .args .e) (search needs)
-    (start .pre .1) (c .entries-of .ensures)
+    (start .pre .1) (c .entries-of .ensures .0)
 
 pub nine-entries-spec : {M : Type 1} → statement M
 nine-entries-spec = tie.close (tie.spec entries-of-requires array-set-from-es returns)

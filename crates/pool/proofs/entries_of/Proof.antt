@@ -1,15 +1,17 @@
 use borrow.Author.Needs.{needs}
-use mathlib.Core.Path.{_≡_, refl, sym, ap, ap₂, _∙_}
+use mathlib.Core.Path.{_≡_, refl, sym, ap, ap₂, subst⁻¹, _∙_}
 use mathlib.Core.List.{List, [], _∷_, _++_}
 use Prim.Native.Nat.{ℕ, _+_, _-_, _≤_, _<_}
 use native.Mathlib.Numerals.{add-one}
 use native.Mathlib.Omega.{arith}
-use lib.ListN.{length, getD, set, take, length-set}
-use lib.Seq.{take-suc, take-suc-set, take-length}
+use lib.ListN.{length, getD, set, take, replicate, length-set}
+use lib.Seq.{take-suc, take-suc-set, take-length, getD-set-other}
 use Rattle.rules.specs.declared.Entry.{Entry}
 use Rattle.rules.specs.Numbers.{most}
 use Rattle.rules.specs.Pool.{noEntry, entriesAt, entryAt, entryFrom}
 use Rattle.rules.specs.Layout.{read}
+use Rattle.rules_laws.proofs.Places.{getD-alike}
+use Rattle.pool.specs.Slots.{NoneFrom}
 use Rattle.pool.proofs.entries_of.Statement.{statement}
 use Rattle.pool.proofs.entries_of.Tie as tie
 use Rattle.pool.proofs.entries_of.Reads as reads
@@ -18,13 +20,14 @@ use Rattle.pool.proofs.count_of.Reads as count-of-reads
 use Rattle.pool.proofs.entry_of.Reads as entry-of-reads
 use Rattle.pool.proofs.no_entry.Reads as no-entry-reads
 
--- the first i places hold the first i entries
+-- the first i places hold the first i entries, and the others none
 record Turn (all : List Entry) (n : ℕ) (es : List Entry) (i : ℕ) : Type 0 where
   size : n ≡ length all
   few : n ≤ most
   many : i ≤ n
   nine : length es ≡ most + 1
   is : take i es ≡ take i all
+  rest : NoneFrom i es
 
 turn : {all : List Entry} {n : ℕ} {es : List Entry} {i : ℕ} (e : Entry)
     → Turn all n es i
@@ -39,6 +42,7 @@ turn {all} {n} {es} {i} e t h q =
       many = omega arith;
       nine = length-set es i e ∙ t .nine;
       is = rw (add-one i) (take-suc-set es i e l ∙ ap₂ (λ (xs : List Entry) (x : Entry). xs ++ x ∷ []) (t .is) q ∙ sym (take-suc all i noEntry (omega (arith, t .size))));
+      rest = record { none = λ k a. getD-set-other es i k e noEntry (omega (arith, a)) ∙ t .rest .none k (omega (arith, a)) };
     }
 
 abbrev Inv-loop : tie.InvT-loop
@@ -56,7 +60,9 @@ no-entry-requires c κs = search needs
 loop-holds : tie.Need-loop-holds Inv-loop μ-loop
 loop-holds c =
     let n = c .before .count-of .ensures in
-    record { size = n .0; few = n .1; many = omega arith; nine = search needs; is = refl }
+    let none : NoneFrom 0 (replicate (most + 1) noEntry) = record { none = λ k _. getD-alike (most + 1) k noEntry } in
+    let rest = subst⁻¹ (λ (e : Entry). NoneFrom 0 (replicate (most + 1) e)) (c .no-entry .ensures) none in
+    record { size = n .0; few = n .1; many = omega arith; nine = search needs; is = refl; rest = rest }
 
 entry-of-requires : tie.Need-entry-of-requires Inv-loop μ-loop
 entry-of-requires c κs =
@@ -86,7 +92,7 @@ returns c =
     let l = c .before .loop in
     let t = l .inv in
     let e : l .i ≡ length all = omega (arith, t .size, t .many, c .loop-test .left) in
-    ap (λ (k : ℕ). take k (l .es)) (sym e) ∙ t .is ∙ ap (λ (k : ℕ). take k all) e ∙ take-length _
+    (ap (λ (k : ℕ). take k (l .es)) (sym e) ∙ t .is ∙ ap (λ (k : ℕ). take k all) e ∙ take-length _, rw (sym e) (t .rest))
 
 pub entries-of-spec : {M : Type 1} → statement M
 entries-of-spec =

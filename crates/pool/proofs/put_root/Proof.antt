@@ -20,7 +20,7 @@ cast-pool-2 : tie.Need-cast-pool-2
 cast-pool-2 c = search needs
 
 slice-set-from-pool-2 : tie.Need-slice-set-from-pool-2
-slice-set-from-pool-2 c = rw (length-set (c .args .pool .now) 1 _) (omega (arith, right-size (c .args .pool .now) (c .pre .0 .right)))
+slice-set-from-pool-2 c = rw (length-set (c .args .pool .now) _ _) (omega (arith, right-size (c .args .pool .now) (c .pre .0 .right)))
 
 same-length : tie.Need-same-length
 same-length c = search needs
