@@ -1,4 +1,4 @@
-"""The walk of `map::all_asked`: a loop over a `&[Request]` that copies each request out and has `also_request` ask of it."""
+"""The walk of `batch::all_asked`: a loop over a `&[Request]` that copies each request out and has `also_request` ask of it."""
 
 from call import Call, Given
 from declare import abbreviation, lemma
@@ -9,16 +9,16 @@ from structs import REQUEST
 from walk import Walk
 
 REQUESTS = Slice("requests", "q", False, REQUEST, "qs", 0)
-ALSO = Callee("map", "also_request", "also")
+ALSO = Callee("batch", "also_request", "also")
 LOCALS = ["tyBool", "ty-q", "tyBool", "word", "Q′.mir", "word", "tyBool", "tyPtr", "Q′.mir"]
-ASKED = Function("map", "all_asked", [REQUESTS], BOOL, LOCALS, [REQUEST], [ALSO])
+ASKED = Function("batch", "all_asked", [REQUESTS], BOOL, LOCALS, [REQUEST], [ALSO])
 
 WHY = """The list is looked into before the loop and shut after it; a turn copies a request out and has `also_request` ask of it. \
 What a turn keeps, on lists, is in `Asks.antt`."""
 IMPORTS = """
 Rattle.rules.specs.Lists: every
 Rattle.rules.specs.Call: isRequest
-Rattle.map.proofs.Asks: none=nothing-asked Seen ≺ wf start next less seen-all
+Rattle.batch.proofs.Asks: none=nothing-asked Seen ≺ wf start next less seen-all
 """
 
 # the context before the loop, and at its test: i of the requests are looked at

@@ -1,4 +1,4 @@
-"""The walk of `map::carry`: a loop that reads an item from two `&[i32]` and stores it as a record in a `&mut [Record]`."""
+"""The walk of `batch::carry`: a loop that reads an item from two `&[i32]` and stores it as a record in a `&mut [Record]`."""
 
 from call import Call, Given, Passed
 from declare import abbreviation, lemma
@@ -14,14 +14,14 @@ FOUND = Slice("found", "f", True, RECORD, "fs", 2)
 ITEM = Callee("found_items", "item", "item")
 LOCALS = ["tyUnit", "ty-p", "ty-w", "word", "ty-f", "word", "word", "F′.mir", "tyBool", "word", "word", "tyPtr"]
 ASKS = "(2 * n ≤ length ws) × Pointing ps ws 0 n × (at + n ≤ length fs)"
-CARRY = Function("map", "carry", [POOL, WORK, Number("n"), FOUND, Number("at")], UNIT, LOCALS, [RECORD], [ITEM], ASKS)
+CARRY = Function("batch", "carry", [POOL, WORK, Number("n"), FOUND, Number("at")], UNIT, LOCALS, [RECORD], [ITEM], ASKS)
 
 WHY = """The found list is opened before the loop and closed after it; a turn has `item` read a record and stores it. \
 What a turn keeps, on lists, is in `Carries.antt`."""
 IMPORTS = """
 lib.Seq: sets
 Rattle.found_items.specs.Items: itemAt itemsFrom spotAt Pointing
-Rattle.map.proofs.Carries: Upto ≺ wf start next less stored stored-long stored-none stored-more
+Rattle.batch.proofs.Carries: Upto ≺ wf start next less stored stored-long stored-none stored-more
 """
 
 # the context before the loop, and at its test: k records are stored

@@ -13,9 +13,9 @@ WORK = Slice("work", "w", True, I32, "ws", 1)
 REQUESTS = Slice("requests", "q", False, REQUEST, "qs", 2)
 ANSWERS = Slice("answers", "r", True, ANSWER, "rs", 3)
 FOUND = Slice("found", "f", True, RECORD, "fs", 4)
-ALL_ASKED = Callee("map", "all_asked", "all-asked")
-REFUSAL = Callee("map", "refusal", "refusal")
-SERVE = Callee("map", "serve", "serve")
+ALL_ASKED = Callee("batch", "all_asked", "all-asked")
+REFUSAL = Callee("batch", "refusal", "refusal")
+SERVE = Callee("batch", "serve", "serve")
 COPY = Callee("request", "copy", "copy")
 
 # pointers of `&*x`, `&mut *x`, and the slices of them
@@ -36,9 +36,10 @@ IMPORTS = """
 Rattle.rules.specs.declared.Verdict: Verdict
 Rattle.rules.specs.Lists: every
 Rattle.rules.specs.Call: Lent isRequest callFault
-Rattle.map.specs.Asking: lent=lentOf left Allowed
-Rattle.map.specs.Batching: refusalOf batchOf Batched
-Rattle.map.proofs.Batches: fine
+Rattle.batch.specs.Asking: lent=lentOf
+Rattle.batch.specs.Batching: refusalOf batchOf Batched
+Rattle.batch.proofs.Batches: fine
+Rattle.map.specs.Asking: left Allowed
 Rattle.map.proofs.Calls: not-refused is-refused left-alone left-served
 """
 

@@ -1,4 +1,4 @@
-"""The walk of `map::serve`: a loop over a `&[Request]` that fills a `&mut [Answer]`, with three more lists lent again for its calls."""
+"""The walk of `batch::serve`: a loop over a `&[Request]` that fills a `&mut [Answer]`, with three more lists lent again for its calls."""
 
 from call import Call, Given, Lent
 from declare import abbreviation, lemma
@@ -13,10 +13,10 @@ WORK = Slice("work", "w", True, I32, "ws", 1)
 REQUESTS = Slice("requests", "q", False, REQUEST, "qs", 2)
 ANSWERS = Slice("answers", "r", True, ANSWER, "rs", 3)
 FOUND = Slice("found", "f", True, RECORD, "fs", 4)
-BEGUN = Callee("map", "begun", "begun")
+BEGUN = Callee("batch", "begun", "begun")
 ONE_REQUEST = Callee("request", "one_request", "request")
-STEP = Callee("map", "step", "step")
-CARRY = Callee("map", "carry", "carry")
+STEP = Callee("batch", "step", "step")
+CARRY = Callee("batch", "carry", "carry")
 
 # pointers of `&*x`, `&mut *x`
 SEEN, CHANGED = "tyRef erased imm (tyInt w32)", "tyRef erased mut (tyInt w32)"
@@ -27,7 +27,7 @@ LOCALS = [
     *(SEEN, "lent-imm", SEEN, "lent-imm", LISTED, "lent-f", "tyPtr"),
 ]
 SERVE = Function(
-    "map",
+    "batch",
     "serve",
     [POOL, WORK, REQUESTS, ANSWERS, FOUND],
     UNIT,
@@ -45,10 +45,10 @@ lib.Seq: sets
 mathlib.Core.WellFounded: WellFounded InvImage·wf
 Rattle.rules.specs.Call: Lent callFault
 Rattle.found_items.specs.Items: itemsFrom Pointing
-Rattle.map.specs.Asking: lent=lentOf
-Rattle.map.specs.Batching: Begun stepOf batchOf Batched
-Rattle.map.proofs.Asks: none=nothing-asked
-Rattle.map.proofs.Batches: Fine fine
+Rattle.batch.specs.Asking: lent=lentOf
+Rattle.batch.specs.Batching: Begun stepOf batchOf Batched
+Rattle.batch.proofs.Asks: none=nothing-asked
+Rattle.batch.proofs.Batches: Fine fine
 """
 
 DONE, FILLED = "s .st .prog .done", "s .st .prog .filled"
@@ -418,7 +418,7 @@ def loop():
 def text():
     """The proof of `serve`."""
     head = SERVE.head(WHY, IMPORTS).replace(
-        "use Rattle.map.proofs.Batches.{", "use Rattle.map.proofs.Batches as Batches\nuse Rattle.map.proofs.Batches.{"
+        "use Rattle.batch.proofs.Batches.{", "use Rattle.batch.proofs.Batches as Batches\nuse Rattle.batch.proofs.Batches.{"
     )
     return pruned(
         head

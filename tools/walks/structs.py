@@ -1,4 +1,4 @@
-"""The structs of the exported library, as the walks of crate `map` cite them."""
+"""The structs of the exported library, as the walks cite them."""
 
 from rows import Struct
 
@@ -7,5 +7,5 @@ ANSWER = Struct("R", "rules", "Answer")
 RECORD = Struct("F", "rules", "Record")
 SERVED = Struct("D", "request", "Served")
 FREE_SLOTS = Struct("S", "free_slots", "FreeSlots")
-PROGRESS = Struct("K", "map", "Progress")
-STEPPED = Struct("T", "map", "Stepped")
+PROGRESS = Struct("K", "batch", "Progress")
+STEPPED = Struct("T", "batch", "Stepped")

@@ -17,8 +17,8 @@ use Rattle.rules.specs.Answers.{verdictNumber}
 use Rattle.rules.specs.Call.{Lent, Left, isRequest, callFault, refused, served}
 use Rattle.in_force_laws.proofs.Faults.{EachGiven, given-none, given-row}
 use Rattle.map.specs.Asking.{left, Allowed}
-use Rattle.map.specs.Batching.{faultNumber, refusalOf, batchOf, Batched}
-use Rattle.map.proofs.Refusals.{refusal-is, call-number, call-refused, call-served}
+use Rattle.batch.specs.Batching.{faultNumber, refusalOf, batchOf, Batched}
+use Rattle.batch.proofs.Refusals.{refusal-is, call-number, call-refused, call-served}
 
 -- ---- once
 

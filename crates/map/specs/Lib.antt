@@ -1,3 +1,2 @@
 -- What the exported functions stand for.
 pub mod Asking
-pub mod Batching

@@ -63,22 +63,23 @@ use Rattle.rules.proofs.Record.Laws as F′
 use Rattle.rules.specs.declared.Verdict.{Verdict}
 use Rattle.rules.specs.Lists.{every}
 use Rattle.rules.specs.Call.{Lent, isRequest, callFault}
-use Rattle.map.specs.Asking.{lent as lentOf, left, Allowed}
-use Rattle.map.specs.Batching.{refusalOf, batchOf, Batched}
-use Rattle.map.proofs.Batches.{fine}
+use Rattle.batch.specs.Asking.{lent as lentOf}
+use Rattle.batch.specs.Batching.{refusalOf, batchOf, Batched}
+use Rattle.batch.proofs.Batches.{fine}
+use Rattle.map.specs.Asking.{left, Allowed}
 use Rattle.map.proofs.Calls.{not-refused, is-refused, left-alone, left-served}
-use Rattle.map.proofs.all_asked as all-asked
-use Rattle.map.proofs.all_asked.Symbol as all-asked-def
-use Rattle.map.proofs.all_asked.Symbol.{name as #map·all-asked}
-use Rattle.map.proofs.all_asked.Met as all-asked-thm
-use Rattle.map.proofs.refusal as refusal
-use Rattle.map.proofs.refusal.Symbol as refusal-def
-use Rattle.map.proofs.refusal.Symbol.{name as #map·refusal}
-use Rattle.map.proofs.refusal.Met as refusal-thm
-use Rattle.map.proofs.serve as serve
-use Rattle.map.proofs.serve.Symbol as serve-def
-use Rattle.map.proofs.serve.Symbol.{name as #map·serve}
-use Rattle.map.proofs.serve.Met as serve-thm
+use Rattle.batch.proofs.all_asked as all-asked
+use Rattle.batch.proofs.all_asked.Symbol as all-asked-def
+use Rattle.batch.proofs.all_asked.Symbol.{name as #batch·all-asked}
+use Rattle.batch.proofs.all_asked.Met as all-asked-thm
+use Rattle.batch.proofs.refusal as refusal
+use Rattle.batch.proofs.refusal.Symbol as refusal-def
+use Rattle.batch.proofs.refusal.Symbol.{name as #batch·refusal}
+use Rattle.batch.proofs.refusal.Met as refusal-thm
+use Rattle.batch.proofs.serve as serve
+use Rattle.batch.proofs.serve.Symbol as serve-def
+use Rattle.batch.proofs.serve.Symbol.{name as #batch·serve}
+use Rattle.batch.proofs.serve.Met as serve-thm
 use Rattle.request.proofs.copy as copy
 use Rattle.request.proofs.copy.Symbol as copy-def
 use Rattle.request.proofs.copy.Symbol.{name as #request·copy}
@@ -230,9 +231,9 @@ module _ {M : Type 1} (𝓤 : URA M) (H : Heap 𝓤) (A : Atoms 𝓤) (W : Given
   z-typed z fits = sint-lawful 𝓤 H A W w32 .typed z _ (refl, fits)
 
   module _ (𝓣 : Tables 𝓤 H)
-      (known-all-asked : Triple 𝓤 (𝓣 .C #map·all-asked) (AllAskedC 𝓤 H A mem run))
-      (known-refusal : Triple 𝓤 (𝓣 .C #map·refusal) (RefusalC 𝓤 H A mem run))
-      (known-serve : Triple 𝓤 (𝓣 .C #map·serve) (ServeC 𝓤 H A mem run))
+      (known-all-asked : Triple 𝓤 (𝓣 .C #batch·all-asked) (AllAskedC 𝓤 H A mem run))
+      (known-refusal : Triple 𝓤 (𝓣 .C #batch·refusal) (RefusalC 𝓤 H A mem run))
+      (known-serve : Triple 𝓤 (𝓣 .C #batch·serve) (ServeC 𝓤 H A mem run))
       (known-copy : Triple 𝓤 (𝓣 .C #request·copy) (CopyC 𝓤 H A mem run)) where
     module _ (l₀ l₁ l₂ l₃ l₄ l₅ l₆ l₇ l₈ l₉ l₁₀ l₁₁ l₁₂ l₁₃ l₁₄ l₁₅ l₁₆ l₁₇ l₁₈ l₁₉ l₂₀ l₂₁ l₂₂ l₂₃ l₂₄ l₂₅ l₂₆ : ℕ) where
       -- the locals: the type of each, and where it lies
@@ -476,8 +477,8 @@ module _ {M : Type 1} (𝓤 : URA M) (H : Heap 𝓤) (A : Atoms 𝓤) (W : Given
 
 module _ {M : Type 1} (𝓤 : URA M) (H : Heap 𝓤) (A : Atoms 𝓤) (W : Given 𝓤 H A) (mem : Memory → SProp 𝓤) (run : Routine → Fun 𝓤) where
   -- the walk, whatever the caller passes
-  dustmap-call-walks : (𝓣 : Tables 𝓤 H) → Triple 𝓤 (𝓣 .C #map·all-asked) (AllAskedC 𝓤 H A mem run) → Triple 𝓤 (𝓣 .C #map·refusal)
-      (RefusalC 𝓤 H A mem run) → Triple 𝓤 (𝓣 .C #map·serve) (ServeC 𝓤 H A mem run) → Triple 𝓤 (𝓣 .C #request·copy) (CopyC 𝓤 H A mem run)
+  dustmap-call-walks : (𝓣 : Tables 𝓤 H) → Triple 𝓤 (𝓣 .C #batch·all-asked) (AllAskedC 𝓤 H A mem run) → Triple 𝓤 (𝓣 .C #batch·refusal)
+      (RefusalC 𝓤 H A mem run) → Triple 𝓤 (𝓣 .C #batch·serve) (ServeC 𝓤 H A mem run) → Triple 𝓤 (𝓣 .C #request·copy) (CopyC 𝓤 H A mem run)
       → Walks 𝓤 H A dustmap-call′.ended stayed (WpFn 𝓤 H (𝓣 .C) (𝓣 .Λ) code.function) (dustmap-call′.clauses 𝓤 H A mem run)
   dustmap-call-walks 𝓣 known-all-asked known-refusal known-serve known-copy =
       walked 𝓤 H A dustmap-call′.ended stayed (dustmap-call′.clauses 𝓤 H A mem run) (WpFn 𝓤 H (𝓣 .C) (𝓣 .Λ) code.function)
@@ -508,8 +509,8 @@ module _ {M : Type 1} (𝓤 : URA M) (H : Heap 𝓤) (A : Atoms 𝓤) (W : Given
 
 -- what is had at exit gives what the contract says
 dustmap-call-meets : {M : Type 1} (𝓤 : URA M) (H : Heap 𝓤) (A : Atoms 𝓤) → Given 𝓤 H A → (mem : Memory → SProp 𝓤) (run : Routine → Fun 𝓤)
-    (𝓣 : Tables 𝓤 H) → Triple 𝓤 (𝓣 .C #map·all-asked) (AllAskedC 𝓤 H A mem run) → Triple 𝓤 (𝓣 .C #map·refusal) (RefusalC 𝓤 H A mem run)
-    → Triple 𝓤 (𝓣 .C #map·serve) (ServeC 𝓤 H A mem run) → Triple 𝓤 (𝓣 .C #request·copy) (CopyC 𝓤 H A mem run) → Meets 𝓤 H A dustmap-call′.signature
+    (𝓣 : Tables 𝓤 H) → Triple 𝓤 (𝓣 .C #batch·all-asked) (AllAskedC 𝓤 H A mem run) → Triple 𝓤 (𝓣 .C #batch·refusal) (RefusalC 𝓤 H A mem run)
+    → Triple 𝓤 (𝓣 .C #batch·serve) (ServeC 𝓤 H A mem run) → Triple 𝓤 (𝓣 .C #request·copy) (CopyC 𝓤 H A mem run) → Meets 𝓤 H A dustmap-call′.signature
     (WpFn 𝓤 H (𝓣 .C) (𝓣 .Λ) code.function) (dustmap-call′.spec 𝓤 H A mem run)
 dustmap-call-meets 𝓤 H A W mem run 𝓣 known-all-asked known-refusal known-serve known-copy =
     walk-meets 𝓤 H A dustmap-call′.ended stayed W (
@@ -538,9 +539,9 @@ dustmap-call-spec 𝓤 H 𝓜 𝓖 𝓡 =
     entered 𝓤 H (tripleOf 𝓤 H (𝓖 .A) dustmap-call′.signature (dustmap-call′.spec 𝓤 H (𝓖 .A) (𝓜 .mem) (𝓡 .run)))
     (tables 𝓤 H 𝓜 𝓡 code.env .C) (tables 𝓤 H 𝓜 𝓡 code.env .Λ) #map·dustmap-call code.function (code.unfolded 𝓤 H 𝓜 𝓡)
     (dustmap-call-meets 𝓤 H (𝓖 .A) (givenOf 𝓤 H 𝓜 𝓖) (𝓜 .mem) (𝓡 .run) (tablesOf 𝓤 H 𝓜 (tables 𝓤 H 𝓜 𝓡 code.env))
-    (cited 𝓤 H (AllAskedC 𝓤 H (𝓖 .A) (𝓜 .mem) (𝓡 .run)) 𝓜 𝓡 code.env #map·all-asked all-asked-def.routine code.calls-map·all-asked
+    (cited 𝓤 H (AllAskedC 𝓤 H (𝓖 .A) (𝓜 .mem) (𝓡 .run)) 𝓜 𝓡 code.env #batch·all-asked all-asked-def.routine code.calls-batch·all-asked
     (all-asked-thm.met 𝓤 H 𝓜 𝓖 𝓡))
-    (cited 𝓤 H (RefusalC 𝓤 H (𝓖 .A) (𝓜 .mem) (𝓡 .run)) 𝓜 𝓡 code.env #map·refusal refusal-def.routine code.calls-map·refusal
+    (cited 𝓤 H (RefusalC 𝓤 H (𝓖 .A) (𝓜 .mem) (𝓡 .run)) 𝓜 𝓡 code.env #batch·refusal refusal-def.routine code.calls-batch·refusal
     (refusal-thm.met 𝓤 H 𝓜 𝓖 𝓡))
-    (cited 𝓤 H (ServeC 𝓤 H (𝓖 .A) (𝓜 .mem) (𝓡 .run)) 𝓜 𝓡 code.env #map·serve serve-def.routine code.calls-map·serve (serve-thm.met 𝓤 H 𝓜 𝓖 𝓡))
+    (cited 𝓤 H (ServeC 𝓤 H (𝓖 .A) (𝓜 .mem) (𝓡 .run)) 𝓜 𝓡 code.env #batch·serve serve-def.routine code.calls-batch·serve (serve-thm.met 𝓤 H 𝓜 𝓖 𝓡))
     (cited 𝓤 H (CopyC 𝓤 H (𝓖 .A) (𝓜 .mem) (𝓡 .run)) 𝓜 𝓡 code.env #request·copy copy-def.routine code.calls-request·copy (copy-thm.met 𝓤 H 𝓜 𝓖 𝓡)))

@@ -2,13 +2,13 @@ use mir.Facts.{toZ-ofZ}
 use mir.Syntax.{w32}
 use borrow.Author.Needs.{sfits-of}
 use mathlib.Core.Path.{_∙_}
-use Rattle.map.proofs.Refusals.{check-number}
+use Rattle.batch.proofs.Refusals.{check-number}
 use borrow.Author.Needs.{needs}
 use Rattle.map.proofs.dustmap_check.Statement.{statement}
 use Rattle.map.proofs.dustmap_check.Tie as tie
 use Rattle.map.proofs.dustmap_check.Reads as reads
 use Rattle.map.proofs.dustmap_check.Lts as lts
-use Rattle.map.proofs.refusal.Reads as refusal-reads
+use Rattle.batch.proofs.refusal.Reads as refusal-reads
 
 refusal-requires : tie.Need-refusal-requires
 refusal-requires c κs = search needs

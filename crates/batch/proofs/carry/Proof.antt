@@ -1,6 +1,6 @@
 -- Written by `tools/generate` from tools/walks/carry.py: do not edit by hand.
--- `map::carry` meets its contract: a walk of its MIR. The found list is opened before the loop and closed after it; a turn has `item` read a record and
--- stores it. What a turn keeps, on lists, is in `Carries.antt`. Assumes nothing.
+-- `batch::carry` meets its contract: a walk of its MIR. The found list is opened before the loop and closed after it; a turn has `item` read a record
+-- and stores it. What a turn keeps, on lists, is in `Carries.antt`. Assumes nothing.
 use mathlib.Core.Path.{_≡_, refl, sym, ap, subst}
 use Prim.Native.Nat.{ℕ, _<_, _≤_, _^_, _*_, _+_}
 use native.Mathlib.Omega.{arith}
@@ -57,16 +57,16 @@ use Rattle.rules.proofs.Record as F
 use Rattle.rules.proofs.Record.Laws as F′
 use lib.Seq.{sets}
 use Rattle.found_items.specs.Items.{itemAt, itemsFrom, spotAt, Pointing}
-use Rattle.map.proofs.Carries.{Upto, ≺, wf, start, next, less, stored, stored-long, stored-none, stored-more}
+use Rattle.batch.proofs.Carries.{Upto, ≺, wf, start, next, less, stored, stored-long, stored-none, stored-more}
 use Rattle.found_items.proofs.item as item
 use Rattle.found_items.proofs.item.Symbol as item-def
 use Rattle.found_items.proofs.item.Symbol.{name as #found-items·item}
 use Rattle.found_items.proofs.item.Met as item-thm
-use Rattle.map.proofs.carry.Key.{name as #map·carry}
-use Rattle.map.proofs.carry as carry′
-use Rattle.map.proofs.carry.Statement as stated
-use Rattle.map.proofs.carry.Code as code
-use Rattle.map.proofs.carry.Code.Mir as mir
+use Rattle.batch.proofs.carry.Key.{name as #batch·carry}
+use Rattle.batch.proofs.carry as carry′
+use Rattle.batch.proofs.carry.Statement as stated
+use Rattle.batch.proofs.carry.Code as code
+use Rattle.batch.proofs.carry.Code.Mir as mir
 
 abbrev stayed : Stays (carry′.ended .signature .params) (carry′.ended .kept)
 stayed = (
@@ -384,7 +384,7 @@ pub carry-spec : {M : Type 1} → stated.statement M
 unfolding code.routine tablesOf
 carry-spec 𝓤 H 𝓜 𝓖 𝓡 =
     entered 𝓤 H (tripleOf 𝓤 H (𝓖 .A) carry′.signature (carry′.spec 𝓤 H (𝓖 .A) (𝓜 .mem) (𝓡 .run)))
-    (tables 𝓤 H 𝓜 𝓡 code.env .C) (tables 𝓤 H 𝓜 𝓡 code.env .Λ) #map·carry code.function (code.unfolded 𝓤 H 𝓜 𝓡)
+    (tables 𝓤 H 𝓜 𝓡 code.env .C) (tables 𝓤 H 𝓜 𝓡 code.env .Λ) #batch·carry code.function (code.unfolded 𝓤 H 𝓜 𝓡)
     (carry-meets 𝓤 H (𝓖 .A) (givenOf 𝓤 H 𝓜 𝓖) (𝓜 .mem) (𝓡 .run) (tablesOf 𝓤 H 𝓜 (tables 𝓤 H 𝓜 𝓡 code.env))
     (cited 𝓤 H (ItemC 𝓤 H (𝓖 .A) (𝓜 .mem) (𝓡 .run)) 𝓜 𝓡 code.env #found-items·item item-def.routine code.calls-found-items·item
     (item-thm.met 𝓤 H 𝓜 𝓖 𝓡)))

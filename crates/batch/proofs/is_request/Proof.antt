@@ -4,12 +4,12 @@ use lib.IntN.{ℤ, pos}
 use lib.Signed.{leZ}
 use mir.Val.{toZ, ofZ}
 use mir.Syntax.{w32}
-use Rattle.map.proofs.Refusals.{four-kinds}
+use Rattle.batch.proofs.Refusals.{four-kinds}
 use borrow.Author.Needs.{needs}
-use Rattle.map.proofs.is_request.Statement.{statement}
-use Rattle.map.proofs.is_request.Tie as tie
-use Rattle.map.proofs.is_request.Reads as reads
-use Rattle.map.proofs.is_request.Lts as lts
+use Rattle.batch.proofs.is_request.Statement.{statement}
+use Rattle.batch.proofs.is_request.Tie as tie
+use Rattle.batch.proofs.is_request.Reads as reads
+use Rattle.batch.proofs.is_request.Lts as lts
 use Rattle.geometry.proofs.and.Reads as and-reads
 use Rattle.geometry.proofs.le.Reads as le-reads
 

@@ -3,14 +3,14 @@ use lib.Dec.{eqb}
 use lib.ListN.{length}
 use Rattle.rules.specs.Layout.{validLength}
 use Rattle.rules_laws.proofs.Bools.{not-true, not-false}
-use Rattle.map.proofs.Refusals.{bad-lists, bad-length, right-first, not-sound, no-request, none-refuses}
+use Rattle.batch.proofs.Refusals.{bad-lists, bad-length, right-first, not-sound, no-request, none-refuses}
 use borrow.Author.Needs.{needs}
-use Rattle.map.proofs.refusal.Statement.{statement}
-use Rattle.map.proofs.refusal.Tie as tie
-use Rattle.map.proofs.refusal.Reads as reads
-use Rattle.map.proofs.refusal.Lts as lts
-use Rattle.map.proofs.lengths_fit.Reads as lengths-fit-reads
-use Rattle.map.proofs.lists_fit.Reads as lists-fit-reads
+use Rattle.batch.proofs.refusal.Statement.{statement}
+use Rattle.batch.proofs.refusal.Tie as tie
+use Rattle.batch.proofs.refusal.Reads as reads
+use Rattle.batch.proofs.refusal.Lts as lts
+use Rattle.batch.proofs.lengths_fit.Reads as lengths-fit-reads
+use Rattle.batch.proofs.lists_fit.Reads as lists-fit-reads
 use Rattle.sound.proofs.sound.Reads as sound-reads
 
 lists-fit-requires : tie.Need-lists-fit-requires

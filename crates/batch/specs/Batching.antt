@@ -19,8 +19,8 @@ use Rattle.rules.specs.Insert.{ours}
 use Rattle.rules.specs.Call.{Lent, Batch, starting, doRequests}
 use Rattle.free_slots.specs.Known.{Known}
 use Rattle.request.specs.declared.Served.{Served}
-use Rattle.map.specs.declared.Progress.{Progress}
-use Rattle.map.specs.declared.Stepped.{Stepped}
+use Rattle.batch.specs.declared.Progress.{Progress}
+use Rattle.batch.specs.declared.Stepped.{Stepped}
 
 -- the number that a call returns: of the row that refuses it, or 0
 unfoldable pub faultNumber : Option Verdict → ℤ

@@ -1,6 +1,6 @@
 -- Written by `tools/generate` from tools/walks/all_asked.py: do not edit by hand.
--- `map::all_asked` meets its contract: a walk of its MIR. The list is looked into before the loop and shut after it; a turn copies a request out and has
--- `also_request` ask of it. What a turn keeps, on lists, is in `Asks.antt`. Assumes nothing.
+-- `batch::all_asked` meets its contract: a walk of its MIR. The list is looked into before the loop and shut after it; a turn copies a request out and
+-- has `also_request` ask of it. What a turn keeps, on lists, is in `Asks.antt`. Assumes nothing.
 use mathlib.Core.Path.{_≡_, refl, sym, ap}
 use Prim.Native.Nat.{ℕ, _<_, _≤_, _^_, _*_, _+_}
 use native.Mathlib.Omega.{arith}
@@ -54,16 +54,16 @@ use Rattle.rules.proofs.Request as Q
 use Rattle.rules.proofs.Request.Laws as Q′
 use Rattle.rules.specs.Lists.{every}
 use Rattle.rules.specs.Call.{isRequest}
-use Rattle.map.proofs.Asks.{none as nothing-asked, Seen, ≺, wf, start, next, less, seen-all}
-use Rattle.map.proofs.also_request as also
-use Rattle.map.proofs.also_request.Symbol as also-def
-use Rattle.map.proofs.also_request.Symbol.{name as #map·also-request}
-use Rattle.map.proofs.also_request.Met as also-thm
-use Rattle.map.proofs.all_asked.Key.{name as #map·all-asked}
-use Rattle.map.proofs.all_asked as all-asked′
-use Rattle.map.proofs.all_asked.Statement as stated
-use Rattle.map.proofs.all_asked.Code as code
-use Rattle.map.proofs.all_asked.Code.Mir as mir
+use Rattle.batch.proofs.Asks.{none as nothing-asked, Seen, ≺, wf, start, next, less, seen-all}
+use Rattle.batch.proofs.also_request as also
+use Rattle.batch.proofs.also_request.Symbol as also-def
+use Rattle.batch.proofs.also_request.Symbol.{name as #batch·also-request}
+use Rattle.batch.proofs.also_request.Met as also-thm
+use Rattle.batch.proofs.all_asked.Key.{name as #batch·all-asked}
+use Rattle.batch.proofs.all_asked as all-asked′
+use Rattle.batch.proofs.all_asked.Statement as stated
+use Rattle.batch.proofs.all_asked.Code as code
+use Rattle.batch.proofs.all_asked.Code.Mir as mir
 
 abbrev stayed : Stays (all-asked′.ended .signature .params) (all-asked′.ended .kept)
 stayed = (stay-none-slice (0 ∷ []) tt (plain (λ _. Q.the-row)) yes, tt)
@@ -130,7 +130,7 @@ module _ {M : Type 1} (𝓤 : URA M) (H : Heap 𝓤) (A : Atoms 𝓤) (W : Given
   q s = getD qs (s .i) nothing-asked
 
   module _ (𝓣 : Tables 𝓤 H)
-      (known-also : Triple 𝓤 (𝓣 .C #map·also-request) (AlsoC 𝓤 H A mem run)) where
+      (known-also : Triple 𝓤 (𝓣 .C #batch·also-request) (AlsoC 𝓤 H A mem run)) where
     module _ (l₀ l₁ l₂ l₃ l₄ l₅ l₆ l₇ l₈ : ℕ) where
       -- the locals: the type of each, and where it lies
       abbrev E : Env 𝓤 H
@@ -250,7 +250,7 @@ module _ {M : Type 1} (𝓤 : URA M) (H : Heap 𝓤) (A : Atoms 𝓤) (W : Given
 
 module _ {M : Type 1} (𝓤 : URA M) (H : Heap 𝓤) (A : Atoms 𝓤) (W : Given 𝓤 H A) (mem : Memory → SProp 𝓤) (run : Routine → Fun 𝓤) where
   -- the walk, whatever the caller passes
-  all-asked-walks : (𝓣 : Tables 𝓤 H) → Triple 𝓤 (𝓣 .C #map·also-request) (AlsoC 𝓤 H A mem run) → Walks 𝓤 H A all-asked′.ended stayed
+  all-asked-walks : (𝓣 : Tables 𝓤 H) → Triple 𝓤 (𝓣 .C #batch·also-request) (AlsoC 𝓤 H A mem run) → Walks 𝓤 H A all-asked′.ended stayed
       (WpFn 𝓤 H (𝓣 .C) (𝓣 .Λ) code.function) (all-asked′.clauses 𝓤 H A mem run)
   all-asked-walks 𝓣 known-also =
       walked 𝓤 H A all-asked′.ended stayed (all-asked′.clauses 𝓤 H A mem run) (WpFn 𝓤 H (𝓣 .C) (𝓣 .Λ) code.function)
@@ -261,7 +261,7 @@ module _ {M : Type 1} (𝓤 : URA M) (H : Heap 𝓤) (A : Atoms 𝓤) (W : Given
 
 -- what is had at exit gives what the contract says
 all-asked-meets : {M : Type 1} (𝓤 : URA M) (H : Heap 𝓤) (A : Atoms 𝓤) → Given 𝓤 H A → (mem : Memory → SProp 𝓤) (run : Routine → Fun 𝓤)
-    (𝓣 : Tables 𝓤 H) → Triple 𝓤 (𝓣 .C #map·also-request) (AlsoC 𝓤 H A mem run) → Meets 𝓤 H A all-asked′.signature (WpFn 𝓤 H (𝓣 .C) (𝓣 .Λ) code.function)
+    (𝓣 : Tables 𝓤 H) → Triple 𝓤 (𝓣 .C #batch·also-request) (AlsoC 𝓤 H A mem run) → Meets 𝓤 H A all-asked′.signature (WpFn 𝓤 H (𝓣 .C) (𝓣 .Λ) code.function)
     (all-asked′.spec 𝓤 H A mem run)
 all-asked-meets 𝓤 H A W mem run 𝓣 known-also =
     walk-meets 𝓤 H A all-asked′.ended stayed W
@@ -274,7 +274,7 @@ pub all-asked-spec : {M : Type 1} → stated.statement M
 unfolding code.routine tablesOf
 all-asked-spec 𝓤 H 𝓜 𝓖 𝓡 =
     entered 𝓤 H (tripleOf 𝓤 H (𝓖 .A) all-asked′.signature (all-asked′.spec 𝓤 H (𝓖 .A) (𝓜 .mem) (𝓡 .run)))
-    (tables 𝓤 H 𝓜 𝓡 code.env .C) (tables 𝓤 H 𝓜 𝓡 code.env .Λ) #map·all-asked code.function (code.unfolded 𝓤 H 𝓜 𝓡)
+    (tables 𝓤 H 𝓜 𝓡 code.env .C) (tables 𝓤 H 𝓜 𝓡 code.env .Λ) #batch·all-asked code.function (code.unfolded 𝓤 H 𝓜 𝓡)
     (all-asked-meets 𝓤 H (𝓖 .A) (givenOf 𝓤 H 𝓜 𝓖) (𝓜 .mem) (𝓡 .run) (tablesOf 𝓤 H 𝓜 (tables 𝓤 H 𝓜 𝓡 code.env))
-    (cited 𝓤 H (AlsoC 𝓤 H (𝓖 .A) (𝓜 .mem) (𝓡 .run)) 𝓜 𝓡 code.env #map·also-request also-def.routine code.calls-map·also-request
+    (cited 𝓤 H (AlsoC 𝓤 H (𝓖 .A) (𝓜 .mem) (𝓡 .run)) 𝓜 𝓡 code.env #batch·also-request also-def.routine code.calls-batch·also-request
     (also-thm.met 𝓤 H 𝓜 𝓖 𝓡)))

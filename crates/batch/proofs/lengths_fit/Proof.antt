@@ -1,10 +1,10 @@
 use mathlib.Core.Path.{sym, _∙_}
 use Rattle.rules_laws.proofs.Bools.{not-true, not-false}
 use borrow.Author.Needs.{needs}
-use Rattle.map.proofs.lengths_fit.Statement.{statement}
-use Rattle.map.proofs.lengths_fit.Tie as tie
-use Rattle.map.proofs.lengths_fit.Reads as reads
-use Rattle.map.proofs.lengths_fit.Lts as lts
+use Rattle.batch.proofs.lengths_fit.Statement.{statement}
+use Rattle.batch.proofs.lengths_fit.Tie as tie
+use Rattle.batch.proofs.lengths_fit.Reads as reads
+use Rattle.batch.proofs.lengths_fit.Lts as lts
 use Rattle.pool.proofs.valid_length.Reads as valid-length-reads
 
 valid-length-requires : tie.Need-valid-length-requires

@@ -1,7 +1,7 @@
 -- Written by `tools/generate` from tools/walks/serve.py: do not edit by hand.
--- `map::serve` meets its contract: a walk of its MIR. The requests are looked into and the answers opened before the loop, and shut after it; the pool,
--- the workspace and the found list are lent again for each call. A turn is cut into five: the request is copied out, `one_request` does it, `step` says
--- what becomes of it, `carry` stores its records, its answer is stored. What a turn keeps, on lists, is in `Batches.antt`. Assumes nothing.
+-- `batch::serve` meets its contract: a walk of its MIR. The requests are looked into and the answers opened before the loop, and shut after it; the
+-- pool, the workspace and the found list are lent again for each call. A turn is cut into five: the request is copied out, `one_request` does it, `step`
+-- says what becomes of it, `carry` stores its records, its answer is stored. What a turn keeps, on lists, is in `Batches.antt`. Assumes nothing.
 use mathlib.Core.Path.{_≡_, refl, sym, ap, subst, _∙_}
 use Prim.Native.Nat.{ℕ, _<_, _≤_, _^_, _*_, _+_}
 use native.Mathlib.Omega.{arith}
@@ -68,42 +68,42 @@ use Rattle.request.proofs.Served.Laws as D′
 use Rattle.free_slots.specs.declared.FreeSlots.{FreeSlots}
 use Rattle.free_slots.proofs.FreeSlots as S
 use Rattle.free_slots.proofs.FreeSlots.Laws as S′
-use Rattle.map.specs.declared.Progress.{Progress}
-use Rattle.map.proofs.Progress as K
-use Rattle.map.proofs.Progress.Laws as K′
-use Rattle.map.specs.declared.Stepped.{Stepped}
-use Rattle.map.proofs.Stepped as T
-use Rattle.map.proofs.Stepped.Laws as T′
+use Rattle.batch.specs.declared.Progress.{Progress}
+use Rattle.batch.proofs.Progress as K
+use Rattle.batch.proofs.Progress.Laws as K′
+use Rattle.batch.specs.declared.Stepped.{Stepped}
+use Rattle.batch.proofs.Stepped as T
+use Rattle.batch.proofs.Stepped.Laws as T′
 use lib.Seq.{sets}
 use mathlib.Core.WellFounded.{WellFounded, InvImage·wf}
 use Rattle.rules.specs.Call.{Lent, callFault}
 use Rattle.found_items.specs.Items.{itemsFrom, Pointing}
-use Rattle.map.specs.Asking.{lent as lentOf}
-use Rattle.map.specs.Batching.{Begun, stepOf, batchOf, Batched}
-use Rattle.map.proofs.Asks.{none as nothing-asked}
-use Rattle.map.proofs.Batches as Batches
-use Rattle.map.proofs.Batches.{Fine, fine}
-use Rattle.map.proofs.begun as begun
-use Rattle.map.proofs.begun.Symbol as begun-def
-use Rattle.map.proofs.begun.Symbol.{name as #map·begun}
-use Rattle.map.proofs.begun.Met as begun-thm
+use Rattle.batch.specs.Asking.{lent as lentOf}
+use Rattle.batch.specs.Batching.{Begun, stepOf, batchOf, Batched}
+use Rattle.batch.proofs.Asks.{none as nothing-asked}
+use Rattle.batch.proofs.Batches as Batches
+use Rattle.batch.proofs.Batches.{Fine, fine}
+use Rattle.batch.proofs.begun as begun
+use Rattle.batch.proofs.begun.Symbol as begun-def
+use Rattle.batch.proofs.begun.Symbol.{name as #batch·begun}
+use Rattle.batch.proofs.begun.Met as begun-thm
 use Rattle.request.proofs.one_request as request
 use Rattle.request.proofs.one_request.Symbol as request-def
 use Rattle.request.proofs.one_request.Symbol.{name as #request·one-request}
 use Rattle.request.proofs.one_request.Met as request-thm
-use Rattle.map.proofs.step as step
-use Rattle.map.proofs.step.Symbol as step-def
-use Rattle.map.proofs.step.Symbol.{name as #map·step}
-use Rattle.map.proofs.step.Met as step-thm
-use Rattle.map.proofs.carry as carry
-use Rattle.map.proofs.carry.Symbol as carry-def
-use Rattle.map.proofs.carry.Symbol.{name as #map·carry}
-use Rattle.map.proofs.carry.Met as carry-thm
-use Rattle.map.proofs.serve.Key.{name as #map·serve}
-use Rattle.map.proofs.serve as serve′
-use Rattle.map.proofs.serve.Statement as stated
-use Rattle.map.proofs.serve.Code as code
-use Rattle.map.proofs.serve.Code.Mir as mir
+use Rattle.batch.proofs.step as step
+use Rattle.batch.proofs.step.Symbol as step-def
+use Rattle.batch.proofs.step.Symbol.{name as #batch·step}
+use Rattle.batch.proofs.step.Met as step-thm
+use Rattle.batch.proofs.carry as carry
+use Rattle.batch.proofs.carry.Symbol as carry-def
+use Rattle.batch.proofs.carry.Symbol.{name as #batch·carry}
+use Rattle.batch.proofs.carry.Met as carry-thm
+use Rattle.batch.proofs.serve.Key.{name as #batch·serve}
+use Rattle.batch.proofs.serve as serve′
+use Rattle.batch.proofs.serve.Statement as stated
+use Rattle.batch.proofs.serve.Code as code
+use Rattle.batch.proofs.serve.Code.Mir as mir
 
 abbrev stayed : Stays (serve′.ended .signature .params) (serve′.ended .kept)
 stayed = (
@@ -319,10 +319,10 @@ module _ {M : Type 1} (𝓤 : URA M) (H : Heap 𝓤) (A : Atoms 𝓤) (W : Given
   gives s r = Batches.gives (s .st .prog) r
 
   module _ (𝓣 : Tables 𝓤 H)
-      (known-begun : Triple 𝓤 (𝓣 .C #map·begun) (BegunC 𝓤 H A mem run))
+      (known-begun : Triple 𝓤 (𝓣 .C #batch·begun) (BegunC 𝓤 H A mem run))
       (known-request : Triple 𝓤 (𝓣 .C #request·one-request) (RequestC 𝓤 H A mem run))
-      (known-step : Triple 𝓤 (𝓣 .C #map·step) (StepC 𝓤 H A mem run))
-      (known-carry : Triple 𝓤 (𝓣 .C #map·carry) (CarryC 𝓤 H A mem run)) where
+      (known-step : Triple 𝓤 (𝓣 .C #batch·step) (StepC 𝓤 H A mem run))
+      (known-carry : Triple 𝓤 (𝓣 .C #batch·carry) (CarryC 𝓤 H A mem run)) where
     module _ (l₀ l₁ l₂ l₃ l₄ l₅ l₆ l₇ l₈ l₉ l₁₀ l₁₁ l₁₂ l₁₃ l₁₄ l₁₅ l₁₆ l₁₇ l₁₈ l₁₉ l₂₀ l₂₁ l₂₂ l₂₃ l₂₄ l₂₅ l₂₆ l₂₇ l₂₈ l₂₉ l₃₀ l₃₁ l₃₂ l₃₃ l₃₄ l₃₅ : ℕ) where
       -- the locals: the type of each, and where it lies
       abbrev E : Env 𝓤 H
@@ -708,8 +708,8 @@ module _ {M : Type 1} (𝓤 : URA M) (H : Heap 𝓤) (A : Atoms 𝓤) (W : Given
 
 module _ {M : Type 1} (𝓤 : URA M) (H : Heap 𝓤) (A : Atoms 𝓤) (W : Given 𝓤 H A) (mem : Memory → SProp 𝓤) (run : Routine → Fun 𝓤) where
   -- the walk, whatever the caller passes
-  serve-walks : (𝓣 : Tables 𝓤 H) → Triple 𝓤 (𝓣 .C #map·begun) (BegunC 𝓤 H A mem run) → Triple 𝓤 (𝓣 .C #request·one-request) (RequestC 𝓤 H A mem run)
-      → Triple 𝓤 (𝓣 .C #map·step) (StepC 𝓤 H A mem run) → Triple 𝓤 (𝓣 .C #map·carry) (CarryC 𝓤 H A mem run) → Walks 𝓤 H A serve′.ended stayed
+  serve-walks : (𝓣 : Tables 𝓤 H) → Triple 𝓤 (𝓣 .C #batch·begun) (BegunC 𝓤 H A mem run) → Triple 𝓤 (𝓣 .C #request·one-request) (RequestC 𝓤 H A mem run)
+      → Triple 𝓤 (𝓣 .C #batch·step) (StepC 𝓤 H A mem run) → Triple 𝓤 (𝓣 .C #batch·carry) (CarryC 𝓤 H A mem run) → Walks 𝓤 H A serve′.ended stayed
       (WpFn 𝓤 H (𝓣 .C) (𝓣 .Λ) code.function) (serve′.clauses 𝓤 H A mem run)
   serve-walks 𝓣 known-begun known-request known-step known-carry =
       walked 𝓤 H A serve′.ended stayed (serve′.clauses 𝓤 H A mem run) (WpFn 𝓤 H (𝓣 .C) (𝓣 .Λ) code.function)
@@ -740,8 +740,8 @@ module _ {M : Type 1} (𝓤 : URA M) (H : Heap 𝓤) (A : Atoms 𝓤) (W : Given
 
 -- what is had at exit gives what the contract says
 serve-meets : {M : Type 1} (𝓤 : URA M) (H : Heap 𝓤) (A : Atoms 𝓤) → Given 𝓤 H A → (mem : Memory → SProp 𝓤) (run : Routine → Fun 𝓤) (𝓣 : Tables 𝓤 H)
-    → Triple 𝓤 (𝓣 .C #map·begun) (BegunC 𝓤 H A mem run) → Triple 𝓤 (𝓣 .C #request·one-request) (RequestC 𝓤 H A mem run) → Triple 𝓤 (𝓣 .C #map·step)
-    (StepC 𝓤 H A mem run) → Triple 𝓤 (𝓣 .C #map·carry) (CarryC 𝓤 H A mem run) → Meets 𝓤 H A serve′.signature (WpFn 𝓤 H (𝓣 .C) (𝓣 .Λ) code.function)
+    → Triple 𝓤 (𝓣 .C #batch·begun) (BegunC 𝓤 H A mem run) → Triple 𝓤 (𝓣 .C #request·one-request) (RequestC 𝓤 H A mem run) → Triple 𝓤 (𝓣 .C #batch·step)
+    (StepC 𝓤 H A mem run) → Triple 𝓤 (𝓣 .C #batch·carry) (CarryC 𝓤 H A mem run) → Meets 𝓤 H A serve′.signature (WpFn 𝓤 H (𝓣 .C) (𝓣 .Λ) code.function)
     (serve′.spec 𝓤 H A mem run)
 serve-meets 𝓤 H A W mem run 𝓣 known-begun known-request known-step known-carry =
     walk-meets 𝓤 H A serve′.ended stayed W (
@@ -768,10 +768,10 @@ pub serve-spec : {M : Type 1} → stated.statement M
 unfolding code.routine tablesOf
 serve-spec 𝓤 H 𝓜 𝓖 𝓡 =
     entered 𝓤 H (tripleOf 𝓤 H (𝓖 .A) serve′.signature (serve′.spec 𝓤 H (𝓖 .A) (𝓜 .mem) (𝓡 .run)))
-    (tables 𝓤 H 𝓜 𝓡 code.env .C) (tables 𝓤 H 𝓜 𝓡 code.env .Λ) #map·serve code.function (code.unfolded 𝓤 H 𝓜 𝓡)
+    (tables 𝓤 H 𝓜 𝓡 code.env .C) (tables 𝓤 H 𝓜 𝓡 code.env .Λ) #batch·serve code.function (code.unfolded 𝓤 H 𝓜 𝓡)
     (serve-meets 𝓤 H (𝓖 .A) (givenOf 𝓤 H 𝓜 𝓖) (𝓜 .mem) (𝓡 .run) (tablesOf 𝓤 H 𝓜 (tables 𝓤 H 𝓜 𝓡 code.env))
-    (cited 𝓤 H (BegunC 𝓤 H (𝓖 .A) (𝓜 .mem) (𝓡 .run)) 𝓜 𝓡 code.env #map·begun begun-def.routine code.calls-map·begun (begun-thm.met 𝓤 H 𝓜 𝓖 𝓡))
+    (cited 𝓤 H (BegunC 𝓤 H (𝓖 .A) (𝓜 .mem) (𝓡 .run)) 𝓜 𝓡 code.env #batch·begun begun-def.routine code.calls-batch·begun (begun-thm.met 𝓤 H 𝓜 𝓖 𝓡))
     (cited 𝓤 H (RequestC 𝓤 H (𝓖 .A) (𝓜 .mem) (𝓡 .run)) 𝓜 𝓡 code.env #request·one-request request-def.routine code.calls-request·one-request
     (request-thm.met 𝓤 H 𝓜 𝓖 𝓡))
-    (cited 𝓤 H (StepC 𝓤 H (𝓖 .A) (𝓜 .mem) (𝓡 .run)) 𝓜 𝓡 code.env #map·step step-def.routine code.calls-map·step (step-thm.met 𝓤 H 𝓜 𝓖 𝓡))
-    (cited 𝓤 H (CarryC 𝓤 H (𝓖 .A) (𝓜 .mem) (𝓡 .run)) 𝓜 𝓡 code.env #map·carry carry-def.routine code.calls-map·carry (carry-thm.met 𝓤 H 𝓜 𝓖 𝓡)))
+    (cited 𝓤 H (StepC 𝓤 H (𝓖 .A) (𝓜 .mem) (𝓡 .run)) 𝓜 𝓡 code.env #batch·step step-def.routine code.calls-batch·step (step-thm.met 𝓤 H 𝓜 𝓖 𝓡))
+    (cited 𝓤 H (CarryC 𝓤 H (𝓖 .A) (𝓜 .mem) (𝓡 .run)) 𝓜 𝓡 code.env #batch·carry carry-def.routine code.calls-batch·carry (carry-thm.met 𝓤 H 𝓜 𝓖 𝓡)))

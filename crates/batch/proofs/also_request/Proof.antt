@@ -1,12 +1,12 @@
 use mathlib.Core.Path.{_∙_, ap}
 use mathlib.Core.Bool.{Bool, _&&_}
 use borrow.Author.Needs.{needs}
-use Rattle.map.proofs.also_request.Statement.{statement}
-use Rattle.map.proofs.also_request.Tie as tie
-use Rattle.map.proofs.also_request.Reads as reads
-use Rattle.map.proofs.also_request.Lts as lts
+use Rattle.batch.proofs.also_request.Statement.{statement}
+use Rattle.batch.proofs.also_request.Tie as tie
+use Rattle.batch.proofs.also_request.Reads as reads
+use Rattle.batch.proofs.also_request.Lts as lts
 use Rattle.geometry.proofs.and.Reads as and-reads
-use Rattle.map.proofs.is_request.Reads as is-request-reads
+use Rattle.batch.proofs.is_request.Reads as is-request-reads
 
 is-request-requires : tie.Need-is-request-requires
 is-request-requires c κs = search needs

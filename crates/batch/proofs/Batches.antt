@@ -34,11 +34,11 @@ use Rattle.request.specs.declared.Served.{Served}
 use Rattle.request.specs.Serving.{Ready, Serves}
 use Rattle.request.proofs.Sounds.{sound-fit}
 use Rattle.request.proofs.Cases.{asks-something}
-use Rattle.map.specs.declared.Progress.{Progress}
-use Rattle.map.specs.declared.Stepped.{Stepped}
-use Rattle.map.specs.Batching.{Begun, stepOf, batchOf, Batched}
-use Rattle.map.proofs.Asks.{none as nothing-asked}
-use Rattle.map.proofs.Listed.{Placed, request-placed}
+use Rattle.batch.specs.declared.Progress.{Progress}
+use Rattle.batch.specs.declared.Stepped.{Stepped}
+use Rattle.batch.specs.Batching.{Begun, stepOf, batchOf, Batched}
+use Rattle.batch.proofs.Asks.{none as nothing-asked}
+use Rattle.batch.proofs.Listed.{Placed, request-placed}
 
 -- ---- a call that nothing refuses
 

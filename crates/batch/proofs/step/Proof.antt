@@ -1,10 +1,10 @@
 use mathlib.Core.Path.{refl}
-use Rattle.map.specs.Batching.{stepOf}
+use Rattle.batch.specs.Batching.{stepOf}
 use borrow.Author.Needs.{needs}
-use Rattle.map.proofs.step.Statement.{statement}
-use Rattle.map.proofs.step.Tie as tie
-use Rattle.map.proofs.step.Reads as reads
-use Rattle.map.proofs.step.Lts as lts
+use Rattle.batch.proofs.step.Statement.{statement}
+use Rattle.batch.proofs.step.Tie as tie
+use Rattle.batch.proofs.step.Reads as reads
+use Rattle.batch.proofs.step.Lts as lts
 
 add-done : tie.Need-add-done
 add-done c = search needs
