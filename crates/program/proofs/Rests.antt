@@ -31,7 +31,7 @@ use Rattle.program.specs.declared.Step.{Step}
 use Rattle.program.specs.declared.Step.the-variants as Next
 use Rattle.program.specs.declared.Flushed.{Flushed}
 use Rattle.program.specs.declared.Flushed.the-variants.{All, Stopped}
-use Rattle.program.specs.Moving.{movedBy, heldIn, heldUpTo, gotBy, Taken, Emptied, Flushes, Receives}
+use Rattle.program.specs.Moving.{movedBy, heldIn, heldUpTo, gotBy, mostRounds, Taken, Emptied, Flushes, Receives}
 use Rattle.program.specs.Running.{Claims, Stands, Comes, Onward, Onto, Over, Rounds, Waited, Runs}
 use Rattle.program.specs.Running.{Finished, answered, badFrame, notRead, notWritten, endless, Drains, on, stuck, Closes, all, stopped, Ending, none, cut}
 use Rattle.program.proofs.Moves.{bytesOf, few, taken-within}
@@ -199,7 +199,7 @@ module _ (r : Run) where
 
   pub drains-stuck : {f : Flushed} {n : ℕ} → Flushes r f → f ≡ Stopped n → Drains r (Next.Ends (pos 3))
   unfolding Flushes
-  drains-stuck {f} {n} h e = stuck n (subst (λ (x : Flushed). Flushes r x) e h)
+  drains-stuck {f} {n} h e = let t = subst (λ (x : Flushed). Flushes r x) e h in stuck n (t .0) (t .1)
 
   pub closes-all : {f : Flushed} {s : Run} → Flushes r f → f ≡ All s → Closes r (pos 1)
   unfolding Flushes
@@ -207,7 +207,7 @@ module _ (r : Run) where
 
   pub closes-stopped : {f : Flushed} {n : ℕ} → Flushes r f → f ≡ Stopped n → Closes r (pos 3)
   unfolding Flushes
-  closes-stopped {f} {n} h e = stopped n (subst (λ (x : Flushed). Flushes r x) e h)
+  closes-stopped {f} {n} h e = let t = subst (λ (x : Flushed). Flushes r x) e h in stopped n (t .0) (t .1)
 
 -- ---- the end of the input
 
@@ -251,7 +251,7 @@ module _ (pool : List ℤ) (input out : List ℕ) (r : Run) (st : Stands pool in
         finished = λ a p c. let e = sym (append-assoc p (take (r .filled) out) (take (q .filled) now)) ∙ ap (λ (l : List ℕ). written p ++ l) line in
             badFrame (written p) (suc (r .before)) e (end-cut n a p c ∙ sym e);
       }
-  end-closed now q status n line (stopped k t) =
+  end-closed now q status n line (stopped k t v) =
       record {
         piece = [];
         sent = take (r .filled) out ++ take k now;
@@ -369,7 +369,7 @@ module _ (pool : List ℤ) (input out : List ℕ) (r : Run) (pool′ : List ℤ)
         sent = take (s .filled) out′;
         keeps = λ a p c. claims-on pool′ input out′ s a p (k .keeps a p c) input n [] e refl refl (sym (append-nil (heldIn input n)));
       }
-  round-drained s t k (stuck n taken) = over-after s (pos 3) k (over-stopped pool′ input out′ s n taken)
+  round-drained s t k (stuck n taken v) = over-after s (pos 3) k (over-stopped pool′ input out′ s n taken)
 
   pub round-ends : (s : Run) (status : ℤ) → take (s .filled) out′ ≡ take (r .filled) out ++ badLine (suc (r .before))
       → ((a p : List ℕ) → Claims pool input out r a p → (later : List ℕ) → dustmap (a ++ later) ≡ p ++ take (s .filled) out′)
@@ -381,7 +381,7 @@ module _ (pool : List ℤ) (input out : List ℕ) (r : Run) (pool′ : List ℤ)
         finished = λ a p c. badFrame (p ++ take (r .filled) out) (suc (r .before))
             (ap (λ (l : List ℕ). p ++ l) line ∙ sym (append-assoc p (take (r .filled) out) (badLine (suc (r .before))))) (h a p c []);
       }
-  round-ends s status line h (stopped k t) =
+  round-ends s status line h (stopped k t v) =
       record {
         piece = [];
         sent = take k out′;
@@ -394,7 +394,7 @@ module _ (pool : List ℤ) (input out : List ℕ) (r : Run) (pool′ : List ℤ)
 module _ (input out : List ℕ) (r : Run) where
   pub waited-stopped : {f : Flushed} {n : ℕ} → Flushes r f → f ≡ Stopped n → Waited input out r input out (Next.Ends (pos 3))
   unfolding Flushes Rounds
-  waited-stopped {f} {n} h e pool st w = over-stopped pool input out r n (subst (λ (x : Flushed). Flushes r x) e h)
+  waited-stopped {f} {n} h e pool st w = over-stopped pool input out r n (subst (λ (x : Flushed). Flushes r x) e h .0)
 
   module _ {f : Flushed} (r′ : Run) (h : Flushes r f) (e : f ≡ All r′) where
     pub emptied : Emptied r r′
@@ -482,16 +482,17 @@ module _ (pool : List ℤ) (input out : List ℕ) (r : Run) (pool′ : List ℤ)
   unfolding Rounds
   step-ends status e = subst (λ (y : Step). Rounds pool input out r pool′ input′ out′ y) e o
 
-pub run-endless : (pool : List ℤ) (input out : List ℕ) (r : Run) (arrived text : List ℕ) → Claims pool input out r arrived text → Runs (pos 4)
+pub run-endless : (pool : List ℤ) (input out : List ℕ) (r : Run) (arrived text : List ℕ) → Claims pool input out r arrived text
+    → (rounds : ℕ) → rounds ≡ mostRounds → Runs (pos 4)
 unfolding Said
-run-endless pool input out r arrived text c =
+run-endless pool input out r arrived text c rounds all-used =
     let m = length (heldIn input r ++ []) in
     let after = printed m (suc (r .before)) pool (heldIn input r ++ []) in
     record {
       arrived = arrived;
       printed = text;
       finished = endless (take (r .filled) out ++ after)
-          (ap dustmap (sym (append-nil arrived)) ∙ c [] m (omega arith) ∙ append-assoc text (take (r .filled) out) after);
+          (ap dustmap (sym (append-nil arrived)) ∙ c [] m (omega arith) ∙ append-assoc text (take (r .filled) out) after) rounds all-used;
     }
 
 -- a status is a small number
@@ -500,4 +501,4 @@ finished-fits (answered b q s) = record { sfits = omega arith }
 finished-fits (badFrame t b e d) = record { sfits = omega arith }
 finished-fits (notRead b q h s) = record { sfits = omega arith }
 finished-fits (notWritten t d) = record { sfits = omega arith }
-finished-fits (endless t d) = record { sfits = omega arith }
+finished-fits (endless t d n e) = record { sfits = omega arith }

@@ -57,10 +57,19 @@ pub record Emptied (r s : Run) : Type 0 where
   pub end : s .end ≡ r .end
   pub filled : s .filled ≡ 0
 
+-- how many rounds a run has, and how many tries a write has: more than any run uses up
+abbrev pub mostRounds : ℕ
+mostRounds = 18446744073709551615
+
+-- no more is taken: a write of the bytes from `sent` on failed, or there were too many tries
+pub data Stuck (sent filled : ℕ) : Type 0 where
+  refused : Sends sent filled S.Failed → Stuck sent filled
+  tired : (tries : ℕ) → tries ≡ mostRounds → Stuck sent filled
+
 -- all that waited is taken, and the run goes on; or a write failed, and only so much was taken
 unfoldable pub Flushes : Run → Flushed → Type 0
 Flushes r (All s) = Taken (r .filled) (r .filled) × Emptied r s
-Flushes r (Stopped n) = Taken (r .filled) n
+Flushes r (Stopped n) = Taken (r .filled) n × Stuck n (r .filled)
 
 -- ---- reading
 

@@ -19,7 +19,7 @@ use Rattle.program.specs.declared.Then.{Then}
 use Rattle.program.specs.declared.Then.the-variants.{Goes, Waits, Full, Ends}
 use Rattle.program.specs.declared.Step.{Step}
 use Rattle.program.specs.declared.Step.the-variants as Next
-use Rattle.program.specs.Moving.{heldIn, Taken, Emptied}
+use Rattle.program.specs.Moving.{mostRounds, heldIn, Taken, Stuck, Emptied}
 
 -- "a 128-slot pool (5,384 words)"
 abbrev pub poolSize : ℕ
@@ -74,17 +74,17 @@ pub data Finished (arrived printed : List ℕ) : ℤ → Type 0 where
   -- 3: the output cannot be written. What is printed is the beginning of what is to be
   notWritten : (rest : List ℕ) → dustmap arrived ≡ printed ++ rest → Finished arrived printed (pos 3)
   -- 4: the rounds are used up
-  endless : (rest : List ℕ) → dustmap arrived ≡ printed ++ rest → Finished arrived printed (pos 4)
+  endless : (rest : List ℕ) → dustmap arrived ≡ printed ++ rest → (rounds : ℕ) → rounds ≡ mostRounds → Finished arrived printed (pos 4)
 
 -- what waited is written and the run goes on, or not all of it could be
 pub data Drains (r : Run) : Step → Type 0 where
   on : (s : Run) → Taken (r .filled) (r .filled) → Emptied r s → Drains r (Next.Goes s)
-  stuck : (n : ℕ) → Taken (r .filled) n → Drains r (Next.Ends (pos 3))
+  stuck : (n : ℕ) → Taken (r .filled) n → Stuck n (r .filled) → Drains r (Next.Ends (pos 3))
 
 -- .. and the run ends at a bad frame
 pub data Closes (r : Run) : ℤ → Type 0 where
   all : Taken (r .filled) (r .filled) → Closes r (pos 1)
-  stopped : (n : ℕ) → Taken (r .filled) n → Closes r (pos 3)
+  stopped : (n : ℕ) → Taken (r .filled) n → Stuck n (r .filled) → Closes r (pos 3)
 
 -- the end of the input: no byte is left; or some are, and the line of a bad frame is written
 pub data Ending (out now : List ℕ) (r : Run) : ℤ → Type 0 where

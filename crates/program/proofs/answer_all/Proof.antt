@@ -13,6 +13,7 @@ use Rattle.rules.specs.Sound.{sound}
 use Rattle.frames.specs.Said.{Said}
 use Rattle.frames.proofs.Pieces.{said-start}
 use Rattle.program.specs.declared.Run.{Run}
+use Rattle.program.specs.Moving.{mostRounds}
 use Rattle.program.specs.Running.{poolSize, Claims, Stands}
 use Rattle.program.proofs.First.{first-long, first-right, first-sound}
 use Rattle.program.proofs.answer_all.Statement.{statement}
@@ -31,7 +32,9 @@ record Turn (pool work : List ℤ) (input out : List ℕ) (run : Run) (rounds : 
   inputs : length input ≡ 65536
   outs : length out ≡ 65536
   stands : Stands pool input out run
-  counted : run .before + rounds ≤ 18446744073709551615
+  counted : run .before + rounds ≤ mostRounds
+  done : ℕ
+  all : done + rounds ≡ mostRounds
   arrived : List ℕ
   printed : List ℕ
   claims : Claims pool input out run arrived printed
@@ -79,6 +82,8 @@ loop-holds c =
         room = omega arith;
       };
       counted = omega arith;
+      done = 0;
+      all = omega arith;
       arrived = [];
       printed = [];
       claims = subst (λ (p : List ℤ). Said [] [] 0 p []) (sym (blank .ensures .1)) said-start;
@@ -126,6 +131,8 @@ loop-again c =
       outs = round .kept .1 .1 .1 .0 ∙ t .outs;
       stands = o .stands;
       counted = omega (arith, t .counted, o .counted);
+      done = t .done + 1;
+      all = omega (arith, t .all);
       arrived = t .arrived ++ o .piece;
       printed = t .printed ++ o .sent;
       claims = o .keeps (t .arrived) (t .printed) (t .claims);
@@ -149,7 +156,7 @@ returns c =
 returns-2 : tie.Need-returns-2 Inv-loop μ-loop
 returns-2 c =
     let t = c .before .loop .inv in
-    run-endless (c .before .loop .pool) (c .before .loop .input) (c .before .loop .out) (c .before .loop .run) (t .arrived) (t .printed) (t .claims)
+    run-endless (c .before .loop .pool) (c .before .loop .input) (c .before .loop .out) (c .before .loop .run) (t .arrived) (t .printed) (t .claims) (t .done) (omega (arith, t .all))
 
 pub answer-all-spec : {M : Type 1} → statement M
 answer-all-spec =

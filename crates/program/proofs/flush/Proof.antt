@@ -1,10 +1,10 @@
 -- `flush`: a turn takes what one `write` takes. All is taken where the run goes on.
 use borrow.Author.Needs.{needs}
 use native.Mathlib.Omega.{arith}
-use mathlib.Core.Path.{refl, subst}
-use Prim.Native.Nat.{ℕ}
+use mathlib.Core.Path.{_≡_, refl, subst}
+use Prim.Native.Nat.{ℕ, _+_}
 use Rattle.program.specs.declared.Sent.{Sent}
-use Rattle.program.specs.Moving.{Sends, Taken, none, more, Flushes}
+use Rattle.program.specs.Moving.{mostRounds, Sends, Taken, none, more, refused, tired, Flushes}
 use Rattle.program.proofs.Moves.{taken-within}
 use Rattle.program.proofs.flush.Statement.{statement}
 use Rattle.program.proofs.flush.Tie as tie
@@ -12,21 +12,27 @@ use Rattle.program.proofs.flush.Reads as reads
 use Rattle.program.proofs.flush.Lts as lts
 use Rattle.program.proofs.send.Reads as send-reads
 
+-- so much is taken, after so many tries
+record Turn (filled sent tries : ℕ) : Type 0 where
+  taken : Taken filled sent
+  tried : ℕ
+  all : tried + tries ≡ mostRounds
+
 abbrev Inv-loop : tie.InvT-loop
-Inv-loop out run filled sent₀ tries₀ sent tries = Taken filled sent
+Inv-loop out run filled sent₀ tries₀ sent tries = Turn filled sent tries
 
 abbrev μ-loop : tie.MeasureT-loop
 μ-loop out run filled sent₀ tries₀ sent tries = tries
 
 loop-holds : tie.Need-loop-holds Inv-loop μ-loop
-loop-holds c = none
+loop-holds c = record { taken = none; tried = 0; all = omega arith }
 
 returns : tie.Need-returns Inv-loop μ-loop
 unfolding Flushes
 returns c =
     let start = c .before .before .before .before .before in
     let loop = c .before .before .before .loop in (
-      subst (λ (n : ℕ). Taken (start .args .run .filled) n) (c .before .if1 .taken) (loop .inv),
+      subst (λ (n : ℕ). Taken (start .args .run .filled) n) (c .before .if1 .taken) (loop .inv .taken),
       record { before = refl; free = refl; at = refl; end = refl; filled = refl },
     )
 
@@ -34,7 +40,7 @@ send-requires : tie.Need-send-requires Inv-loop μ-loop
 send-requires c κs =
     let start = c .before .before .before .before in
     let loop = c .before .before .loop in
-    (taken-within (start .args .run .filled) (loop .sent) (loop .inv), start .pre)
+    (taken-within (start .args .run .filled) (loop .sent) (loop .inv .taken), start .pre)
 
 enum-known-next : tie.Need-enum-known-next Inv-loop μ-loop
 enum-known-next c = search needs
@@ -45,8 +51,10 @@ enum-told c = search needs
 returns-2 : tie.Need-returns-2 Inv-loop μ-loop
 unfolding Flushes
 returns-2 c =
+    let start = c .before .before .before .before .before .before .before in
     let loop = c .before .before .before .before .before .loop in
-    loop .inv
+    let send = c .before .before .send in
+    (loop .inv .taken, refused (subst (λ (x : Sent). Sends (loop .sent) (start .args .run .filled) x) (c .enum-told .given .1) (send .ensures)))
 
 sub-tries : tie.Need-sub-tries Inv-loop μ-loop
 sub-tries c = omega arith
@@ -60,12 +68,19 @@ loop-again c =
     let loop = c .before .before .before .before .before .before .loop in
     let send = c .before .before .before .send in
     let next = c .before .next in
-    more (loop .sent) (next .given .0 .0) (loop .inv)
-    (subst (λ (x : Sent). Sends (loop .sent) (start .args .run .filled) x) (next .given .1) (send .ensures))
+    let t = loop .inv in
+    record {
+      taken = more (loop .sent) (next .given .0 .0) (t .taken)
+          (subst (λ (x : Sent). Sends (loop .sent) (start .args .run .filled) x) (next .given .1) (send .ensures));
+      tried = t .tried + 1;
+      all = omega (arith, t .all);
+    }
 
 returns-3 : tie.Need-returns-3 Inv-loop μ-loop
 unfolding Flushes
-returns-3 c = c .before .loop .inv
+returns-3 c =
+    let t = c .before .loop .inv in
+    (t .taken, tired (t .tried) (omega (arith, t .all)))
 
 pub flush-spec : {M : Type 1} → statement M
 flush-spec =
