@@ -8,7 +8,6 @@ ghost use lib.ListN.{length, replicate};
 ghost use lib.Seq.{sets};
 ghost use Rattle.rules.specs.Pool.{number, noRecord};
 ghost use Rattle.rules.specs.Call.{isRequest};
-ghost use Rattle.rules.specs.Frames as F;
 ghost use Rattle.found_items.specs.Items.{itemsFrom, Pointing};
 ghost use Rattle.request.specs.Serving.{Ready};
 ghost use Rattle.program.specs.Moving.{again, movedBy, heldUpTo, Sends, Flushes, Receives};

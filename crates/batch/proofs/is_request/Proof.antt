@@ -8,19 +8,6 @@ use Rattle.batch.proofs.Refusals.{four-kinds}
 use borrow.Author.Needs.{needs}
 use Rattle.batch.proofs.is_request.Statement.{statement}
 use Rattle.batch.proofs.is_request.Tie as tie
-use Rattle.batch.proofs.is_request.Reads as reads
-use Rattle.batch.proofs.is_request.Lts as lts
-use Rattle.geometry.proofs.and.Reads as and-reads
-use Rattle.geometry.proofs.le.Reads as le-reads
-
-le-requires : tie.Need-le-requires
-le-requires c κs = search needs
-
-le-requires-2 : tie.Need-le-requires-2
-le-requires-2 c κs = search needs
-
-and-requires : tie.Need-and-requires
-and-requires c κs = search needs
 
 returns : tie.Need-returns
 returns c =
@@ -31,4 +18,4 @@ returns c =
     ∙ ap (λ (k : ℤ). leZ (pos 1) k && leZ k (pos 4)) told ∙ four-kinds q
 
 pub is-request-spec : {M : Type 1} → statement M
-is-request-spec = tie.close (tie.spec le-requires le-requires-2 and-requires returns)
+is-request-spec = tie.close (tie.spec (λ c κs. search needs) (λ c κs. search needs) (λ c κs. search needs) returns)

@@ -3,12 +3,6 @@ use Rattle.rules_laws.proofs.Bools.{not-true, not-false}
 use borrow.Author.Needs.{needs}
 use Rattle.batch.proofs.lengths_fit.Statement.{statement}
 use Rattle.batch.proofs.lengths_fit.Tie as tie
-use Rattle.batch.proofs.lengths_fit.Reads as reads
-use Rattle.batch.proofs.lengths_fit.Lts as lts
-use Rattle.pool.proofs.valid_length.Reads as valid-length-reads
-
-valid-length-requires : tie.Need-valid-length-requires
-valid-length-requires c κs = search needs
 
 returns : tie.Need-returns
 returns c = let e = sym (c .before .valid-length .ensures) ∙ not-true _ (c .if1 .taken) in rw e
@@ -17,4 +11,4 @@ returns-2 : tie.Need-returns-2
 returns-2 c = let e = sym (c .before .valid-length .ensures) ∙ not-false _ (c .if1 .left) in rw e
 
 pub lengths-fit-spec : {M : Type 1} → statement M
-lengths-fit-spec = tie.close (tie.spec valid-length-requires returns returns-2)
+lengths-fit-spec = tie.close (tie.spec (λ c κs. search needs) returns returns-2)

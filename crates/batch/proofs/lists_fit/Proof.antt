@@ -2,8 +2,6 @@ use native.Mathlib.Omega.{arith}
 use borrow.Author.Tests.{lt-ltb, le-ltb}
 use Rattle.batch.proofs.lists_fit.Statement.{statement}
 use Rattle.batch.proofs.lists_fit.Tie as tie
-use Rattle.batch.proofs.lists_fit.Reads as reads
-use Rattle.batch.proofs.lists_fit.Lts as lts
 
 returns : tie.Need-returns
 returns c = rw (lt-ltb 1024 (c .before .args .requests) (c .if1 .taken))

@@ -7,17 +7,6 @@ use Rattle.batch.proofs.Refusals.{bad-lists, bad-length, right-first, n
 use borrow.Author.Needs.{needs}
 use Rattle.batch.proofs.refusal.Statement.{statement}
 use Rattle.batch.proofs.refusal.Tie as tie
-use Rattle.batch.proofs.refusal.Reads as reads
-use Rattle.batch.proofs.refusal.Lts as lts
-use Rattle.batch.proofs.lengths_fit.Reads as lengths-fit-reads
-use Rattle.batch.proofs.lists_fit.Reads as lists-fit-reads
-use Rattle.sound.proofs.sound.Reads as sound-reads
-
-lists-fit-requires : tie.Need-lists-fit-requires
-lists-fit-requires c κs = search needs
-
-lengths-fit-requires : tie.Need-lengths-fit-requires
-lengths-fit-requires c κs = search needs
 
 -- the lists do not fit
 returns : tie.Need-returns
@@ -82,8 +71,8 @@ pub refusal-spec : {M : Type 1} → statement M
 refusal-spec =
     tie.close
     (tie.spec
-    lists-fit-requires
-    lengths-fit-requires
+    (λ c κs. search needs)
+    (λ c κs. search needs)
     returns
     returns-2
     sound-requires

@@ -61,7 +61,6 @@ use Rattle.rules.proofs.Answer as R
 use Rattle.rules.proofs.Answer.Laws as R′
 use Rattle.rules.specs.declared.Record.{Record}
 use Rattle.rules.proofs.Record as F
-use Rattle.rules.proofs.Record.Laws as F′
 use Rattle.request.specs.declared.Served.{Served}
 use Rattle.request.proofs.Served as D
 use Rattle.request.proofs.Served.Laws as D′

@@ -17,11 +17,6 @@ use Rattle.choose.specs.State.{Measured, beats}
 use Rattle.choose.proofs.Turns.{ahead, kept, step, first, last}
 use Rattle.choose.proofs.choose_child.Statement.{statement}
 use Rattle.choose.proofs.choose_child.Tie as tie
-use Rattle.choose.proofs.choose_child.Reads as reads
-use Rattle.choose.proofs.choose_child.Lts as lts
-use Rattle.choose.proofs.keep.Reads as keep-reads
-use Rattle.choose.proofs.measured.Reads as measured-reads
-use Rattle.pool.proofs.count_of.Reads as count-of-reads
 
 -- the rectangles of the node's entries
 abbrev rectsOf : List ℤ → SlotNumber → List Rect
@@ -82,15 +77,6 @@ measured-requires-2 c κs =
     let z = length-rects es in
     (start .pre .0, (start .pre .1 .0, (omega (arith, c .loop-test .taken, c .before .loop .inv .size), start .pre .1 .1)))
 
-keep-requires : tie.Need-keep-requires Inv-loop μ-loop
-keep-requires c κs = search needs
-
-add-i : tie.Need-add-i Inv-loop μ-loop
-add-i c = search needs
-
-loop-less : tie.Need-loop-less Inv-loop μ-loop
-loop-less c = search needs
-
 loop-again : tie.Need-loop-again Inv-loop μ-loop
 loop-again c =
     let loop = c .before .before .before .loop in
@@ -119,8 +105,8 @@ choose-child-spec =
     measured-requires
     loop-holds
     measured-requires-2
-    keep-requires
-    add-i
-    loop-less
+    (λ c κs. search needs)
+    (λ c. search needs)
+    (λ c. search needs)
     loop-again
     returns)

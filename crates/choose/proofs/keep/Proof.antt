@@ -2,12 +2,6 @@ use mathlib.Core.Path.{sym, _∙_}
 use borrow.Author.Needs.{needs}
 use Rattle.choose.proofs.keep.Statement.{statement}
 use Rattle.choose.proofs.keep.Tie as tie
-use Rattle.choose.proofs.keep.Reads as reads
-use Rattle.choose.proofs.keep.Lts as lts
-use Rattle.choose.proofs.is_better.Reads as is-better-reads
-
-is-better-requires : tie.Need-is-better-requires
-is-better-requires c κs = search needs
 
 returns : tie.Need-returns
 returns c = rw (sym (c .before .is-better .ensures) ∙ c .if1 .taken)
@@ -16,4 +10,4 @@ returns-2 : tie.Need-returns-2
 returns-2 c = rw (sym (c .before .is-better .ensures) ∙ c .if1 .left)
 
 pub keep-spec : {M : Type 1} → statement M
-keep-spec = tie.close (tie.spec is-better-requires returns returns-2)
+keep-spec = tie.close (tie.spec (λ c κs. search needs) returns returns-2)

@@ -7,14 +7,6 @@ use borrow.Author.Needs.{needs}
 use Rattle.pool.proofs.Parts.{length-rects}
 use Rattle.choose.proofs.measured.Statement.{statement}
 use Rattle.choose.proofs.measured.Tie as tie
-use Rattle.choose.proofs.measured.Reads as reads
-use Rattle.choose.proofs.measured.Lts as lts
-use Rattle.geometry.proofs.area.Reads as area-reads
-use Rattle.geometry.proofs.enlargement.Reads as enlargement-reads
-use Rattle.pool.proofs.rect_of.Reads as rect-of-reads
-
-rect-of-requires : tie.Need-rect-of-requires
-rect-of-requires c κs = search needs
 
 enlargement-requires : tie.Need-enlargement-requires
 enlargement-requires c κs =
@@ -44,4 +36,4 @@ returns c =
     (refl, record { there = l; grows = rw e at (c .before .enlargement .ensures .0); size = rw e at (c .area .ensures .0) })
 
 pub measured-spec : {M : Type 1} → statement M
-measured-spec = tie.close (tie.spec rect-of-requires enlargement-requires area-requires returns)
+measured-spec = tie.close (tie.spec (λ c κs. search needs) enlargement-requires area-requires returns)

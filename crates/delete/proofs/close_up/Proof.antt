@@ -5,17 +5,12 @@ use native.Mathlib.Omega.{arith}
 use Rattle.delete.proofs.Closed.{Closing, closing-first, closing-next, closing-last}
 use Rattle.delete.proofs.close_up.Statement.{statement}
 use Rattle.delete.proofs.close_up.Tie as tie
-use Rattle.delete.proofs.close_up.Reads as reads
-use Rattle.delete.proofs.close_up.Lts as lts
 
 abbrev Inv-loop : tie.InvT-loop
 Inv-loop i n es₀ k₀ es k = Closing es₀ i n es k
 
 abbrev μ-loop : tie.MeasureT-loop
 μ-loop i n es₀ k₀ es k = n - k
-
-add-k : tie.Need-add-k Inv-loop μ-loop
-add-k c = omega arith
 
 loop-holds : tie.Need-loop-holds Inv-loop μ-loop
 loop-holds c = closing-first (c .args .entries) (c .args .i) (c .args .n) (search needs) (c .pre .1) (c .pre .0)
@@ -53,7 +48,7 @@ close-up-spec =
     (tie.spec
     Inv-loop
     μ-loop
-    add-k
+    (λ c. omega arith)
     loop-holds
     mul-e
     array-copy-out-e

@@ -9,23 +9,12 @@ use Rattle.delete.proofs.Nodes.{few-read}
 use Rattle.delete.proofs.Climb.{leaf-there, leaf-rewritable, Climbing, climbing-child, climbing-known, climbing-few, climbing-next, climbing-first, climbing-last}
 use Rattle.delete.proofs.condense.Statement.{statement}
 use Rattle.delete.proofs.condense.Tie as tie
-use Rattle.delete.proofs.condense.Reads as reads
-use Rattle.delete.proofs.condense.Lts as lts
-use Rattle.delete.proofs.none_aside.Reads as none-aside-reads
-use Rattle.delete.proofs.relieve.Reads as relieve-reads
-use Rattle.delete.proofs.take_out.Reads as take-out-reads
 
 abbrev Inv-loop : tie.InvT-loop
 Inv-loop pool₀ height nodes places asides₀ l₀ pool asides l = Climbing pool₀ height nodes places pool asides l
 
 abbrev μ-loop : tie.MeasureT-loop
 μ-loop pool₀ height nodes places asides₀ l₀ pool asides l = height - l
-
-array-copy-out-take-out : tie.Need-array-copy-out-take-out Inv-loop μ-loop
-array-copy-out-take-out c = omega arith
-
-array-read-take-out : tie.Need-array-read-take-out Inv-loop μ-loop
-array-read-take-out c = omega arith
 
 take-out-requires : tie.Need-take-out-requires Inv-loop μ-loop
 take-out-requires c κs =
@@ -37,9 +26,6 @@ take-out-requires c κs =
         leaf-there p (start .args .way) (start .args .height) (start .pre .1 .0),
       ),
     )
-
-none-aside-requires : tie.Need-none-aside-requires Inv-loop μ-loop
-none-aside-requires c κs = search needs
 
 loop-holds : tie.Need-loop-holds Inv-loop μ-loop
 loop-holds c =
@@ -114,10 +100,10 @@ condense-spec =
     (tie.spec
     Inv-loop
     μ-loop
-    array-copy-out-take-out
-    array-read-take-out
+    (λ c. omega arith)
+    (λ c. omega arith)
     take-out-requires
-    none-aside-requires
+    (λ c κs. search needs)
     loop-holds
     mul-relieve
     array-copy-out-relieve

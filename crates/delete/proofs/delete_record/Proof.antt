@@ -11,14 +11,6 @@ use Rattle.delete.proofs.Deleted.{asides-few, back-high, back-known, de
 use borrow.Author.Needs.{needs}
 use Rattle.delete.proofs.delete_record.Statement.{statement}
 use Rattle.delete.proofs.delete_record.Tie as tie
-use Rattle.delete.proofs.delete_record.Reads as reads
-use Rattle.delete.proofs.delete_record.Lts as lts
-use Rattle.pool.proofs.height_of.Reads as height-of-reads
-use Rattle.pool.proofs.put_records.Reads as put-records-reads
-use Rattle.pool.proofs.records_of.Reads as records-of-reads
-use Rattle.delete.proofs.condense.Reads as condense-reads
-use Rattle.delete.proofs.reinsert.Reads as reinsert-reads
-use Rattle.delete.proofs.shorten.Reads as shorten-reads
 
 asked : (s : tie.Start) → ToDelete (s .args .pool .now) (s .args .r) (s .args .way)
 asked s = record { fit = s .pre .0; whole = s .pre .1 .0; found = s .pre .1 .1 .1 .0; shows = s .pre .1 .1 .1 .1 }
@@ -26,12 +18,6 @@ asked s = record { fit = s .pre .0; whole = s .pre .1 .0; found = s .pre .1 .1 .
 off : (s : tie.Start) (n : ℕ) → n ≡ read (s .args .pool .now) .records → (h : ℕ) → h ≡ read (s .args .pool .now) .height → (w : List ℤ)
     → read w ≡ putRecords (read (s .args .pool .now)) (n - 1) → CountedOff (s .args .pool .now) h w
 off s = counted-off (s .args .pool .now)
-
-records-of-requires : tie.Need-records-of-requires
-records-of-requires c κs = search needs
-
-height-of-requires : tie.Need-height-of-requires
-height-of-requires c κs = search needs
 
 sub-put-records : tie.Need-sub-put-records
 sub-put-records c =
@@ -71,15 +57,6 @@ reinsert-requires c κs =
       ),
     )
 
-enum-known-after : tie.Need-enum-known-after
-enum-known-after c = search needs
-
-enum-told : tie.Need-enum-told
-enum-told c = search needs
-
-same-length : tie.Need-same-length
-same-length c = search needs
-
 returns : tie.Need-returns
 returns c =
     let at-condense = c .before .before .before .before .before .before in
@@ -118,9 +95,6 @@ shorten-requires c κs =
       ),
     )
 
-same-length-2 : tie.Need-same-length-2
-same-length-2 c = search needs
-
 returns-2 : tie.Need-returns-2
 returns-2 c =
     let at-reinsert = c .before .before .before .before .before .before .before in
@@ -141,16 +115,16 @@ pub delete-record-spec : {M : Type 1} → statement M
 delete-record-spec =
     tie.close
     (tie.spec
-    records-of-requires
-    height-of-requires
+    (λ c κs. search needs)
+    (λ c κs. search needs)
     sub-put-records
     put-records-requires
     condense-requires
     reinsert-requires
-    enum-known-after
-    enum-told
-    same-length
+    (λ c. search needs)
+    (λ c. search needs)
+    (λ c. search needs)
     returns
     shorten-requires
-    same-length-2
+    (λ c. search needs)
     returns-2)

@@ -4,9 +4,6 @@ use native.Mathlib.Omega.{arith}
 use Rattle.delete.proofs.Backs.{Returning, next-upright, next-level, next-fits, returning-next, returning-refused, returning-last, returning-first}
 use Rattle.delete.proofs.reinsert.Statement.{statement}
 use Rattle.delete.proofs.reinsert.Tie as tie
-use Rattle.delete.proofs.reinsert.Reads as reads
-use Rattle.delete.proofs.reinsert.Lts as lts
-use Rattle.insert.proofs.insert_at.Reads as insert-at-reads
 
 abbrev Inv-loop : tie.InvT-loop
 Inv-loop pool₀ entries levels n free₀ left₀ pool free left = Returning pool₀ entries levels n pool free left
@@ -40,15 +37,6 @@ insert-at-requires : tie.Need-insert-at-requires Inv-loop μ-loop
 insert-at-requires c κs = let t = c .before .before .before .loop .inv in let h = c .before .before .loop-test .taken in
     (t .fit, (next-upright t h, ((next-level t h, omega (arith, t .high, t .few, h)), (next-fits t h _, t .known))))
 
-enum-known-after : tie.Need-enum-known-after Inv-loop μ-loop
-enum-known-after c = search needs
-
-enum-told : tie.Need-enum-told Inv-loop μ-loop
-enum-told c = search needs
-
-same-length : tie.Need-same-length Inv-loop μ-loop
-same-length c = search needs
-
 returns : tie.Need-returns Inv-loop μ-loop
 returns c =
     let insert-at = c .before .before .before .insert-at in
@@ -75,9 +63,6 @@ loop-again c =
     let h = c .before .before .before .before .before .before .before .loop-test .taken in
     returning-next t h _ (insert-at .last .0) (search needs) (insert-at .result) (after .given .0 .0) (after .given .1) (insert-at .ensures)
 
-same-length-2 : tie.Need-same-length-2 Inv-loop μ-loop
-same-length-2 c = search needs
-
 returns-2 : tie.Need-returns-2 Inv-loop μ-loop
 returns-2 c = returning-last (c .before .loop .inv) (c .loop-test .left)
 
@@ -94,12 +79,12 @@ reinsert-spec =
     mul-insert-at-2
     array-copy-out-insert-at
     insert-at-requires
-    enum-known-after
-    enum-told
-    same-length
+    (λ c. search needs)
+    (λ c. search needs)
+    (λ c. search needs)
     returns
     sub-left
     loop-less
     loop-again
-    same-length-2
+    (λ c. search needs)
     returns-2)

@@ -10,15 +10,6 @@ use Rattle.delete.proofs.Relieved.{child-leads, out-slot, has-gone, has
 use borrow.Author.Needs.{needs}
 use Rattle.delete.proofs.relieve.Statement.{statement}
 use Rattle.delete.proofs.relieve.Tie as tie
-use Rattle.delete.proofs.relieve.Reads as reads
-use Rattle.delete.proofs.relieve.Lts as lts
-use Rattle.pool.proofs.count_of.Reads as count-of-reads
-use Rattle.pool.proofs.level_of.Reads as level-of-reads
-use Rattle.delete.proofs.set_aside.Reads as set-aside-reads
-use Rattle.delete.proofs.take_out.Reads as take-out-reads
-use Rattle.nodes.proofs.tighten.Reads as tighten-reads
-use Rattle.delete.proofs.with_free.Reads as with-free-reads
-use Rattle.delete.proofs.zero_slot.Reads as zero-slot-reads
 
 count-of-requires : tie.Need-count-of-requires
 count-of-requires c κs = in-pool (c .before .pre .0) (c .before .pre .1 .0 .slot)
@@ -65,9 +56,6 @@ with-free-requires c κs =
       free-few (read (start .args .pool .now)) (start .args .asides .free) (start .pre .1 .1 .0) (few-read (start .pre .0)),
     )
 
-same-length : tie.Need-same-length
-same-length c = search needs
-
 returns : tie.Need-returns
 returns c =
     let at-set-aside = c .before .before .before .before .before .before .before in
@@ -84,9 +72,6 @@ returns c =
 
 tighten-requires : tie.Need-tighten-requires
 tighten-requires c κs = let s = c .before .before .before .before in (s .pre .0, child-leads (s .pre .1 .0))
-
-same-length-2 : tie.Need-same-length-2
-same-length-2 c = search needs
 
 returns-2 : tie.Need-returns-2
 returns-2 c =
@@ -108,8 +93,8 @@ relieve-spec =
     take-out-requires
     zero-slot-requires
     with-free-requires
-    same-length
+    (λ c. search needs)
     returns
     tighten-requires
-    same-length-2
+    (λ c. search needs)
     returns-2)

@@ -10,10 +10,6 @@ use Rattle.delete.specs.Aside.{asidesOf}
 use Rattle.delete.proofs.Listed.{Setting, setting-first, setting-next, setting-last, asides-are}
 use Rattle.delete.proofs.set_aside.Statement.{statement}
 use Rattle.delete.proofs.set_aside.Tie as tie
-use Rattle.delete.proofs.set_aside.Reads as reads
-use Rattle.delete.proofs.set_aside.Lts as lts
-use Rattle.pool.proofs.count_of.Reads as count-of-reads
-use Rattle.pool.proofs.entry_of.Reads as entry-of-reads
 
 abbrev Inv-loop : tie.InvT-loop
 Inv-loop pool t level entries₀ levels₀ count free n k₀ entries levels k =

@@ -14,24 +14,6 @@ use Rattle.delete.proofs.Shorts.{root-slot, root-inner, only-slot, shor
 use borrow.Author.Needs.{needs}
 use Rattle.delete.proofs.shorten.Statement.{statement}
 use Rattle.delete.proofs.shorten.Tie as tie
-use Rattle.delete.proofs.shorten.Reads as reads
-use Rattle.delete.proofs.shorten.Lts as lts
-use Rattle.pool.proofs.child_of.Reads as child-of-reads
-use Rattle.pool.proofs.count_of.Reads as count-of-reads
-use Rattle.pool.proofs.height_of.Reads as height-of-reads
-use Rattle.pool.proofs.put_root.Reads as put-root-reads
-use Rattle.pool.proofs.root_of.Reads as root-of-reads
-use Rattle.delete.proofs.zero_slot.Reads as zero-slot-reads
-use Rattle.free_slots.proofs.more_slot.Reads as more-slot-reads
-
-root-of-requires : tie.Need-root-of-requires
-root-of-requires c κs = search needs
-
-height-of-requires : tie.Need-height-of-requires
-height-of-requires c κs = search needs
-
-same-length : tie.Need-same-length
-same-length c = search needs
 
 returns : tie.Need-returns
 returns c =
@@ -115,9 +97,6 @@ more-slot-requires c κs =
     let p = read (start .args .pool .now) in
     free-few p (start .args .free) (start .pre .1 .1 .1) (few-read (start .pre .0))
 
-same-length-2 : tie.Need-same-length-2
-same-length-2 c = search needs
-
 returns-2 : tie.Need-returns-2
 returns-2 c =
     let at-if2 = c .before .before .before .before .before .before .before .before .before in
@@ -138,9 +117,6 @@ returns-2 c =
     (height-of .result) (height-of .ensures) (read (zero-slot .last .0)) (zero-slot .ensures .0) (put-root .last .0) (put-root .ensures .0)
     (put-root .ensures .1) (c .more-slot .result) (c .more-slot .ensures)
 
-same-length-3 : tie.Need-same-length-3
-same-length-3 c = search needs
-
 returns-3 : tie.Need-returns-3
 returns-3 c =
     let start = c .before .before .before .before .before .before .before .before in
@@ -157,9 +133,9 @@ pub shorten-spec : {M : Type 1} → statement M
 shorten-spec =
     tie.close
     (tie.spec
-    root-of-requires
-    height-of-requires
-    same-length
+    (λ c κs. search needs)
+    (λ c κs. search needs)
+    (λ c. search needs)
     returns
     count-of-requires
     child-of-requires
@@ -167,7 +143,7 @@ shorten-spec =
     sub-put-root
     put-root-requires
     more-slot-requires
-    same-length-2
+    (λ c. search needs)
     returns-2
-    same-length-3
+    (λ c. search needs)
     returns-3)

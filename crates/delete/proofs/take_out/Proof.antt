@@ -6,13 +6,6 @@ use Rattle.delete.proofs.Nodes.{in-pool, rest-small, rest-kind, taken-o
 use borrow.Author.Needs.{needs}
 use Rattle.delete.proofs.take_out.Statement.{statement}
 use Rattle.delete.proofs.take_out.Tie as tie
-use Rattle.delete.proofs.take_out.Reads as reads
-use Rattle.delete.proofs.take_out.Lts as lts
-use Rattle.pool.proofs.count_of.Reads as count-of-reads
-use Rattle.pool.proofs.entries_of.Reads as entries-of-reads
-use Rattle.pool.proofs.level_of.Reads as level-of-reads
-use Rattle.pool.proofs.put_node.Reads as put-node-reads
-use Rattle.delete.proofs.close_up.Reads as close-up-reads
 
 level-of-requires : tie.Need-level-of-requires
 level-of-requires c κs = in-pool (c .before .pre .0) (c .before .pre .1 .0 .slot)
@@ -69,9 +62,6 @@ put-node-requires c κs =
       ),
     )
 
-same-length : tie.Need-same-length
-same-length c = search needs
-
 returns : tie.Need-returns
 returns c =
     let start = c .before .before .before .before .before .before .before .before .before .before in
@@ -98,5 +88,5 @@ take-out-spec =
     close-up-requires
     sub-put-node
     put-node-requires
-    same-length
+    (λ c. search needs)
     returns)

@@ -4,11 +4,6 @@ use Rattle.rules.specs.Layout.{read}
 use Rattle.find_leaf.proofs.Turns.{from-root}
 use Rattle.find_leaf.proofs.find_leaf.Statement.{statement}
 use Rattle.find_leaf.proofs.find_leaf.Tie as tie
-use Rattle.find_leaf.proofs.find_leaf.Reads as reads
-use Rattle.find_leaf.proofs.find_leaf.Lts as lts
-use Rattle.find_leaf.proofs.find_in.Reads as find-in-reads
-use Rattle.pool.proofs.height_of.Reads as height-of-reads
-use Rattle.pool.proofs.root_of.Reads as root-of-reads
 
 height-of-requires : tie.Need-height-of-requires
 height-of-requires c κs = c .pre .0

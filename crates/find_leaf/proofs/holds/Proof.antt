@@ -3,9 +3,6 @@ use Rattle.rules.specs.Layout.{read}
 use Rattle.find_leaf.proofs.Held.{shows-held, low-enough}
 use Rattle.find_leaf.proofs.holds.Statement.{statement}
 use Rattle.find_leaf.proofs.holds.Tie as tie
-use Rattle.find_leaf.proofs.holds.Reads as reads
-use Rattle.find_leaf.proofs.holds.Lts as lts
-use Rattle.find_leaf.proofs.find_leaf.Reads as find-leaf-reads
 
 find-leaf-requires : tie.Need-find-leaf-requires
 find-leaf-requires c κs = (c .pre .0, low-enough (c .args .pool .now) (c .pre .0) (c .pre .1))

@@ -2,8 +2,6 @@ use mathlib.Core.Path.{refl}
 use Rattle.find_leaf.proofs.Places.{all-zeros}
 use Rattle.find_leaf.proofs.nowhere.Statement.{statement}
 use Rattle.find_leaf.proofs.nowhere.Tie as tie
-use Rattle.find_leaf.proofs.nowhere.Reads as reads
-use Rattle.find_leaf.proofs.nowhere.Lts as lts
 
 returns : tie.Need-returns
 returns c = (refl, all-zeros)

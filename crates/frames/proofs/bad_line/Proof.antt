@@ -13,33 +13,6 @@ use borrow.Author.Needs.{needs}
 use Rattle.frames.proofs.bad_line.Statement.{statement}
 use Rattle.frames.proofs.bad_line.Tie as tie
 
-slice-aggregate-copy : tie.Need-slice-aggregate-copy
-slice-aggregate-copy c = search needs
-
-sub-copy : tie.Need-sub-copy
-sub-copy c = search needs
-
-part-copy-start : tie.Need-part-copy-start
-part-copy-start c = search needs
-
-part-copy-end : tie.Need-part-copy-end
-part-copy-end c = search needs
-
-copy-requires : tie.Need-copy-requires
-copy-requires c κs = search needs
-
-add-put-field : tie.Need-add-put-field
-add-put-field c = search needs
-
-add-put-field-2 : tie.Need-add-put-field-2
-add-put-field-2 c = search needs
-
-put-field-requires : tie.Need-put-field-requires
-put-field-requires c κs = search needs
-
-same-length : tie.Need-same-length
-same-length c = search needs
-
 returns : tie.Need-returns
 returns c =
     let start = c .before .before .before .before .before .before .before .before .before .before in
@@ -61,13 +34,13 @@ pub bad-line-spec : {M : Type 1} → statement M
 bad-line-spec =
     tie.close
     (tie.spec
-    slice-aggregate-copy
-    sub-copy
-    part-copy-start
-    part-copy-end
-    copy-requires
-    add-put-field
-    add-put-field-2
-    put-field-requires
-    same-length
+    (λ c. search needs)
+    (λ c. search needs)
+    (λ c. search needs)
+    (λ c. search needs)
+    (λ c κs. search needs)
+    (λ c. search needs)
+    (λ c. search needs)
+    (λ c κs. search needs)
+    (λ c. search needs)
     returns)

@@ -6,15 +6,6 @@ use borrow.Author.Needs.{needs}
 use Rattle.frames.proofs.change_in.Statement.{statement}
 use Rattle.frames.proofs.change_in.Tie as tie
 
-word-at-requires : tie.Need-word-at-requires
-word-at-requires c κs = search needs
-
-rect-at-requires : tie.Need-rect-at-requires
-rect-at-requires c κs = search needs
-
-no-rect-requires : tie.Need-no-rect-requires
-no-rect-requires c κs = search needs
-
 returns : tie.Need-returns
 returns c =
     let start = c .before .before .before .before in
@@ -23,4 +14,4 @@ returns c =
     (word-kept (word-at .ok) ∙ word-at .ensures) (c .before .rect-at .ensures) (c .no-rect .ensures)
 
 pub change-in-spec : {M : Type 1} → statement M
-change-in-spec = tie.close (tie.spec word-at-requires rect-at-requires no-rect-requires returns)
+change-in-spec = tie.close (tie.spec (λ c κs. search needs) (λ c κs. search needs) (λ c κs. search needs) returns)

@@ -24,9 +24,6 @@ Inv-loop buffer₀ at end rest i₀ buffer i = Turn at end rest buffer₀ buffer
 abbrev μ-loop : tie.MeasureT-loop
 μ-loop buffer₀ at end rest i₀ buffer i = rest - i
 
-sub-rest : tie.Need-sub-rest Inv-loop μ-loop
-sub-rest c = omega arith
-
 loop-holds : tie.Need-loop-holds Inv-loop μ-loop
 loop-holds c =
     record {
@@ -37,21 +34,6 @@ loop-holds c =
       moved = λ k h. absurd (omega arith);
       same = λ k h. refl;
     }
-
-add-buffer : tie.Need-add-buffer Inv-loop μ-loop
-add-buffer c = omega arith
-
-slice-read-buffer : tie.Need-slice-read-buffer Inv-loop μ-loop
-slice-read-buffer c = omega arith
-
-slice-write-buffer : tie.Need-slice-write-buffer Inv-loop μ-loop
-slice-write-buffer c = omega arith
-
-add-i : tie.Need-add-i Inv-loop μ-loop
-add-i c = omega arith
-
-loop-less : tie.Need-loop-less Inv-loop μ-loop
-loop-less c = omega arith
 
 loop-again : tie.Need-loop-again Inv-loop μ-loop
 loop-again c =
@@ -92,13 +74,13 @@ keep-rest-spec =
     (tie.spec
     Inv-loop
     μ-loop
-    sub-rest
+    (λ c. omega arith)
     loop-holds
-    add-buffer
-    slice-read-buffer
-    slice-write-buffer
-    add-i
-    loop-less
+    (λ c. omega arith)
+    (λ c. omega arith)
+    (λ c. omega arith)
+    (λ c. omega arith)
+    (λ c. omega arith)
     loop-again
     same-length
     returns)

@@ -7,9 +7,6 @@ use Rattle.frames.proofs.listed_of.Tie as tie
 returns : tie.Need-returns
 returns c = told-none (c .before .before .args .answer) (c .if1 .taken)
 
-cast-result : tie.Need-cast-result
-cast-result c = search needs
-
 returns-2 : tie.Need-returns-2
 returns-2 c =
     let start = c .before .before .before .before .before in
@@ -23,4 +20,4 @@ returns-3 c =
     told-most (start .args .answer) (if1 .left) (c .if2 .left)
 
 pub listed-of-spec : {M : Type 1} → statement M
-listed-of-spec = tie.close (tie.spec returns cast-result returns-2 returns-3)
+listed-of-spec = tie.close (tie.spec returns (λ c. search needs) returns-2 returns-3)

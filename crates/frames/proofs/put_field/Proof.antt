@@ -21,9 +21,6 @@ add-result c =
     let put-number = c .before .before .put-number in
     omega (arith, shown-length (start .args .n), put-number .ensures .place, put-number .kept .0)
 
-same-length : tie.Need-same-length
-same-length c = search needs
-
 returns : tie.Need-returns
 returns c =
     let start = c .before .before .before .before .before in
@@ -34,4 +31,4 @@ returns c =
 
 pub put-field-spec : {M : Type 1} → statement M
 put-field-spec =
-    tie.close (tie.spec put-number-requires slice-write-out add-result same-length returns)
+    tie.close (tie.spec put-number-requires slice-write-out add-result (λ c. search needs) returns)

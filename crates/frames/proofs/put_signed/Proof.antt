@@ -13,18 +13,6 @@ use borrow.Author.Needs.{needs}
 use Rattle.frames.proofs.put_signed.Statement.{statement}
 use Rattle.frames.proofs.put_signed.Tie as tie
 
-lifted-requires : tie.Need-lifted-requires
-lifted-requires c κs = search needs
-
-slice-write-out : tie.Need-slice-write-out
-slice-write-out c = search needs
-
-add-put-field : tie.Need-add-put-field
-add-put-field c = search needs
-
-sub-put-field : tie.Need-sub-put-field
-sub-put-field c = search needs
-
 put-field-requires : tie.Need-put-field-requires
 put-field-requires c κs = simp length-set (omega arith)
 
@@ -47,12 +35,6 @@ returns c =
       omega arith,
     )
 
-put-field-requires-2 : tie.Need-put-field-requires-2
-put-field-requires-2 c κs = search needs
-
-same-length-2 : tie.Need-same-length-2
-same-length-2 c = search needs
-
 returns-2 : tie.Need-returns-2
 returns-2 c =
     let start = c .before .before .before .before .before .before .before in
@@ -69,13 +51,13 @@ pub put-signed-spec : {M : Type 1} → statement M
 put-signed-spec =
     tie.close
     (tie.spec
-    lifted-requires
-    slice-write-out
-    add-put-field
-    sub-put-field
+    (λ c κs. search needs)
+    (λ c. search needs)
+    (λ c. search needs)
+    (λ c. search needs)
     put-field-requires
     same-length
     returns
-    put-field-requires-2
-    same-length-2
+    (λ c κs. search needs)
+    (λ c. search needs)
     returns-2)

@@ -16,12 +16,6 @@ use Rattle.frames.proofs.read_frame.Tie as tie
 returns : tie.Need-returns
 returns c = sym (waits-few (c .before .before .args .bytes .now) (c .if1 .taken))
 
-pair-at-requires : tie.Need-pair-at-requires
-pair-at-requires c κs = search needs
-
-is-length-requires : tie.Need-is-length-requires
-is-length-requires c κs = search needs
-
 returns-2 : tie.Need-returns-2
 returns-2 c =
     let start = c .before .before .before .before .before in
@@ -39,12 +33,6 @@ returns-3 c =
     sym (waits-kind (start .args .bytes .now) (if1 .left) (c .if3 .taken)
     (ap someLength (sym (pair-at .ensures .0)) ∙ sym (is-length .ensures) ∙ not-false _ (c .before .if2 .left)))
 
-pair-at-requires-2 : tie.Need-pair-at-requires-2
-pair-at-requires-2 c κs = search needs
-
-length-of-requires : tie.Need-length-of-requires
-length-of-requires c κs = search needs
-
 returns-4 : tie.Need-returns-4
 returns-4 c =
     let start = c .before .before .before .before .before .before .before .before .before in
@@ -56,9 +44,6 @@ returns-4 c =
     sym (bad-kind (start .args .bytes .now) (if3 .left)
     (ap someLength (sym (pair-at .ensures .0)) ∙ sym (is-length .ensures) ∙ not-false _ (if2 .left))
     (λ e. c .if4 .taken (c .before .length-of .ensures .0 ∙ ap kindLength (pair-at2 .ensures .0) ∙ e ∙ sym (pair-at .ensures .0))))
-
-add-size : tie.Need-add-size
-add-size c = search needs
 
 returns-5 : tie.Need-returns-5
 returns-5 c =
@@ -107,14 +92,14 @@ read-frame-spec =
     tie.close
     (tie.spec
     returns
-    pair-at-requires
-    is-length-requires
+    (λ c κs. search needs)
+    (λ c κs. search needs)
     returns-2
     returns-3
-    pair-at-requires-2
-    length-of-requires
+    (λ c κs. search needs)
+    (λ c κs. search needs)
     returns-4
-    add-size
+    (λ c. search needs)
     returns-5
     request-in-requires
     returns-6)

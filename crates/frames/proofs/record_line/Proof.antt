@@ -10,25 +10,13 @@ use borrow.Author.Needs.{needs}
 use Rattle.frames.proofs.record_line.Statement.{statement}
 use Rattle.frames.proofs.record_line.Tie as tie
 
-put-signed-requires : tie.Need-put-signed-requires
-put-signed-requires c κs = search needs
-
-put-signed-requires-2 : tie.Need-put-signed-requires-2
-put-signed-requires-2 c κs = search needs
-
-put-signed-requires-3 : tie.Need-put-signed-requires-3
-put-signed-requires-3 c κs = search needs
-
-put-signed-requires-4 : tie.Need-put-signed-requires-4
-put-signed-requires-4 c κs = search needs
-
 put-signed-requires-5 : tie.Need-put-signed-requires-5
 put-signed-requires-5 c κs =
-    let at-put-signed3 = c .before .before .before .before .before .before .before .before .before in
-    let start = at-put-signed3 .before .before .before .before .before .before .before .before .before .before .before .before .before .before .before .before in
-    let put-signed = at-put-signed3 .before .before .before .before .before .before .before .before .before .before .put-signed in
-    let put-signed2 = at-put-signed3 .before .before .before .before .before .put-signed2 in
-    let put-signed3 = at-put-signed3 .put-signed3 in
+    let at-put-signed2 = c .before .before .before .before .before .before .before .before .before .before .before .before .before .before in
+    let start = at-put-signed2 .before .before .before .before .before .before .before .before .before .before .before in
+    let put-signed = at-put-signed2 .before .before .before .before .before .put-signed in
+    let put-signed2 = at-put-signed2 .put-signed2 in
+    let put-signed3 = c .before .before .before .before .before .before .before .before .before .put-signed3 in
     let put-signed4 = c .before .before .before .before .put-signed4 in
     omega (
       arith,
@@ -42,9 +30,6 @@ put-signed-requires-5 c κs =
       put-signed3 .kept .0,
       put-signed4 .kept .0,
     )
-
-same-length : tie.Need-same-length
-same-length c = search needs
 
 returns : tie.Need-returns
 returns c =
@@ -76,10 +61,10 @@ pub record-line-spec : {M : Type 1} → statement M
 record-line-spec =
     tie.close
     (tie.spec
-    put-signed-requires
-    put-signed-requires-2
-    put-signed-requires-3
-    put-signed-requires-4
+    (λ c κs. search needs)
+    (λ c κs. search needs)
+    (λ c κs. search needs)
+    (λ c κs. search needs)
     put-signed-requires-5
-    same-length
+    (λ c. search needs)
     returns)

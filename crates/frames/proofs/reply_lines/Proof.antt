@@ -27,12 +27,6 @@ Inv-loop out₀ at before found listed next₀ i₀ out next i = Turn found list
 abbrev μ-loop : tie.MeasureT-loop
 μ-loop out₀ at before found listed next₀ i₀ out next i = listed - i
 
-listed-of-requires : tie.Need-listed-of-requires Inv-loop μ-loop
-listed-of-requires c κs = search needs
-
-answer-line-requires : tie.Need-answer-line-requires Inv-loop μ-loop
-answer-line-requires c κs = search needs
-
 loop-holds : tie.Need-loop-holds Inv-loop μ-loop
 loop-holds c =
     let start = c .before .before .before .before .before .before in
@@ -45,21 +39,6 @@ loop-holds c =
       short = omega arith;
       lines = lines-none (start .args .t5);
     }
-
-mul-record-line : tie.Need-mul-record-line Inv-loop μ-loop
-mul-record-line c = omega arith
-
-array-copy-out-record-line : tie.Need-array-copy-out-record-line Inv-loop μ-loop
-array-copy-out-record-line c = omega arith
-
-record-line-requires : tie.Need-record-line-requires Inv-loop μ-loop
-record-line-requires c κs = omega arith
-
-add-i : tie.Need-add-i Inv-loop μ-loop
-add-i c = omega arith
-
-loop-less : tie.Need-loop-less Inv-loop μ-loop
-loop-less c = omega arith
 
 loop-again : tie.Need-loop-again Inv-loop μ-loop
 loop-again c =
@@ -100,14 +79,14 @@ reply-lines-spec =
     (tie.spec
     Inv-loop
     μ-loop
-    listed-of-requires
-    answer-line-requires
+    (λ c κs. search needs)
+    (λ c κs. search needs)
     loop-holds
-    mul-record-line
-    array-copy-out-record-line
-    record-line-requires
-    add-i
-    loop-less
+    (λ c. omega arith)
+    (λ c. omega arith)
+    (λ c κs. omega arith)
+    (λ c. omega arith)
+    (λ c. omega arith)
     loop-again
     same-length
     returns)

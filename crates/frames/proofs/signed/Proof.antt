@@ -8,12 +8,6 @@ use borrow.Author.Needs.{needs}
 use Rattle.frames.proofs.signed.Statement.{statement}
 use Rattle.frames.proofs.signed.Tie as tie
 
-cast-result : tie.Need-cast-result
-cast-result c = search needs
-
-cast-result-2 : tie.Need-cast-result-2
-cast-result-2 c = search needs
-
 upper : (c : tie.Else1) → Upper (c .before .args .n)
 upper c = record { low = omega arith; high = omega arith }
 
@@ -31,4 +25,4 @@ returns-2 c = rw (less-whole (upper c), toZ-ofZ (fits-wide (upper c)), toZ-ofZ (
 
 pub signed-spec : {M : Type 1} → statement M
 signed-spec =
-    tie.close (tie.spec cast-result cast-result-2 sub-result cast-result-3 returns returns-2)
+    tie.close (tie.spec (λ c. search needs) (λ c. search needs) sub-result cast-result-3 returns returns-2)

@@ -6,15 +6,6 @@ use borrow.Author.Needs.{needs}
 use Rattle.frames.proofs.update_in.Statement.{statement}
 use Rattle.frames.proofs.update_in.Tie as tie
 
-word-at-requires : tie.Need-word-at-requires
-word-at-requires c κs = search needs
-
-rect-at-requires : tie.Need-rect-at-requires
-rect-at-requires c κs = search needs
-
-rect-at-requires-2 : tie.Need-rect-at-requires-2
-rect-at-requires-2 c κs = search needs
-
 returns : tie.Need-returns
 returns c =
     let start = c .before .before .before .before in
@@ -22,4 +13,4 @@ returns c =
     update-made (start .args .bytes .now) (word-kept (word-at .ok) ∙ word-at .ensures) (c .before .rect-at .ensures) (c .rect-at2 .ensures)
 
 pub update-in-spec : {M : Type 1} → statement M
-update-in-spec = tie.close (tie.spec word-at-requires rect-at-requires rect-at-requires-2 returns)
+update-in-spec = tie.close (tie.spec (λ c κs. search needs) (λ c κs. search needs) (λ c κs. search needs) returns)

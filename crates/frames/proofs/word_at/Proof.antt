@@ -6,12 +6,6 @@ use borrow.Author.Needs.{needs}
 use Rattle.frames.proofs.word_at.Statement.{statement}
 use Rattle.frames.proofs.word_at.Tie as tie
 
-unsigned-at-requires : tie.Need-unsigned-at-requires
-unsigned-at-requires c κs = search needs
-
-signed-requires : tie.Need-signed-requires
-signed-requires c κs = search needs
-
 returns : tie.Need-returns
 returns c =
     let start = c .before .before .before in
@@ -21,4 +15,4 @@ returns c =
     ∙ sym (word-is (start .args .bytes .now) (start .args .at))
 
 pub word-at-spec : {M : Type 1} → statement M
-word-at-spec = tie.close (tie.spec unsigned-at-requires signed-requires returns)
+word-at-spec = tie.close (tie.spec (λ c κs. search needs) (λ c κs. search needs) returns)

@@ -12,10 +12,6 @@ use Rattle.pool.proofs.Written.{read-slots}
 use Rattle.free_slots.proofs.Frees.{one-most, countFrom, count-next, count-end, count-all}
 use Rattle.free_slots.proofs.free_count.Statement.{statement}
 use Rattle.free_slots.proofs.free_count.Tie as tie
-use Rattle.free_slots.proofs.free_count.Reads as reads
-use Rattle.free_slots.proofs.free_count.Lts as lts
-use Rattle.pool.proofs.slot_count.Reads as slot-count-reads
-use Rattle.free_slots.proofs.one_if_free.Reads as one-if-free-reads
 
 -- the free slots counted so far, with those from slot `at` on, are all
 record Turn (p : Pool) (free at : ℕ) : Type 0 where
@@ -28,9 +24,6 @@ Inv-loop pool n free₀ at₀ free at = Turn (read pool) free at
 
 abbrev μ-loop : tie.MeasureT-loop
 μ-loop pool n free₀ at₀ free at = n + 1 - at
-
-slot-count-requires : tie.Need-slot-count-requires Inv-loop μ-loop
-slot-count-requires c κs = search needs
 
 loop-holds : tie.Need-loop-holds Inv-loop μ-loop
 loop-holds c = record { low = omega arith; small = omega arith; rest = omega (arith, count-all (read (c .before .args .pool .now))) }
@@ -62,9 +55,6 @@ add-at c =
     let slot-count = c .before .before .before .slot-count in
     omega (arith, c .before .loop-test .taken, slot-count .ensures, few-slots (start .args .pool .now) (start .pre))
 
-loop-less : tie.Need-loop-less Inv-loop μ-loop
-loop-less c = search needs
-
 loop-again : tie.Need-loop-again Inv-loop μ-loop
 loop-again c =
     let slot-count = c .before .before .before .slot-count in
@@ -93,11 +83,11 @@ free-count-spec =
     (tie.spec
     Inv-loop
     μ-loop
-    slot-count-requires
+    (λ c κs. search needs)
     loop-holds
     one-if-free-requires
     add-free
     add-at
-    loop-less
+    (λ c. search needs)
     loop-again
     returns)

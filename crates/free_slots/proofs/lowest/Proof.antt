@@ -5,12 +5,6 @@ use Rattle.free_slots.proofs.LowestSlot.{lowest-from}
 use borrow.Author.Needs.{needs}
 use Rattle.free_slots.proofs.lowest.Statement.{statement}
 use Rattle.free_slots.proofs.lowest.Tie as tie
-use Rattle.free_slots.proofs.lowest.Reads as reads
-use Rattle.free_slots.proofs.lowest.Lts as lts
-use Rattle.free_slots.proofs.lowest_free_from.Reads as lowest-free-from-reads
-
-lowest-free-from-requires : tie.Need-lowest-free-from-requires
-lowest-free-from-requires c κs = search needs
 
 returns : tie.Need-returns
 returns c =
@@ -19,4 +13,4 @@ returns c =
     ∙ lowest-from (read (start .args .pool .now)) (start .args .free .low .0) (start .pre .1 .first) (start .pre .1 .below)
 
 pub lowest-spec : {M : Type 1} → statement M
-lowest-spec = tie.close (tie.spec lowest-free-from-requires returns)
+lowest-spec = tie.close (tie.spec (λ c κs. search needs) returns)

@@ -5,15 +5,9 @@ use Rattle.free_slots.proofs.Frees.{lowest-all}
 use borrow.Author.Needs.{needs}
 use Rattle.free_slots.proofs.lowest_free.Statement.{statement}
 use Rattle.free_slots.proofs.lowest_free.Tie as tie
-use Rattle.free_slots.proofs.lowest_free.Reads as reads
-use Rattle.free_slots.proofs.lowest_free.Lts as lts
-use Rattle.free_slots.proofs.lowest_free_from.Reads as lowest-free-from-reads
-
-lowest-free-from-requires : tie.Need-lowest-free-from-requires
-lowest-free-from-requires c κs = search needs
 
 returns : tie.Need-returns
 returns c = c .lowest-free-from .ensures ∙ lowest-all (read (c .before .args .pool .now))
 
 pub lowest-free-spec : {M : Type 1} → statement M
-lowest-free-spec = tie.close (tie.spec lowest-free-from-requires returns)
+lowest-free-spec = tie.close (tie.spec (λ c κs. search needs) returns)

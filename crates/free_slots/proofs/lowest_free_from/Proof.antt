@@ -12,10 +12,6 @@ use Rattle.pool.proofs.Written.{read-slots}
 use Rattle.free_slots.proofs.Frees.{lowestFrom, lowest-here, lowest-next, lowest-end}
 use Rattle.free_slots.proofs.lowest_free_from.Statement.{statement}
 use Rattle.free_slots.proofs.lowest_free_from.Tie as tie
-use Rattle.free_slots.proofs.lowest_free_from.Reads as reads
-use Rattle.free_slots.proofs.lowest_free_from.Lts as lts
-use Rattle.pool.proofs.level_of.Reads as level-of-reads
-use Rattle.pool.proofs.slot_count.Reads as slot-count-reads
 
 -- the slots from s on give what those from the first on give
 record Turn (p : Pool) (from s : ℕ) : Type 0 where
@@ -27,9 +23,6 @@ Inv-loop pool n s₀ s = Turn (read pool) s₀ s
 
 abbrev μ-loop : tie.MeasureT-loop
 μ-loop pool n s₀ s = n + 1 - s
-
-slot-count-requires : tie.Need-slot-count-requires Inv-loop μ-loop
-slot-count-requires c κs = search needs
 
 loop-holds : tie.Need-loop-holds Inv-loop μ-loop
 loop-holds c = record { low = c .before .pre .1; rest = refl }
@@ -57,9 +50,6 @@ add-s c =
     let loop-test = c .before .before .loop-test in
     omega (arith, loop-test .taken, slot-count .ensures, few-slots (start .args .pool .now) (start .pre .0))
 
-loop-less : tie.Need-loop-less Inv-loop μ-loop
-loop-less c = search needs
-
 loop-again : tie.Need-loop-again Inv-loop μ-loop
 loop-again c =
     let slot-count = c .before .before .before .before .slot-count in
@@ -86,11 +76,11 @@ lowest-free-from-spec =
     (tie.spec
     Inv-loop
     μ-loop
-    slot-count-requires
+    (λ c κs. search needs)
     loop-holds
     level-of-requires
     returns
     add-s
-    loop-less
+    (λ c. search needs)
     loop-again
     returns-2)

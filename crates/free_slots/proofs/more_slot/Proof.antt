@@ -4,11 +4,6 @@ use Rattle.free_slots.proofs.Known.{more-low, more-high}
 use borrow.Author.Needs.{needs}
 use Rattle.free_slots.proofs.more_slot.Statement.{statement}
 use Rattle.free_slots.proofs.more_slot.Tie as tie
-use Rattle.free_slots.proofs.more_slot.Reads as reads
-use Rattle.free_slots.proofs.more_slot.Lts as lts
-
-add-count : tie.Need-add-count
-add-count c = search needs
 
 returns : tie.Need-returns
 returns c =
@@ -21,4 +16,4 @@ returns-2 c =
     more-high (start .args .free) (start .args .s) (omega (arith, c .before .if1 .left))
 
 pub more-slot-spec : {M : Type 1} → statement M
-more-slot-spec = tie.close (tie.spec add-count returns returns-2)
+more-slot-spec = tie.close (tie.spec (λ c. search needs) returns returns-2)

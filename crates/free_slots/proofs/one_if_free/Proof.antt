@@ -5,12 +5,6 @@ use borrow.Author.Tests.{eq-eqb, ne-eqb}
 use borrow.Author.Needs.{needs}
 use Rattle.free_slots.proofs.one_if_free.Statement.{statement}
 use Rattle.free_slots.proofs.one_if_free.Tie as tie
-use Rattle.free_slots.proofs.one_if_free.Reads as reads
-use Rattle.free_slots.proofs.one_if_free.Lts as lts
-use Rattle.pool.proofs.level_of.Reads as level-of-reads
-
-level-of-requires : tie.Need-level-of-requires
-level-of-requires c κs = search needs
 
 returns : tie.Need-returns
 returns c = rw (← (c .before .level-of .ensures)) (ap (λ (b : Bool). cond b 1 0) (sym (eq-eqb _ 0 (c .if1 .taken))))
@@ -19,4 +13,4 @@ returns-2 : tie.Need-returns-2
 returns-2 c = rw (← (c .before .level-of .ensures)) (ap (λ (b : Bool). cond b 1 0) (sym (ne-eqb _ 0 (c .if1 .left))))
 
 pub one-if-free-spec : {M : Type 1} → statement M
-one-if-free-spec = tie.close (tie.spec level-of-requires returns returns-2)
+one-if-free-spec = tie.close (tie.spec (λ c κs. search needs) returns returns-2)

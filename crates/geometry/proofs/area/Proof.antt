@@ -8,9 +8,6 @@ use Rattle.geometry.proofs.Ints.{read-back}
 use Rattle.geometry.proofs.Measures.{valid-parts, area-small}
 use Rattle.geometry.proofs.area.Statement.{statement}
 use Rattle.geometry.proofs.area.Tie as tie
-use Rattle.geometry.proofs.area.Reads as reads
-use Rattle.geometry.proofs.area.Lts as lts
-use Rattle.geometry.proofs.span.Reads as span-reads
 
 span-requires : tie.Need-span-requires
 span-requires c κs =

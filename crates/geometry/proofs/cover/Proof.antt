@@ -3,22 +3,6 @@ use Rattle.geometry.proofs.Rects.{rect-back, by-words}
 use borrow.Author.Needs.{needs}
 use Rattle.geometry.proofs.cover.Statement.{statement}
 use Rattle.geometry.proofs.cover.Tie as tie
-use Rattle.geometry.proofs.cover.Reads as reads
-use Rattle.geometry.proofs.cover.Lts as lts
-use Rattle.geometry.proofs.larger.Reads as larger-reads
-use Rattle.geometry.proofs.smaller.Reads as smaller-reads
-
-smaller-requires : tie.Need-smaller-requires
-smaller-requires c κs = search needs
-
-smaller-requires-2 : tie.Need-smaller-requires-2
-smaller-requires-2 c κs = search needs
-
-larger-requires : tie.Need-larger-requires
-larger-requires c κs = search needs
-
-larger-requires-2 : tie.Need-larger-requires-2
-larger-requires-2 c κs = search needs
 
 returns : tie.Need-returns
 unfolding cover
@@ -41,4 +25,4 @@ returns c =
 pub cover-spec : {M : Type 1} → statement M
 cover-spec =
     tie.close
-    (tie.spec smaller-requires smaller-requires-2 larger-requires larger-requires-2 returns)
+    (tie.spec (λ c κs. search needs) (λ c κs. search needs) (λ c κs. search needs) (λ c κs. search needs) returns)

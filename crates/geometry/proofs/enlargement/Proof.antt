@@ -7,13 +7,6 @@ use Rattle.geometry.proofs.Measures.{cover-valid, area-grows}
 use borrow.Author.Needs.{needs}
 use Rattle.geometry.proofs.enlargement.Statement.{statement}
 use Rattle.geometry.proofs.enlargement.Tie as tie
-use Rattle.geometry.proofs.enlargement.Reads as reads
-use Rattle.geometry.proofs.enlargement.Lts as lts
-use Rattle.geometry.proofs.area.Reads as area-reads
-use Rattle.geometry.proofs.cover.Reads as cover-reads
-
-cover-requires : tie.Need-cover-requires
-cover-requires c κs = search needs
 
 area-requires : tie.Need-area-requires
 area-requires c κs =
@@ -23,9 +16,6 @@ area-requires c κs =
     let v = start .pre .0 in
     let w = start .pre .1 in
     rw (c .cover .ensures) (cover-valid a b v w)
-
-area-requires-2 : tie.Need-area-requires-2
-area-requires-2 c κs = search needs
 
 sub-result : tie.Need-sub-result
 sub-result c =
@@ -57,4 +47,4 @@ returns c =
 
 pub enlargement-spec : {M : Type 1} → statement M
 enlargement-spec =
-    tie.close (tie.spec cover-requires area-requires area-requires-2 sub-result returns)
+    tie.close (tie.spec (λ c κs. search needs) area-requires (λ c κs. search needs) sub-result returns)

@@ -4,12 +4,6 @@ use Rattle.geometry.proofs.Rects.{by-test}
 use borrow.Author.Needs.{needs}
 use Rattle.geometry.proofs.larger.Statement.{statement}
 use Rattle.geometry.proofs.larger.Tie as tie
-use Rattle.geometry.proofs.larger.Reads as reads
-use Rattle.geometry.proofs.larger.Lts as lts
-use Rattle.geometry.proofs.le.Reads as le-reads
-
-le-requires : tie.Need-le-requires
-le-requires c κs = search needs
 
 returns : tie.Need-returns
 unfolding larger
@@ -20,4 +14,4 @@ unfolding larger
 returns-2 c = let f = c .before .before .fits in rw (toZ-ofZ (f .a), by-test (f .a) (f .b) (c .before .le .ensures) (c .if1 .left))
 
 pub larger-spec : {M : Type 1} → statement M
-larger-spec = tie.close (tie.spec le-requires returns returns-2)
+larger-spec = tie.close (tie.spec (λ c κs. search needs) returns returns-2)

@@ -3,31 +3,6 @@ use borrow.Author.Needs.{needs}
 use Rattle.geometry.proofs.Rects.{rect-back}
 use Rattle.geometry.proofs.meets.Statement.{statement}
 use Rattle.geometry.proofs.meets.Tie as tie
-use Rattle.geometry.proofs.meets.Reads as reads
-use Rattle.geometry.proofs.meets.Lts as lts
-use Rattle.geometry.proofs.and.Reads as and-reads
-use Rattle.geometry.proofs.le.Reads as le-reads
-
-le-requires : tie.Need-le-requires
-le-requires c κs = search needs
-
-le-requires-2 : tie.Need-le-requires-2
-le-requires-2 c κs = search needs
-
-and-requires : tie.Need-and-requires
-and-requires c κs = search needs
-
-le-requires-3 : tie.Need-le-requires-3
-le-requires-3 c κs = search needs
-
-and-requires-2 : tie.Need-and-requires-2
-and-requires-2 c κs = search needs
-
-le-requires-4 : tie.Need-le-requires-4
-le-requires-4 c κs = search needs
-
-and-requires-3 : tie.Need-and-requires-3
-and-requires-3 c κs = search needs
 
 returns : tie.Need-returns
 unfolding meets
@@ -43,11 +18,11 @@ pub meets-spec : {M : Type 1} → statement M
 meets-spec =
     tie.close
     (tie.spec
-    le-requires
-    le-requires-2
-    and-requires
-    le-requires-3
-    and-requires-2
-    le-requires-4
-    and-requires-3
+    (λ c κs. search needs)
+    (λ c κs. search needs)
+    (λ c κs. search needs)
+    (λ c κs. search needs)
+    (λ c κs. search needs)
+    (λ c κs. search needs)
+    (λ c κs. search needs)
     returns)

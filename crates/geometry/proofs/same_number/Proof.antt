@@ -4,12 +4,6 @@ use mir.Facts.{toZ-ofZ}
 use borrow.Author.Needs.{needs, sfits-of}
 use Rattle.geometry.proofs.same_number.Statement.{statement}
 use Rattle.geometry.proofs.same_number.Tie as tie
-use Rattle.geometry.proofs.same_number.Reads as reads
-use Rattle.geometry.proofs.same_number.Lts as lts
-use Rattle.geometry.proofs.same.Reads as same-reads
-
-same-requires : tie.Need-same-requires
-same-requires c κs = search needs
 
 returns : tie.Need-returns
 returns c =
@@ -21,4 +15,4 @@ returns c =
     )
 
 pub same-number-spec : {M : Type 1} → statement M
-same-number-spec = tie.close (tie.spec same-requires returns)
+same-number-spec = tie.close (tie.spec (λ c κs. search needs) returns)

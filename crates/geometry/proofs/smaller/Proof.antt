@@ -4,12 +4,6 @@ use Rattle.geometry.proofs.Rects.{by-test}
 use borrow.Author.Needs.{needs}
 use Rattle.geometry.proofs.smaller.Statement.{statement}
 use Rattle.geometry.proofs.smaller.Tie as tie
-use Rattle.geometry.proofs.smaller.Reads as reads
-use Rattle.geometry.proofs.smaller.Lts as lts
-use Rattle.geometry.proofs.le.Reads as le-reads
-
-le-requires : tie.Need-le-requires
-le-requires c κs = search needs
 
 returns : tie.Need-returns
 unfolding smaller
@@ -20,4 +14,4 @@ unfolding smaller
 returns-2 c = let f = c .before .before .fits in rw (toZ-ofZ (f .b), by-test (f .a) (f .b) (c .before .le .ensures) (c .if1 .left))
 
 pub smaller-spec : {M : Type 1} → statement M
-smaller-spec = tie.close (tie.spec le-requires returns returns-2)
+smaller-spec = tie.close (tie.spec (λ c κs. search needs) returns returns-2)

@@ -5,8 +5,6 @@ use mir.Facts.{toZ-ofZ, sfits-widen}
 use Rattle.geometry.proofs.Ints.{read-wide, span-fits, sub-off, off-order, off-le}
 use Rattle.geometry.proofs.span.Statement.{statement}
 use Rattle.geometry.proofs.span.Tie as tie
-use Rattle.geometry.proofs.span.Reads as reads
-use Rattle.geometry.proofs.span.Lts as lts
 
 cast-result : tie.Need-cast-result
 cast-result c = rw (toZ-ofZ (c .fits .high)) (sfits-widen {w = w32} tt (c .fits .high))

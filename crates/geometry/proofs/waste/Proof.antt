@@ -8,13 +8,6 @@ use Rattle.geometry.proofs.Measures.{cover-valid}
 use borrow.Author.Needs.{needs}
 use Rattle.geometry.proofs.waste.Statement.{statement}
 use Rattle.geometry.proofs.waste.Tie as tie
-use Rattle.geometry.proofs.waste.Reads as reads
-use Rattle.geometry.proofs.waste.Lts as lts
-use Rattle.geometry.proofs.area.Reads as area-reads
-use Rattle.geometry.proofs.cover.Reads as cover-reads
-
-cover-requires : tie.Need-cover-requires
-cover-requires c κs = search needs
 
 area-requires : tie.Need-area-requires
 area-requires c κs =
@@ -24,21 +17,6 @@ area-requires c κs =
     let v = start .pre .0 in
     let w = start .pre .1 in
     rw (c .cover .ensures) (cover-valid a b v w)
-
-area-requires-2 : tie.Need-area-requires-2
-area-requires-2 c κs = search needs
-
-area-requires-3 : tie.Need-area-requires-3
-area-requires-3 c κs = search needs
-
-add-result : tie.Need-add-result
-add-result c = search needs
-
-sub-result : tie.Need-sub-result
-sub-result c = search needs
-
-add-result-2 : tie.Need-add-result-2
-add-result-2 c = search needs
 
 returns : tie.Need-returns
 unfolding waste
@@ -63,11 +41,11 @@ pub waste-spec : {M : Type 1} → statement M
 waste-spec =
     tie.close
     (tie.spec
-    cover-requires
+    (λ c κs. search needs)
     area-requires
-    area-requires-2
-    area-requires-3
-    add-result
-    sub-result
-    add-result-2
+    (λ c κs. search needs)
+    (λ c κs. search needs)
+    (λ c. search needs)
+    (λ c. search needs)
+    (λ c. search needs)
     returns)

@@ -10,13 +10,6 @@ use Rattle.insert.specs.State.{grownOf, Back}
 use Rattle.insert.proofs.Steps.{back-one, two-ready, two-here, back-two, back-stuck}
 use Rattle.insert.proofs.adjust.Statement.{statement}
 use Rattle.insert.proofs.adjust.Tie as tie
-use Rattle.insert.proofs.adjust.Reads as reads
-use Rattle.insert.proofs.adjust.Lts as lts
-use Rattle.insert.proofs.install.Reads as install-reads
-use Rattle.nodes.proofs.tighten.Reads as tighten-reads
-
-enum-known-grown : tie.Need-enum-known-grown
-enum-known-grown c = search needs
 
 tighten-requires : tie.Need-tighten-requires
 tighten-requires c κs =
@@ -25,9 +18,6 @@ tighten-requires c κs =
     let w = start .args .pool .now in
     let b = subst (Back w (start .args .s) (start .args .i)) (grown .given .1) (start .pre) in
     (b .0 .fit, b .1)
-
-enum-known-grown-2 : tie.Need-enum-known-grown-2
-enum-known-grown-2 c = search needs
 
 tighten-requires-2 : tie.Need-tighten-requires-2
 tighten-requires-2 c κs =
@@ -49,12 +39,6 @@ install-requires c κs =
       two-here w (start .args .s) (start .args .i) _ _ b v (tighten2 .ensures .1) (tighten2 .ensures .0),
     )
 
-enum-told : tie.Need-enum-told
-enum-told c = search needs
-
-same-length : tie.Need-same-length
-same-length c = search needs
-
 returns : tie.Need-returns
 returns c =
     let start = c .before .before .before .before .before .before in
@@ -65,9 +49,6 @@ returns c =
     let v = tighten .last .0 in
     subst⁻¹ (λ (g : Growth). GrewTo (I.adjust I.ours (start .args .s) (start .args .i) (grownOf (read w) g)) (One (grown .given .0 .0)) v)
     (grown .given .1) (back-one w (start .args .s) (start .args .i) (grown .given .0 .0) b v (tighten .ensures .1) (tighten .ensures .0))
-
-same-length-2 : tie.Need-same-length-2
-same-length-2 c = search needs
 
 returns-2 : tie.Need-returns-2
 returns-2 c =
@@ -94,14 +75,14 @@ pub adjust-spec : {M : Type 1} → statement M
 adjust-spec =
     tie.close
     (tie.spec
-    enum-known-grown
+    (λ c. search needs)
     tighten-requires
-    enum-known-grown-2
+    (λ c. search needs)
     tighten-requires-2
     install-requires
-    enum-told
-    same-length
+    (λ c. search needs)
+    (λ c. search needs)
     returns
-    same-length-2
+    (λ c. search needs)
     returns-2
     returns-3)

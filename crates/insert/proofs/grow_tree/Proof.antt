@@ -10,15 +10,6 @@ use Rattle.insert.specs.State.{grownOf, Risen}
 use Rattle.insert.proofs.Roots.{grown-one, grown-stuck}
 use Rattle.insert.proofs.grow_tree.Statement.{statement}
 use Rattle.insert.proofs.grow_tree.Tie as tie
-use Rattle.insert.proofs.grow_tree.Reads as reads
-use Rattle.insert.proofs.grow_tree.Lts as lts
-use Rattle.insert.proofs.new_root.Reads as new-root-reads
-
-enum-known-grown : tie.Need-enum-known-grown
-enum-known-grown c = search needs
-
-enum-known-grown-2 : tie.Need-enum-known-grown-2
-enum-known-grown-2 c = search needs
 
 new-root-requires : tie.Need-new-root-requires
 new-root-requires c κs =
@@ -28,9 +19,6 @@ new-root-requires c κs =
     let b = subst (Risen w) (grown2 .given .1) (start .pre) in
     (b .0, b .1)
 
-enum-told : tie.Need-enum-told
-enum-told c = search needs
-
 returns : tie.Need-returns
 returns c =
     let start = c .before .before .before in
@@ -38,9 +26,6 @@ returns c =
     let w = start .args .pool .now in
     subst⁻¹ (λ (g : Growth). Leaves w (I.growTree (grownOf (read w) g)) (Made (grown .given .0 .0)) w) (grown .given .1)
     (grown-one w (grown .given .0 .0) (subst (Risen w) (grown .given .1) (start .pre)))
-
-same-length : tie.Need-same-length
-same-length c = search needs
 
 returns-2 : tie.Need-returns-2
 returns-2 c =
@@ -59,11 +44,11 @@ pub grow-tree-spec : {M : Type 1} → statement M
 grow-tree-spec =
     tie.close
     (tie.spec
-    enum-known-grown
-    enum-known-grown-2
+    (λ c. search needs)
+    (λ c. search needs)
     new-root-requires
-    enum-told
+    (λ c. search needs)
     returns
-    same-length
+    (λ c. search needs)
     returns-2
     returns-3)

@@ -6,19 +6,6 @@ use Rattle.rules.specs.Layout.{read}
 use Rattle.insert.proofs.Roots.{root-way, at-refused, at-risen, at-made}
 use Rattle.insert.proofs.insert_at.Statement.{statement}
 use Rattle.insert.proofs.insert_at.Tie as tie
-use Rattle.insert.proofs.insert_at.Reads as reads
-use Rattle.insert.proofs.insert_at.Lts as lts
-use Rattle.insert.proofs.grow_tree.Reads as grow-tree-reads
-use Rattle.insert.proofs.insert_below.Reads as insert-below-reads
-use Rattle.insert.proofs.too_few.Reads as too-few-reads
-use Rattle.pool.proofs.height_of.Reads as height-of-reads
-use Rattle.pool.proofs.root_of.Reads as root-of-reads
-
-too-few-requires : tie.Need-too-few-requires
-too-few-requires c κs = search needs
-
-same-length : tie.Need-same-length
-same-length c = search needs
 
 returns : tie.Need-returns
 returns c =
@@ -32,15 +19,6 @@ returns c =
     let f = start .pre .1 .1 .1 .0 in
     let known = start .pre .1 .1 .1 .1 in
     at-refused p (start .args .level) (start .args .e) u low high f w known (too-few .result) (too-few .ensures) (c .if1 .taken)
-
-height-of-requires : tie.Need-height-of-requires
-height-of-requires c κs = search needs
-
-sub-n : tie.Need-sub-n
-sub-n c = search needs
-
-root-of-requires : tie.Need-root-of-requires
-root-of-requires c κs = search needs
 
 insert-below-requires : tie.Need-insert-below-requires
 insert-below-requires c κs =
@@ -79,9 +57,6 @@ grow-tree-requires c κs =
     at-risen p (start .args .level) (start .args .e) u low high f w known (too-few .result) (too-few .ensures) n levels (root-of .result)
     (root-of .ensures) (insert-below .result) (insert-below .last .0) (insert-below .ensures)
 
-same-length-2 : tie.Need-same-length-2
-same-length-2 c = search needs
-
 returns-2 : tie.Need-returns-2
 returns-2 c =
     let at-root-of = c .before .before .before .before .before .before in
@@ -109,13 +84,13 @@ pub insert-at-spec : {M : Type 1} → statement M
 insert-at-spec =
     tie.close
     (tie.spec
-    too-few-requires
-    same-length
+    (λ c κs. search needs)
+    (λ c. search needs)
     returns
-    height-of-requires
-    sub-n
-    root-of-requires
+    (λ c κs. search needs)
+    (λ c. search needs)
+    (λ c κs. search needs)
     insert-below-requires
     grow-tree-requires
-    same-length-2
+    (λ c. search needs)
     returns-2)

@@ -5,14 +5,6 @@ use native.Mathlib.Omega.{arith}
 use Rattle.insert.proofs.Records.{records-few, refused-fit, head-upright, head-levels, head-known, head-fits, record-made, record-refused}
 use Rattle.insert.proofs.insert_record.Statement.{statement}
 use Rattle.insert.proofs.insert_record.Tie as tie
-use Rattle.insert.proofs.insert_record.Reads as reads
-use Rattle.insert.proofs.insert_record.Lts as lts
-use Rattle.insert.proofs.insert_at.Reads as insert-at-reads
-use Rattle.pool.proofs.put_records.Reads as put-records-reads
-use Rattle.pool.proofs.records_of.Reads as records-of-reads
-
-records-of-requires : tie.Need-records-of-requires
-records-of-requires c κs = search needs
 
 add-counted : tie.Need-add-counted
 add-counted c =
@@ -51,9 +43,6 @@ insert-at-requires c κs =
       ),
     )
 
-enum-known-outcome : tie.Need-enum-known-outcome
-enum-known-outcome c = search needs
-
 enum-told : tie.Need-enum-told
 enum-told c = search needs
 
@@ -73,9 +62,6 @@ put-records-requires-2 c κs =
       omega (arith, records-few w (fit .right) h, records-of .ensures),
     )
 
-same-length : tie.Need-same-length
-same-length c = search needs
-
 returns : tie.Need-returns
 returns c =
     let at-insert-at = c .before .before .before .before in
@@ -89,9 +75,6 @@ returns c =
     let put = put-records .ensures .0 in
     record-made w (start .args .r) (records-of .result) (records-of .ensures) v put (insert-at .result) (insert-at .last .0)
     (insert-at .ensures) (outcome .given .0 .0) (outcome .given .1)
-
-same-length-2 : tie.Need-same-length-2
-same-length-2 c = search needs
 
 returns-2 : tie.Need-returns-2
 returns-2 c =
@@ -113,14 +96,14 @@ pub insert-record-spec : {M : Type 1} → statement M
 insert-record-spec =
     tie.close
     (tie.spec
-    records-of-requires
+    (λ c κs. search needs)
     add-counted
     put-records-requires
     insert-at-requires
-    enum-known-outcome
+    (λ c. search needs)
     enum-told
     put-records-requires-2
-    same-length
+    (λ c. search needs)
     returns
-    same-length-2
+    (λ c. search needs)
     returns-2)

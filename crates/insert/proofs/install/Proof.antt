@@ -10,13 +10,6 @@ use Rattle.insert.proofs.Fitted.{slot-in}
 use Rattle.insert.proofs.Divided.{here-node, here-stored, room-grows, split-grows, none-grows}
 use Rattle.insert.proofs.install.Statement.{statement}
 use Rattle.insert.proofs.install.Tie as tie
-use Rattle.insert.proofs.install.Reads as reads
-use Rattle.insert.proofs.install.Lts as lts
-use Rattle.insert.proofs.split_node.Reads as split-node-reads
-use Rattle.pool.proofs.add_entry.Reads as add-entry-reads
-use Rattle.pool.proofs.count_of.Reads as count-of-reads
-use Rattle.free_slots.proofs.less_slot.Reads as less-slot-reads
-use Rattle.free_slots.proofs.lowest.Reads as lowest-reads
 
 count-of-requires : tie.Need-count-of-requires
 count-of-requires c κs =
@@ -41,9 +34,6 @@ add-entry-requires c κs =
       ),
     )
 
-same-length : tie.Need-same-length
-same-length c = search needs
-
 returns : tie.Need-returns
 returns c =
     let start = c .before .before .before .before .before .before in
@@ -53,12 +43,6 @@ returns c =
     let h = start .pre .1 in
     let r = start .pre .0 in
     room-grows r h (omega (arith, if1 .taken, count-of .ensures .0)) (add-entry .last .0) (add-entry .ensures .1) (add-entry .ensures .0)
-
-lowest-requires : tie.Need-lowest-requires
-lowest-requires c κs = search needs
-
-enum-known-lowest : tie.Need-enum-known-lowest
-enum-known-lowest c = search needs
 
 split-node-requires : tie.Need-split-node-requires
 split-node-requires c κs =
@@ -81,12 +65,6 @@ less-slot-requires c κs =
     let low = sym (lowest .ensures) ∙ lowest2 .given .1 in
     (omega (arith, at-some (read w) _ low, r .known .many), omega (arith, lowest-slot (read w) _ low .high, most-slots w (r .fit .right)))
 
-enum-told : tie.Need-enum-told
-enum-told c = search needs
-
-same-length-2 : tie.Need-same-length-2
-same-length-2 c = search needs
-
 returns-2 : tie.Need-returns-2
 returns-2 c =
     let start = c .before .before .before .before .before .before .before .before .before .before .before .before in
@@ -99,9 +77,6 @@ returns-2 c =
     let r = start .pre .0 in
     split-grows r h (omega (arith, if1 .left, count-of .ensures .0)) _ (sym (lowest .ensures) ∙ lowest2 .given .1) (split-node .last .0)
     (split-node .ensures .1) (split-node .result) (split-node .ensures .0) (c .less-slot .result) (c .less-slot .ensures)
-
-same-length-3 : tie.Need-same-length-3
-same-length-3 c = search needs
 
 returns-3 : tie.Need-returns-3
 returns-3 c =
@@ -119,14 +94,14 @@ install-spec =
     (tie.spec
     count-of-requires
     add-entry-requires
-    same-length
+    (λ c. search needs)
     returns
-    lowest-requires
-    enum-known-lowest
+    (λ c κs. search needs)
+    (λ c. search needs)
     split-node-requires
     less-slot-requires
-    enum-told
-    same-length-2
+    (λ c. search needs)
+    (λ c. search needs)
     returns-2
-    same-length-3
+    (λ c. search needs)
     returns-3)

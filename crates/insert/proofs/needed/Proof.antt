@@ -9,20 +9,6 @@ use Rattle.insert.specs.State.{WayDown}
 use Rattle.insert.proofs.Roots.{needs-run, needs-more}
 use Rattle.insert.proofs.needed.Statement.{statement}
 use Rattle.insert.proofs.needed.Tie as tie
-use Rattle.insert.proofs.needed.Reads as reads
-use Rattle.insert.proofs.needed.Lts as lts
-use Rattle.insert.proofs.full_run.Reads as full-run-reads
-use Rattle.pool.proofs.height_of.Reads as height-of-reads
-use Rattle.pool.proofs.root_of.Reads as root-of-reads
-
-height-of-requires : tie.Need-height-of-requires
-height-of-requires c κs = search needs
-
-sub-n : tie.Need-sub-n
-sub-n c = search needs
-
-root-of-requires : tie.Need-root-of-requires
-root-of-requires c κs = search needs
 
 full-run-requires : tie.Need-full-run-requires
 full-run-requires c κs =
@@ -35,9 +21,6 @@ full-run-requires c κs =
       subst⁻¹ (λ (k : ℕ). WayDown p k (c .root-of .result) (start .args .e)) levels
           (subst⁻¹ (λ (t : SlotNumber). WayDown p (p .height - start .args .level) t (start .args .e)) (c .root-of .ensures) (start .pre .1 .1)),
     )
-
-add-result : tie.Need-add-result
-add-result c = search needs
 
 returns : tie.Need-returns
 returns c =
@@ -67,10 +50,10 @@ pub needed-spec : {M : Type 1} → statement M
 needed-spec =
     tie.close
     (tie.spec
-    height-of-requires
-    sub-n
-    root-of-requires
+    (λ c κs. search needs)
+    (λ c. search needs)
+    (λ c κs. search needs)
     full-run-requires
-    add-result
+    (λ c. search needs)
     returns
     returns-2)

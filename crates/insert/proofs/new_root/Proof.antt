@@ -10,27 +10,6 @@ use Rattle.insert.proofs.Fitted.{slot-in}
 use Rattle.insert.proofs.Roots.{two-small, two-kind, beside-slot, old-stored, partner-stored, new-stuck, new-made}
 use Rattle.insert.proofs.new_root.Statement.{statement}
 use Rattle.insert.proofs.new_root.Tie as tie
-use Rattle.insert.proofs.new_root.Reads as reads
-use Rattle.insert.proofs.new_root.Lts as lts
-use Rattle.pool.proofs.height_of.Reads as height-of-reads
-use Rattle.pool.proofs.put_node.Reads as put-node-reads
-use Rattle.pool.proofs.put_root.Reads as put-root-reads
-use Rattle.pool.proofs.root_of.Reads as root-of-reads
-use Rattle.nodes.proofs.cover_of.Reads as cover-of-reads
-use Rattle.free_slots.proofs.less_slot.Reads as less-slot-reads
-use Rattle.free_slots.proofs.lowest.Reads as lowest-reads
-
-lowest-requires : tie.Need-lowest-requires
-lowest-requires c κs = search needs
-
-enum-known-lowest : tie.Need-enum-known-lowest
-enum-known-lowest c = search needs
-
-root-of-requires : tie.Need-root-of-requires
-root-of-requires c κs = search needs
-
-height-of-requires : tie.Need-height-of-requires
-height-of-requires c κs = search needs
 
 cover-of-requires : tie.Need-cover-of-requires
 cover-of-requires c κs =
@@ -43,12 +22,6 @@ cover-of-requires c κs =
     let few = most-slots w (r .fit .right) in
     slot-in w (root-of .result) (r .fit .right)
     (beside-slot h few (root-of .result) (root-of .ensures) (height-of .result) (height-of .ensures))
-
-array-set-from-two : tie.Need-array-set-from-two
-array-set-from-two c = search needs
-
-add-put-node : tie.Need-add-put-node
-add-put-node c = search needs
 
 put-node-requires : tie.Need-put-node-requires
 put-node-requires c κs =
@@ -81,9 +54,6 @@ put-node-requires c κs =
       ),
     )
 
-add-put-root : tie.Need-add-put-root
-add-put-root c = search needs
-
 put-root-requires : tie.Need-put-root-requires
 put-root-requires c κs =
     let at-root-of = c .before .before .before .before .before .before .before .before in
@@ -115,12 +85,6 @@ less-slot-requires c κs =
     let t = lowest2 .given .0 .0 in
     (omega (arith, at-some (read w) t low, r .known .many), omega (arith, lowest-slot (read w) t low .high, few))
 
-enum-told : tie.Need-enum-told
-enum-told c = search needs
-
-same-length : tie.Need-same-length
-same-length c = search needs
-
 returns : tie.Need-returns
 returns c =
     let at-height-of = c .before .before .before .before .before .before .before .before .before in
@@ -139,9 +103,6 @@ returns c =
     (cover-of .ensures) (read (put-node .last .0)) (put-node .ensures .0) (put-root .last .0) (put-root .ensures .1) (put-root .ensures .0)
     (c .less-slot .result) (c .less-slot .ensures)
 
-same-length-2 : tie.Need-same-length-2
-same-length-2 c = search needs
-
 returns-2 : tie.Need-returns-2
 returns-2 c =
     let start = c .before .before .before .before in
@@ -153,19 +114,19 @@ pub new-root-spec : {M : Type 1} → statement M
 new-root-spec =
     tie.close
     (tie.spec
-    lowest-requires
-    enum-known-lowest
-    root-of-requires
-    height-of-requires
+    (λ c κs. search needs)
+    (λ c. search needs)
+    (λ c κs. search needs)
+    (λ c κs. search needs)
     cover-of-requires
-    array-set-from-two
-    add-put-node
+    (λ c. search needs)
+    (λ c. search needs)
     put-node-requires
-    add-put-root
+    (λ c. search needs)
     put-root-requires
     less-slot-requires
-    enum-told
-    same-length
+    (λ c. search needs)
+    (λ c. search needs)
     returns
-    same-length-2
+    (λ c. search needs)
     returns-2)

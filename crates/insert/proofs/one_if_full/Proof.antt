@@ -6,12 +6,6 @@ use Rattle.rules.specs.Layout.{read}
 use Rattle.insert_laws.proofs.Taken.{full-one, room-none}
 use Rattle.insert.proofs.one_if_full.Statement.{statement}
 use Rattle.insert.proofs.one_if_full.Tie as tie
-use Rattle.insert.proofs.one_if_full.Reads as reads
-use Rattle.insert.proofs.one_if_full.Lts as lts
-use Rattle.pool.proofs.count_of.Reads as count-of-reads
-
-count-of-requires : tie.Need-count-of-requires
-count-of-requires c κs = search needs
 
 returns : tie.Need-returns
 returns c =
@@ -26,4 +20,4 @@ returns-2 c =
     (sym (full-one w (start .args .s) (omega (arith, c .if1 .left, c .before .count-of .ensures .0))), omega arith)
 
 pub one-if-full-spec : {M : Type 1} → statement M
-one-if-full-spec = tie.close (tie.spec count-of-requires returns returns-2)
+one-if-full-spec = tie.close (tie.spec (λ c κs. search needs) returns returns-2)

@@ -9,13 +9,6 @@ use Rattle.rules.specs.Pool.{node, putNode}
 use Rattle.insert.proofs.Nines.{group-small, group-kind}
 use Rattle.insert.proofs.put_group.Statement.{statement}
 use Rattle.insert.proofs.put_group.Tie as tie
-use Rattle.insert.proofs.put_group.Reads as reads
-use Rattle.insert.proofs.put_group.Lts as lts
-use Rattle.insert.proofs.group_of.Reads as group-of-reads
-use Rattle.pool.proofs.put_node.Reads as put-node-reads
-
-group-of-requires : tie.Need-group-of-requires
-group-of-requires c κs = search needs
 
 put-node-requires : tie.Need-put-node-requires
 put-node-requires c κs =
@@ -41,9 +34,6 @@ put-node-requires c κs =
       ),
     )
 
-same-length : tie.Need-same-length
-same-length c = search needs
-
 returns : tie.Need-returns
 returns c =
     let start = c .before .before .before .before in
@@ -56,4 +46,4 @@ returns c =
     )
 
 pub put-group-spec : {M : Type 1} → statement M
-put-group-spec = tie.close (tie.spec group-of-requires put-node-requires same-length returns)
+put-group-spec = tie.close (tie.spec (λ c κs. search needs) put-node-requires (λ c. search needs) returns)

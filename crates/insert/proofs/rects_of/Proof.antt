@@ -6,8 +6,6 @@ use native.Mathlib.Omega.{arith}
 use Rattle.insert.proofs.Nines.{Rects, rects-more, rects-all}
 use Rattle.insert.proofs.rects_of.Statement.{statement}
 use Rattle.insert.proofs.rects_of.Tie as tie
-use Rattle.insert.proofs.rects_of.Reads as reads
-use Rattle.insert.proofs.rects_of.Lts as lts
 
 abbrev Inv-loop : tie.InvT-loop
 Inv-loop es rects₀ i₀ rects i = Rects es rects i
@@ -15,29 +13,8 @@ Inv-loop es rects₀ i₀ rects i = Rects es rects i
 abbrev μ-loop : tie.MeasureT-loop
 μ-loop es rects₀ i₀ rects i = 9 - i
 
-array-copy-out-first : tie.Need-array-copy-out-first Inv-loop μ-loop
-array-copy-out-first c = search needs
-
 loop-holds : tie.Need-loop-holds Inv-loop μ-loop
 loop-holds c = record { most = omega arith; nine = c .before .before .pre; long = refl; is = refl }
-
-mul-e : tie.Need-mul-e Inv-loop μ-loop
-mul-e c = omega arith
-
-array-copy-out-e : tie.Need-array-copy-out-e Inv-loop μ-loop
-array-copy-out-e c = omega arith
-
-mul-rects : tie.Need-mul-rects Inv-loop μ-loop
-mul-rects c = omega arith
-
-array-set-from-rects : tie.Need-array-set-from-rects Inv-loop μ-loop
-array-set-from-rects c = omega arith
-
-add-i : tie.Need-add-i Inv-loop μ-loop
-add-i c = omega arith
-
-loop-less : tie.Need-loop-less Inv-loop μ-loop
-loop-less c = omega arith
 
 loop-again : tie.Need-loop-again Inv-loop μ-loop
 loop-again c = rects-more _ (c .before .before .before .loop .inv) (c .before .before .loop-test .taken)
@@ -54,13 +31,13 @@ rects-of-spec =
     (tie.spec
     Inv-loop
     μ-loop
-    array-copy-out-first
+    (λ c. search needs)
     loop-holds
-    mul-e
-    array-copy-out-e
-    mul-rects
-    array-set-from-rects
-    add-i
-    loop-less
+    (λ c. omega arith)
+    (λ c. omega arith)
+    (λ c. omega arith)
+    (λ c. omega arith)
+    (λ c. omega arith)
+    (λ c. omega arith)
     loop-again
     returns)

@@ -9,14 +9,6 @@ use Rattle.insert.proofs.Fitted.{slot-in}
 use Rattle.insert.proofs.Divided.{here-node, here-level, nine-length, nine-small, nine-kind, nine-valid, slot-kept, Parts, split-made}
 use Rattle.insert.proofs.split_node.Statement.{statement}
 use Rattle.insert.proofs.split_node.Tie as tie
-use Rattle.insert.proofs.split_node.Reads as reads
-use Rattle.insert.proofs.split_node.Lts as lts
-use Rattle.insert.proofs.nine_entries.Reads as nine-entries-reads
-use Rattle.insert.proofs.put_group.Reads as put-group-reads
-use Rattle.insert.proofs.rects_of.Reads as rects-of-reads
-use Rattle.pool.proofs.level_of.Reads as level-of-reads
-use Rattle.nodes.proofs.cover_of.Reads as cover-of-reads
-use Rattle.split.proofs.split_nine.Reads as split-nine-reads
 
 level-of-requires : tie.Need-level-of-requires
 level-of-requires c κs = let s = c .before in slot-in (s .args .pool .now) (s .args .s) (s .pre .0 .right) (here-node (s .pre .1 .0) .slot)
@@ -120,9 +112,6 @@ cover-of-requires c κs =
     let kept = slot-kept (s .args .s) (s .args .t) _ (lowest-slot (read (s .args .pool .now)) (s .args .t) low) (first .ensures .0) in
     slot-in (second .last .0) (s .args .t) (second .ensures .1 .right) (slot-kept (s .args .t) (s .args .t) _ kept (second .ensures .0))
 
-same-length : tie.Need-same-length
-same-length c = search needs
-
 returns : tie.Need-returns
 returns c =
     let at-put-group = c .before .before .before .before .before .before in
@@ -159,5 +148,5 @@ split-node-spec =
     put-group-requires
     put-group-requires-2
     cover-of-requires
-    same-length
+    (λ c. search needs)
     returns)

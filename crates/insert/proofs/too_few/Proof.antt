@@ -7,13 +7,6 @@ use Rattle.rules.specs.Layout.{read}
 use Rattle.insert.proofs.Roots.{enough-free, root-way}
 use Rattle.insert.proofs.too_few.Statement.{statement}
 use Rattle.insert.proofs.too_few.Tie as tie
-use Rattle.insert.proofs.too_few.Reads as reads
-use Rattle.insert.proofs.too_few.Lts as lts
-use Rattle.insert.proofs.needed.Reads as needed-reads
-use Rattle.pool.proofs.height_of.Reads as height-of-reads
-
-height-of-requires : tie.Need-height-of-requires
-height-of-requires c κs = search needs
 
 returns : tie.Need-returns
 returns c =
@@ -43,4 +36,4 @@ returns-2 : tie.Need-returns-2
 returns-2 c = let s = c .before .before .before in ap (ltb (s .args .free .count)) (c .needed .ensures)
 
 pub too-few-spec : {M : Type 1} → statement M
-too-few-spec = tie.close (tie.spec height-of-requires returns needed-requires returns-2)
+too-few-spec = tie.close (tie.spec (λ c κs. search needs) returns needed-requires returns-2)

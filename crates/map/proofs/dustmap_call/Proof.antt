@@ -50,16 +50,12 @@ use Rattle.walk_laws.proofs.Slices.{ref, counted, Own, OwnShr, doubles}
 use Rattle.walk_laws.proofs.Values.{has-usize, has-i32, has-bool}
 use Rattle.walk_laws.proofs.Lends.{lent, back, lent-shr, back-shr}
 use Rattle.walk_laws.proofs.Calls.{promised, calls, says-all, needs-none}
-use denote.Struct.Laws as LL
 use Rattle.rules.specs.declared.Request.{Request}
 use Rattle.rules.proofs.Request as Q
-use Rattle.rules.proofs.Request.Laws as Q′
 use Rattle.rules.specs.declared.Answer.{Answer}
 use Rattle.rules.proofs.Answer as R
-use Rattle.rules.proofs.Answer.Laws as R′
 use Rattle.rules.specs.declared.Record.{Record}
 use Rattle.rules.proofs.Record as F
-use Rattle.rules.proofs.Record.Laws as F′
 use Rattle.rules.specs.declared.Verdict.{Verdict}
 use Rattle.rules.specs.Lists.{every}
 use Rattle.rules.specs.Call.{Lent, isRequest, callFault}

@@ -6,15 +6,9 @@ use Rattle.batch.proofs.Refusals.{check-number}
 use borrow.Author.Needs.{needs}
 use Rattle.map.proofs.dustmap_check.Statement.{statement}
 use Rattle.map.proofs.dustmap_check.Tie as tie
-use Rattle.map.proofs.dustmap_check.Reads as reads
-use Rattle.map.proofs.dustmap_check.Lts as lts
-use Rattle.batch.proofs.refusal.Reads as refusal-reads
-
-refusal-requires : tie.Need-refusal-requires
-refusal-requires c κs = search needs
 
 returns : tie.Need-returns
 returns c = toZ-ofZ {w = w32} {z = c .refusal .result} (sfits-of (c .refusal .ok)) ∙ c .refusal .ensures ∙ check-number (c .before .args .pool .now)
 
 pub dustmap-check-spec : {M : Type 1} → statement M
-dustmap-check-spec = tie.close (tie.spec refusal-requires returns)
+dustmap-check-spec = tie.close (tie.spec (λ c κs. search needs) returns)

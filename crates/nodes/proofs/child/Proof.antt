@@ -4,15 +4,9 @@ use Rattle.nodes.proofs.Pointers.{child-is}
 use borrow.Author.Needs.{needs}
 use Rattle.nodes.proofs.child.Statement.{statement}
 use Rattle.nodes.proofs.child.Tie as tie
-use Rattle.nodes.proofs.child.Reads as reads
-use Rattle.nodes.proofs.child.Lts as lts
-use Rattle.nodes.proofs.pointed_child.Reads as pointed-child-reads
-
-pointed-child-requires : tie.Need-pointed-child-requires
-pointed-child-requires c κs = search needs
 
 returns : tie.Need-returns
 returns c = c .pointed-child .ensures ∙ child-is (c .before .args .e)
 
 pub child-spec : {M : Type 1} → statement M
-child-spec = tie.close (tie.spec pointed-child-requires returns)
+child-spec = tie.close (tie.spec (λ c κs. search needs) returns)

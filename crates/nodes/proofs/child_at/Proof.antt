@@ -8,14 +8,6 @@ use Rattle.nodes.proofs.Slots.{same-entry, read-there, read-within}
 use borrow.Author.Needs.{needs}
 use Rattle.nodes.proofs.child_at.Statement.{statement}
 use Rattle.nodes.proofs.child_at.Tie as tie
-use Rattle.nodes.proofs.child_at.Reads as reads
-use Rattle.nodes.proofs.child_at.Lts as lts
-use Rattle.nodes.proofs.pointed_child.Reads as pointed-child-reads
-use Rattle.nodes.proofs.slot_read.Reads as slot-read-reads
-use Rattle.pool.proofs.entry_pointer.Reads as entry-pointer-reads
-
-slot-read-requires : tie.Need-slot-read-requires
-slot-read-requires c κs = search needs
 
 entry-pointer-requires : tie.Need-entry-pointer-requires
 entry-pointer-requires c κs =
@@ -24,9 +16,6 @@ entry-pointer-requires c κs =
     let t = c .slot-read in
     let there = read-there w (s .args .s) (t .result) (s .args .i) (s .pre .0) (t .ensures .0) (t .ensures .1) (s .pre .1) in
     (read-within w (s .args .s) (t .result) (s .args .i) (s .pre .0) (t .ensures .0) (t .ensures .1) (s .pre .1), there)
-
-pointed-child-requires : tie.Need-pointed-child-requires
-pointed-child-requires c κs = search needs
 
 returns : tie.Need-returns
 returns c =
@@ -40,4 +29,4 @@ returns c =
 
 pub child-at-spec : {M : Type 1} → statement M
 child-at-spec =
-    tie.close (tie.spec slot-read-requires entry-pointer-requires pointed-child-requires returns)
+    tie.close (tie.spec (λ c κs. search needs) entry-pointer-requires (λ c κs. search needs) returns)

@@ -7,17 +7,6 @@ use Rattle.nodes.proofs.Slots.{same-entries, none-beyond}
 use borrow.Author.Needs.{needs}
 use Rattle.nodes.proofs.count_at.Statement.{statement}
 use Rattle.nodes.proofs.count_at.Tie as tie
-use Rattle.nodes.proofs.count_at.Reads as reads
-use Rattle.nodes.proofs.count_at.Lts as lts
-use Rattle.nodes.proofs.slot_read.Reads as slot-read-reads
-use Rattle.pool.proofs.count_of.Reads as count-of-reads
-use Rattle.pool.proofs.slot_count.Reads as slot-count-reads
-
-slot-read-requires : tie.Need-slot-read-requires
-slot-read-requires c κs = search needs
-
-slot-count-requires : tie.Need-slot-count-requires
-slot-count-requires c κs = search needs
 
 returns : tie.Need-returns
 returns c =
@@ -42,4 +31,4 @@ returns-2 c =
 
 pub count-at-spec : {M : Type 1} → statement M
 count-at-spec =
-    tie.close (tie.spec slot-read-requires slot-count-requires returns count-of-requires returns-2)
+    tie.close (tie.spec (λ c κs. search needs) (λ c κs. search needs) returns count-of-requires returns-2)

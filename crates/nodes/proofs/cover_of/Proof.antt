@@ -14,11 +14,6 @@ use Rattle.rules.specs.Layout.{read}
 use Rattle.nodes.proofs.Covers.{ahead, first, step, last, cover-none}
 use Rattle.nodes.proofs.cover_of.Statement.{statement}
 use Rattle.nodes.proofs.cover_of.Tie as tie
-use Rattle.nodes.proofs.cover_of.Reads as reads
-use Rattle.nodes.proofs.cover_of.Lts as lts
-use Rattle.geometry.proofs.cover.Reads as cover-reads
-use Rattle.pool.proofs.count_of.Reads as count-of-reads
-use Rattle.pool.proofs.rect_of.Reads as rect-of-reads
 
 -- the node's entries
 abbrev entriesOf : List ℤ → SlotNumber → List Entry
@@ -57,15 +52,6 @@ rect-of-requires-2 c κs =
     let count-of = c .before .before .before .before .count-of in
     (start .pre, omega (arith, c .loop-test .taken, count-of .ensures .0))
 
-cover-requires : tie.Need-cover-requires Inv-loop μ-loop
-cover-requires c κs = search needs
-
-add-i : tie.Need-add-i Inv-loop μ-loop
-add-i c = search needs
-
-loop-less : tie.Need-loop-less Inv-loop μ-loop
-loop-less c = search needs
-
 loop-again : tie.Need-loop-again Inv-loop μ-loop
 loop-again c =
     let s = c .before .before .before .before .before .before .before in
@@ -92,8 +78,8 @@ cover-of-spec =
     rect-of-requires
     loop-holds
     rect-of-requires-2
-    cover-requires
-    add-i
-    loop-less
+    (λ c κs. search needs)
+    (λ c. search needs)
+    (λ c. search needs)
     loop-again
     returns-2)

@@ -5,13 +5,6 @@ use Rattle.nodes.proofs.Slots.{same-entry, read-there, read-within}
 use borrow.Author.Needs.{needs}
 use Rattle.nodes.proofs.entry_at.Statement.{statement}
 use Rattle.nodes.proofs.entry_at.Tie as tie
-use Rattle.nodes.proofs.entry_at.Reads as reads
-use Rattle.nodes.proofs.entry_at.Lts as lts
-use Rattle.nodes.proofs.slot_read.Reads as slot-read-reads
-use Rattle.pool.proofs.entry_of.Reads as entry-of-reads
-
-slot-read-requires : tie.Need-slot-read-requires
-slot-read-requires c κs = search needs
 
 entry-of-requires : tie.Need-entry-of-requires
 entry-of-requires c κs =
@@ -28,4 +21,4 @@ returns c =
     c .entry-of .ensures ∙ same-entry (read (s .args .pool .now)) (t .result) (s .args .s) (s .args .i) (t .ensures .1)
 
 pub entry-at-spec : {M : Type 1} → statement M
-entry-at-spec = tie.close (tie.spec slot-read-requires entry-of-requires returns)
+entry-at-spec = tie.close (tie.spec (λ c κs. search needs) entry-of-requires returns)

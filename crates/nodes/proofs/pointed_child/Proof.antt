@@ -4,14 +4,6 @@ use Rattle.nodes.specs.Reading.{pointedChild}
 use borrow.Author.Needs.{needs}
 use Rattle.nodes.proofs.pointed_child.Statement.{statement}
 use Rattle.nodes.proofs.pointed_child.Tie as tie
-use Rattle.nodes.proofs.pointed_child.Reads as reads
-use Rattle.nodes.proofs.pointed_child.Lts as lts
-
-enum-told : tie.Need-enum-told
-enum-told c = search needs
-
-enum-known-p : tie.Need-enum-known-p
-enum-known-p c = search needs
 
 returns : tie.Need-returns
 returns c = sym (ap pointedChild (c .enum-told .given .1))
@@ -20,4 +12,4 @@ returns-2 : tie.Need-returns-2
 returns-2 c = sym (ap pointedChild (c .before .p .given .1))
 
 pub pointed-child-spec : {M : Type 1} → statement M
-pointed-child-spec = tie.close (tie.spec enum-told enum-known-p returns returns-2)
+pointed-child-spec = tie.close (tie.spec (λ c. search needs) (λ c. search needs) returns returns-2)

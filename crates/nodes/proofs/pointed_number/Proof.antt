@@ -4,14 +4,6 @@ use Rattle.nodes.specs.Reading.{pointedNumber}
 use borrow.Author.Needs.{needs}
 use Rattle.nodes.proofs.pointed_number.Statement.{statement}
 use Rattle.nodes.proofs.pointed_number.Tie as tie
-use Rattle.nodes.proofs.pointed_number.Reads as reads
-use Rattle.nodes.proofs.pointed_number.Lts as lts
-
-enum-known-p : tie.Need-enum-known-p
-enum-known-p c = search needs
-
-enum-told : tie.Need-enum-told
-enum-told c = search needs
 
 returns : tie.Need-returns
 returns c = sym (ap pointedNumber (c .before .p .given .1))
@@ -20,4 +12,4 @@ returns-2 : tie.Need-returns-2
 returns-2 c = sym (ap pointedNumber (c .enum-told .given .1))
 
 pub pointed-number-spec : {M : Type 1} → statement M
-pointed-number-spec = tie.close (tie.spec enum-known-p enum-told returns returns-2)
+pointed-number-spec = tie.close (tie.spec (λ c. search needs) (λ c. search needs) returns returns-2)

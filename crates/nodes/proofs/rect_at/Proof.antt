@@ -8,13 +8,6 @@ use Rattle.nodes.proofs.Slots.{same-entry, read-there, read-within}
 use borrow.Author.Needs.{needs}
 use Rattle.nodes.proofs.rect_at.Statement.{statement}
 use Rattle.nodes.proofs.rect_at.Tie as tie
-use Rattle.nodes.proofs.rect_at.Reads as reads
-use Rattle.nodes.proofs.rect_at.Lts as lts
-use Rattle.nodes.proofs.slot_read.Reads as slot-read-reads
-use Rattle.pool.proofs.rect_of.Reads as rect-of-reads
-
-slot-read-requires : tie.Need-slot-read-requires
-slot-read-requires c κs = search needs
 
 rect-of-requires : tie.Need-rect-of-requires
 rect-of-requires c κs =
@@ -35,4 +28,4 @@ returns c =
     ∙ ap (λ (e : Entry). e .rect) (same-entry p (t .result) (s .args .s) (s .args .i) (t .ensures .1))
 
 pub rect-at-spec : {M : Type 1} → statement M
-rect-at-spec = tie.close (tie.spec slot-read-requires rect-of-requires returns)
+rect-at-spec = tie.close (tie.spec (λ c κs. search needs) rect-of-requires returns)

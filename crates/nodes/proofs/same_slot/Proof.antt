@@ -3,8 +3,6 @@ use mathlib.Core.Path.{refl}
 use Rattle.rules.specs.Pool.{sameSlot}
 use Rattle.nodes.proofs.same_slot.Statement.{statement}
 use Rattle.nodes.proofs.same_slot.Tie as tie
-use Rattle.nodes.proofs.same_slot.Reads as reads
-use Rattle.nodes.proofs.same_slot.Lts as lts
 
 returns : tie.Need-returns
 unfolding sameSlot

@@ -11,11 +11,6 @@ use Rattle.nodes.proofs.Tight.{child-stored, inner-no-leaf, tighten-mad
 use borrow.Author.Needs.{needs}
 use Rattle.nodes.proofs.tighten.Statement.{statement}
 use Rattle.nodes.proofs.tighten.Tie as tie
-use Rattle.nodes.proofs.tighten.Reads as reads
-use Rattle.nodes.proofs.tighten.Lts as lts
-use Rattle.nodes.proofs.cover_of.Reads as cover-of-reads
-use Rattle.pool.proofs.child_of.Reads as child-of-reads
-use Rattle.pool.proofs.put_entry_of.Reads as put-entry-of-reads
 
 child-of-requires : tie.Need-child-of-requires
 child-of-requires c κs =
@@ -44,9 +39,6 @@ put-entry-of-requires c κs =
     let stored = child-stored (nodeAt (read w) (s .args .s) .level) (child .result) (h .inner) (omega (arith, high, most-slots w (f .right))) in
     (f, (within w (s .args .s) (f .right) (h .low) (h .high), (h .there, (stored .small, stored .kind))))
 
-same-length : tie.Need-same-length
-same-length c = search needs
-
 returns : tie.Need-returns
 returns c =
     let s = c .before .before .before .before .before .before .before in
@@ -61,4 +53,4 @@ returns c =
 pub tighten-spec : {M : Type 1} → statement M
 tighten-spec =
     tie.close
-    (tie.spec child-of-requires cover-of-requires put-entry-of-requires same-length returns)
+    (tie.spec child-of-requires cover-of-requires put-entry-of-requires (λ c. search needs) returns)

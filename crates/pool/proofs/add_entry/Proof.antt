@@ -13,15 +13,6 @@ use Rattle.pool.proofs.Stores.{spot-inside, more-stored}
 use borrow.Author.Needs.{needs}
 use Rattle.pool.proofs.add_entry.Statement.{statement}
 use Rattle.pool.proofs.add_entry.Tie as tie
-use Rattle.pool.proofs.add_entry.Reads as reads
-use Rattle.pool.proofs.add_entry.Lts as lts
-use Rattle.pool.proofs.count_place.Reads as count-place-reads
-use Rattle.pool.proofs.count_of.Reads as count-of-reads
-use Rattle.pool.proofs.put_entry.Reads as put-entry-reads
-use Rattle.pool.proofs.spot.Reads as spot-reads
-
-count-of-requires : tie.Need-count-of-requires
-count-of-requires c κs = search needs
 
 spot-requires : tie.Need-spot-requires
 spot-requires c κs =
@@ -40,12 +31,6 @@ put-entry-requires c κs =
 count-place-requires : tie.Need-count-place-requires
 count-place-requires c κs = let i = c .before .before .before .before .before .before .pre .1 .0 in (i .low, few i)
 
-add-pool : tie.Need-add-pool
-add-pool c = search needs
-
-cast-pool : tie.Need-cast-pool
-cast-pool c = search needs
-
 mul-t13 : tie.Need-mul-t13
 mul-t13 c =
     let start = c .before .before .before .before .before .before .before in
@@ -56,9 +41,6 @@ slice-set-from-pool c =
     let start = c .before .before .before .before .before .before .before in
     let put-entry = c .before .before .put-entry in
     omega (arith, c .count-place .ensures, put-entry .kept .0, room (start .pre .1 .0))
-
-same-length : tie.Need-same-length
-same-length c = search needs
 
 returns : tie.Need-returns
 returns c =
@@ -79,13 +61,13 @@ pub add-entry-spec : {M : Type 1} → statement M
 add-entry-spec =
     tie.close
     (tie.spec
-    count-of-requires
+    (λ c κs. search needs)
     spot-requires
     put-entry-requires
     count-place-requires
-    add-pool
-    cast-pool
+    (λ c. search needs)
+    (λ c. search needs)
     mul-t13
     slice-set-from-pool
-    same-length
+    (λ c. search needs)
     returns)

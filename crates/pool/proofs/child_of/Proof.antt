@@ -6,10 +6,6 @@ use Rattle.rules.specs.Layout.{read}
 use Rattle.pool.proofs.Written.{pointer-child, child-is, leaf-not}
 use Rattle.pool.proofs.child_of.Statement.{statement}
 use Rattle.pool.proofs.child_of.Tie as tie
-use Rattle.pool.proofs.child_of.Reads as reads
-use Rattle.pool.proofs.child_of.Lts as lts
-use Rattle.pool.proofs.pointer_place.Reads as pointer-place-reads
-use Rattle.pool.proofs.number_at.Reads as number-at-reads
 
 pointer-place-requires : tie.Need-pointer-place-requires
 pointer-place-requires c κs = let i = c .pre .0 in ((i .low, few i), omega (arith, slot-few i, c .pre .1 .0))

@@ -2,10 +2,6 @@ use native.Mathlib.Omega.{arith}
 use Rattle.pool.proofs.Parts.{few, room, slot-count}
 use Rattle.pool.proofs.count_of.Statement.{statement}
 use Rattle.pool.proofs.count_of.Tie as tie
-use Rattle.pool.proofs.count_of.Reads as reads
-use Rattle.pool.proofs.count_of.Lts as lts
-use Rattle.pool.proofs.count_place.Reads as count-place-reads
-use Rattle.pool.proofs.number_at.Reads as number-at-reads
 
 count-place-requires : tie.Need-count-place-requires
 count-place-requires c κs = let i = c .pre in (i .low, few i)

@@ -14,11 +14,6 @@ use Rattle.rules_laws.proofs.Places.{getD-alike}
 use Rattle.pool.specs.Slots.{NoneFrom}
 use Rattle.pool.proofs.entries_of.Statement.{statement}
 use Rattle.pool.proofs.entries_of.Tie as tie
-use Rattle.pool.proofs.entries_of.Reads as reads
-use Rattle.pool.proofs.entries_of.Lts as lts
-use Rattle.pool.proofs.count_of.Reads as count-of-reads
-use Rattle.pool.proofs.entry_of.Reads as entry-of-reads
-use Rattle.pool.proofs.no_entry.Reads as no-entry-reads
 
 -- the first i places hold the first i entries, and the others none
 record Turn (all : List Entry) (n : ℕ) (es : List Entry) (i : ℕ) : Type 0 where
@@ -54,9 +49,6 @@ abbrev μ-loop : tie.MeasureT-loop
 count-of-requires : tie.Need-count-of-requires Inv-loop μ-loop
 count-of-requires c κs = c .pre
 
-no-entry-requires : tie.Need-no-entry-requires Inv-loop μ-loop
-no-entry-requires c κs = search needs
-
 loop-holds : tie.Need-loop-holds Inv-loop μ-loop
 loop-holds c =
     let n = c .before .count-of .ensures in
@@ -74,12 +66,6 @@ mul-es c = omega (arith, c .before .loop-test .taken, c .before .before .loop .i
 
 array-set-from-es : tie.Need-array-set-from-es Inv-loop μ-loop
 array-set-from-es c = omega (arith, c .before .loop-test .taken, c .before .before .loop .inv .few)
-
-add-i : tie.Need-add-i Inv-loop μ-loop
-add-i c = search needs
-
-loop-less : tie.Need-loop-less Inv-loop μ-loop
-loop-less c = search needs
 
 loop-again : tie.Need-loop-again Inv-loop μ-loop
 unfolding entryAt entryFrom
@@ -101,12 +87,12 @@ entries-of-spec =
     Inv-loop
     μ-loop
     count-of-requires
-    no-entry-requires
+    (λ c κs. search needs)
     loop-holds
     entry-of-requires
     mul-es
     array-set-from-es
-    add-i
-    loop-less
+    (λ c. search needs)
+    (λ c. search needs)
     loop-again
     returns)

@@ -6,15 +6,6 @@ use Rattle.pool.proofs.Parts.{few, room, slot-few, slot-pointer}
 use borrow.Author.Needs.{needs}
 use Rattle.pool.proofs.entry_pointer.Statement.{statement}
 use Rattle.pool.proofs.entry_pointer.Tie as tie
-use Rattle.pool.proofs.entry_pointer.Reads as reads
-use Rattle.pool.proofs.entry_pointer.Lts as lts
-use Rattle.pool.proofs.pointer_place.Reads as pointer-place-reads
-use Rattle.pool.proofs.level_of.Reads as level-of-reads
-use Rattle.pool.proofs.pointer_of.Reads as pointer-of-reads
-use Rattle.pool.proofs.word.Reads as word-reads
-
-level-of-requires : tie.Need-level-of-requires
-level-of-requires c κs = search needs
 
 pointer-place-requires : tie.Need-pointer-place-requires
 pointer-place-requires c κs = let i = c .before .pre .0 in ((i .low, few i), omega (arith, slot-few i, c .before .pre .1))
@@ -23,9 +14,6 @@ word-requires : tie.Need-word-requires
 word-requires c κs =
     let s = c .before .before in
     omega (arith, room (s .pre .0), c .pointer-place .ensures, slot-few (s .pre .0), s .pre .1)
-
-pointer-of-requires : tie.Need-pointer-of-requires
-pointer-of-requires c κs = search needs
 
 returns : tie.Need-returns
 returns c =
@@ -39,8 +27,8 @@ pub entry-pointer-spec : {M : Type 1} → statement M
 entry-pointer-spec =
     tie.close
     (tie.spec
-    level-of-requires
+    (λ c κs. search needs)
     pointer-place-requires
     word-requires
-    pointer-of-requires
+    (λ c κs. search needs)
     returns)

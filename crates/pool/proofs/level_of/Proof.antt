@@ -3,10 +3,6 @@ use native.Mathlib.Omega.{arith}
 use Rattle.pool.proofs.Parts.{few, room, slot-level}
 use Rattle.pool.proofs.level_of.Statement.{statement}
 use Rattle.pool.proofs.level_of.Tie as tie
-use Rattle.pool.proofs.level_of.Reads as reads
-use Rattle.pool.proofs.level_of.Lts as lts
-use Rattle.pool.proofs.slot_start.Reads as slot-start-reads
-use Rattle.pool.proofs.number_at.Reads as number-at-reads
 
 slot-start-requires : tie.Need-slot-start-requires
 slot-start-requires c κs = let i = c .pre in (i .low, few i)

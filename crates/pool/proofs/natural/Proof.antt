@@ -2,8 +2,6 @@ use mir.Facts.{toZ-ofZ}
 use Rattle.pool.proofs.Naturals.{up, natural-up, natural-down}
 use Rattle.pool.proofs.natural.Statement.{statement}
 use Rattle.pool.proofs.natural.Tie as tie
-use Rattle.pool.proofs.natural.Reads as reads
-use Rattle.pool.proofs.natural.Lts as lts
 
 cast-result : tie.Need-cast-result
 cast-result c = let z = c .before .args .x in let e = toZ-ofZ (c .before .fits .x) in rw e (up z (rw e at (c .if1 .taken)) (c .before .fits .x))

@@ -9,15 +9,9 @@ use Rattle.pool.proofs.Written.{pointer-number, pointer-child}
 use borrow.Author.Needs.{needs}
 use Rattle.pool.proofs.pointer_of.Statement.{statement}
 use Rattle.pool.proofs.pointer_of.Tie as tie
-use Rattle.pool.proofs.pointer_of.Reads as reads
-use Rattle.pool.proofs.pointer_of.Lts as lts
-use Rattle.pool.proofs.natural.Reads as natural-reads
 
 returns : tie.Need-returns
 returns c = let s = c .before in rw (toZ-ofZ (s .fits .z)) (sym (pointer-number (s .args .level) (s .args .z) (eq-eqb _ _ (c .if1 .taken))))
-
-natural-requires : tie.Need-natural-requires
-natural-requires c κs = search needs
 
 returns-2 : tie.Need-returns-2
 returns-2 c =
@@ -26,4 +20,4 @@ returns-2 c =
     ap (λ (n : ℕ). Child (slot n)) n ∙ sym (pointer-child (s .args .level) (s .args .z) (ne-eqb _ _ (c .before .if1 .left)))
 
 pub pointer-of-spec : {M : Type 1} → statement M
-pointer-of-spec = tie.close (tie.spec returns natural-requires returns-2)
+pointer-of-spec = tie.close (tie.spec returns (λ c κs. search needs) returns-2)

@@ -7,14 +7,6 @@ use Rattle.rules.specs.Layout.{pointerWord}
 use borrow.Author.Needs.{needs}
 use Rattle.pool.proofs.pointer_word.Statement.{statement}
 use Rattle.pool.proofs.pointer_word.Tie as tie
-use Rattle.pool.proofs.pointer_word.Reads as reads
-use Rattle.pool.proofs.pointer_word.Lts as lts
-
-enum-known-p : tie.Need-enum-known-p
-enum-known-p c = search needs
-
-enum-known-p-2 : tie.Need-enum-known-p-2
-enum-known-p-2 c = search needs
 
 cast-result : tie.Need-cast-result
 cast-result c =
@@ -38,4 +30,4 @@ returns-2 c =
     toZ-pos w32 (t .0 .0 .0) (small-below (s .args .p) (t .0 .0) (t .1) (s .pre)) ∙ sym (ap pointerWord (t .1))
 
 pub pointer-word-spec : {M : Type 1} → statement M
-pointer-word-spec = tie.close (tie.spec enum-known-p enum-known-p-2 cast-result returns returns-2)
+pointer-word-spec = tie.close (tie.spec (λ c. search needs) (λ c. search needs) cast-result returns returns-2)

@@ -4,10 +4,6 @@ use Rattle.pool.proofs.Stores.{spot-inside, again-stored}
 use borrow.Author.Needs.{needs}
 use Rattle.pool.proofs.put_entry_of.Statement.{statement}
 use Rattle.pool.proofs.put_entry_of.Tie as tie
-use Rattle.pool.proofs.put_entry_of.Reads as reads
-use Rattle.pool.proofs.put_entry_of.Lts as lts
-use Rattle.pool.proofs.put_entry.Reads as put-entry-reads
-use Rattle.pool.proofs.spot.Reads as spot-reads
 
 spot-requires : tie.Need-spot-requires
 spot-requires c κs = let i = c .before .pre .1 .0 in ((i .low, few i), omega (arith, slot-few i, c .before .pre .1 .1 .0))
@@ -19,9 +15,6 @@ put-entry-requires c κs =
     let inside = spot-inside i (s .args .i) (omega (arith, slot-few i, s .pre .1 .1 .0)) in
     (omega (arith, c .spot .ensures, inside), s .pre .1 .1 .1 .0)
 
-same-length : tie.Need-same-length
-same-length c = search needs
-
 returns : tie.Need-returns
 returns c =
     let s = c .before .before .before .before in
@@ -29,4 +22,4 @@ returns c =
     rw (c .before .put-entry .ensures, c .before .before .spot .ensures) stored
 
 pub put-entry-of-spec : {M : Type 1} → statement M
-put-entry-of-spec = tie.close (tie.spec spot-requires put-entry-requires same-length returns)
+put-entry-of-spec = tie.close (tie.spec spot-requires put-entry-requires (λ c. search needs) returns)

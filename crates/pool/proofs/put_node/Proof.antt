@@ -2,17 +2,11 @@ use Rattle.pool.proofs.Written.{fine-node, put-read, put-fit}
 use borrow.Author.Needs.{needs}
 use Rattle.pool.proofs.put_node.Statement.{statement}
 use Rattle.pool.proofs.put_node.Tie as tie
-use Rattle.pool.proofs.put_node.Reads as reads
-use Rattle.pool.proofs.put_node.Lts as lts
-use Rattle.pool.proofs.write_slot.Reads as write-slot-reads
 
 write-slot-requires : tie.Need-write-slot-requires
 write-slot-requires c κs =
     let pre = c .before .pre in
     (pre .1 .0, (pre .1 .1 .0, (pre .1 .1 .1 .0, pre .1 .1 .1 .1 .0)))
-
-same-length : tie.Need-same-length
-same-length c = search needs
 
 returns : tie.Need-returns
 returns c =
@@ -24,4 +18,4 @@ returns c =
     (rw e (put-read f i g), rw e (put-fit f i g))
 
 pub put-node-spec : {M : Type 1} → statement M
-put-node-spec = tie.close (tie.spec write-slot-requires same-length returns)
+put-node-spec = tie.close (tie.spec write-slot-requires (λ c. search needs) returns)

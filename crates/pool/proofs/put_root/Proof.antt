@@ -7,23 +7,12 @@ use Rattle.pool.proofs.Written.{root-read, root-fit}
 use borrow.Author.Needs.{needs}
 use Rattle.pool.proofs.put_root.Statement.{statement}
 use Rattle.pool.proofs.put_root.Tie as tie
-use Rattle.pool.proofs.put_root.Reads as reads
-use Rattle.pool.proofs.put_root.Lts as lts
-
-cast-pool : tie.Need-cast-pool
-cast-pool c = search needs
 
 slice-set-from-pool : tie.Need-slice-set-from-pool
 slice-set-from-pool c = omega (arith, right-size (c .args .pool .now) (c .pre .0 .right))
 
-cast-pool-2 : tie.Need-cast-pool-2
-cast-pool-2 c = search needs
-
 slice-set-from-pool-2 : tie.Need-slice-set-from-pool-2
 slice-set-from-pool-2 c = rw (length-set (c .args .pool .now) _ _) (omega (arith, right-size (c .args .pool .now) (c .pre .0 .right)))
-
-same-length : tie.Need-same-length
-same-length c = search needs
 
 returns : tie.Need-returns
 returns c =
@@ -36,4 +25,4 @@ returns c =
 pub put-root-spec : {M : Type 1} → statement M
 put-root-spec =
     tie.close
-    (tie.spec cast-pool slice-set-from-pool cast-pool-2 slice-set-from-pool-2 same-length returns)
+    (tie.spec (λ c. search needs) slice-set-from-pool (λ c. search needs) slice-set-from-pool-2 (λ c. search needs) returns)

@@ -7,10 +7,6 @@ use Rattle.pool.proofs.Parts.{few, slot-few}
 use Rattle.pool.proofs.Stores.{spot-inside, spot-rect}
 use Rattle.pool.proofs.rect_of.Statement.{statement}
 use Rattle.pool.proofs.rect_of.Tie as tie
-use Rattle.pool.proofs.rect_of.Reads as reads
-use Rattle.pool.proofs.rect_of.Lts as lts
-use Rattle.pool.proofs.rect_at.Reads as rect-at-reads
-use Rattle.pool.proofs.spot.Reads as spot-reads
 
 spot-requires : tie.Need-spot-requires
 spot-requires c κs = let i = c .pre .0 in ((i .low, few i), omega (arith, slot-few i, c .pre .1))

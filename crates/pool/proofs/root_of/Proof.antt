@@ -3,9 +3,6 @@ use Rattle.pool.proofs.Parts.{right-size}
 use Rattle.rules.specs.Layout.{read}
 use Rattle.pool.proofs.root_of.Statement.{statement}
 use Rattle.pool.proofs.root_of.Tie as tie
-use Rattle.pool.proofs.root_of.Reads as reads
-use Rattle.pool.proofs.root_of.Lts as lts
-use Rattle.pool.proofs.number_at.Reads as number-at-reads
 
 number-at-requires : tie.Need-number-at-requires
 number-at-requires c κs = omega (arith, right-size (c .args .pool .now) (c .pre))

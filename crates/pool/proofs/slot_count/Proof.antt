@@ -3,8 +3,6 @@ use native.Mathlib.Omega.{arith}
 use Rattle.rules.specs.Layout.{slotCount}
 use Rattle.pool.proofs.slot_count.Statement.{statement}
 use Rattle.pool.proofs.slot_count.Tie as tie
-use Rattle.pool.proofs.slot_count.Reads as reads
-use Rattle.pool.proofs.slot_count.Lts as lts
 
 returns : tie.Need-returns
 unfolding slotCount

@@ -5,24 +5,12 @@ use Rattle.pool.proofs.Lengths.{no-slots, many-slots, by-length}
 use borrow.Author.Needs.{needs}
 use Rattle.pool.proofs.valid_length.Statement.{statement}
 use Rattle.pool.proofs.valid_length.Tie as tie
-use Rattle.pool.proofs.valid_length.Reads as reads
-use Rattle.pool.proofs.valid_length.Lts as lts
-use Rattle.pool.proofs.slot_count.Reads as slot-count-reads
-
-slot-count-requires : tie.Need-slot-count-requires
-slot-count-requires c κs = search needs
 
 returns : tie.Need-returns
 returns c = sym (no-slots (c .before .before .args .pool .now) (omega (arith, c .if1 .taken, c .before .slot-count .ensures)))
 
 returns-2 : tie.Need-returns-2
 returns-2 c = sym (many-slots (c .before .before .before .args .pool .now) (omega (arith, c .if2 .taken, c .before .before .slot-count .ensures)))
-
-mul-result : tie.Need-mul-result
-mul-result c = search needs
-
-add-result : tie.Need-add-result
-add-result c = search needs
 
 returns-3 : tie.Need-returns-3
 returns-3 c =
@@ -34,4 +22,4 @@ returns-3 c =
 
 pub valid-length-spec : {M : Type 1} → statement M
 valid-length-spec =
-    tie.close (tie.spec slot-count-requires returns returns-2 mul-result add-result returns-3)
+    tie.close (tie.spec (λ c κs. search needs) returns returns-2 (λ c. search needs) (λ c. search needs) returns-3)

@@ -7,18 +7,10 @@ use Rattle.rules.specs.Layout.{wordAt}
 use borrow.Author.Needs.{needs}
 use Rattle.pool.proofs.word.Statement.{statement}
 use Rattle.pool.proofs.word.Tie as tie
-use Rattle.pool.proofs.word.Reads as reads
-use Rattle.pool.proofs.word.Lts as lts
-
-mul-result : tie.Need-mul-result
-mul-result c = search needs
-
-shared-slice-copy-out-result : tie.Need-shared-slice-copy-out-result
-shared-slice-copy-out-result c = search needs
 
 returns : tie.Need-returns
 unfolding wordAt
 returns c = toZ-ofZ {w = w32} {z = getD (c .before .args .pool .now) (c .before .args .at) (pos 0)} (sfits-of (c .result .given))
 
 pub word-spec : {M : Type 1} → statement M
-word-spec = tie.close (tie.spec mul-result shared-slice-copy-out-result returns)
+word-spec = tie.close (tie.spec (λ c. search needs) (λ c. search needs) returns)

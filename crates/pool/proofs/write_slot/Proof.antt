@@ -16,11 +16,6 @@ use Rattle.pool.proofs.Parts.{few, room}
 use Rattle.pool.proofs.Fronts.{front, front-none, front-more, whole, used-small}
 use Rattle.pool.proofs.write_slot.Statement.{statement}
 use Rattle.pool.proofs.write_slot.Tie as tie
-use Rattle.pool.proofs.write_slot.Reads as reads
-use Rattle.pool.proofs.write_slot.Lts as lts
-use Rattle.pool.proofs.slot_start.Reads as slot-start-reads
-use Rattle.pool.proofs.put_entry.Reads as put-entry-reads
-use Rattle.pool.proofs.used.Reads as used-reads
 
 -- i entries are written, after the level and the count
 record Turn (pool₀ : List ℤ) (es : List Entry) (n at : ℕ) (pool : List ℤ) (i : ℕ) : Type 0 where
@@ -111,12 +106,6 @@ put-entry-requires c κs =
     let long = loop .inv .size in
     (omega arith, rw (c .before .used .ensures) (used-small (start .args .es) (start .args .n) (loop .i) (start .pre .1 .1 .1)))
 
-add-i : tie.Need-add-i Inv-loop μ-loop
-add-i c = search needs
-
-loop-less : tie.Need-loop-less Inv-loop μ-loop
-loop-less c = search needs
-
 loop-again : tie.Need-loop-again Inv-loop μ-loop
 loop-again c =
     let start = c .before .before .before .before .before .before .before in
@@ -180,8 +169,8 @@ write-slot-spec =
     mul-put-entry
     add-put-entry-2
     put-entry-requires
-    add-i
-    loop-less
+    (λ c. search needs)
+    (λ c. search needs)
     loop-again
     same-length
     returns)

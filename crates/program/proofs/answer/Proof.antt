@@ -20,18 +20,6 @@ found-list-requires c κs =
     let v = one-request .ensures (x .0) (x .1) in
     (v .same ∙ start .pre .1 .0, (v .work ∙ start .pre .1 .0, v .pointing))
 
-reply-lines-requires : tie.Need-reply-lines-requires
-reply-lines-requires c κs = search needs
-
-same-length : tie.Need-same-length
-same-length c = search needs
-
-same-length-2 : tie.Need-same-length-2
-same-length-2 c = search needs
-
-same-length-3 : tie.Need-same-length-3
-same-length-3 c = search needs
-
 returns : tie.Need-returns
 returns c =
     let at-found-list = c .before .before .before .before in
@@ -52,8 +40,8 @@ answer-spec =
     (tie.spec
     one-request-requires
     found-list-requires
-    reply-lines-requires
-    same-length
-    same-length-2
-    same-length-3
+    (λ c κs. search needs)
+    (λ c. search needs)
+    (λ c. search needs)
+    (λ c. search needs)
     returns)

@@ -18,12 +18,6 @@ use Rattle.program.specs.Running.{poolSize, Claims, Stands}
 use Rattle.program.proofs.First.{first-long, first-right, first-sound}
 use Rattle.program.proofs.answer_all.Statement.{statement}
 use Rattle.program.proofs.answer_all.Tie as tie
-use Rattle.program.proofs.answer_all.Reads as reads
-use Rattle.program.proofs.answer_all.Lts as lts
-use Rattle.free_slots.proofs.free_slots.Reads as free-slots-reads
-use Rattle.io.proofs.large_buffer.Reads as large-buffer-reads
-use Rattle.pool.proofs.blank.blank.Reads as blank-reads
-use Rattle.program.proofs.round.Reads as round-reads
 
 -- what has been read, what has been handed over, and that what is printed of the first is the second and what is still in the output
 record Turn (pool work : List ℤ) (input out : List ℕ) (run : Run) (rounds : ℕ) : Type 0 where
@@ -44,21 +38,6 @@ Inv-loop pool₀ work₀ input₀ out₀ run₀ rounds₀ pool work input out ru
 
 abbrev μ-loop : tie.MeasureT-loop
 μ-loop pool₀ work₀ input₀ out₀ run₀ rounds₀ pool work input out run rounds = rounds
-
-large-buffer-requires : tie.Need-large-buffer-requires Inv-loop μ-loop
-large-buffer-requires c κs = search needs
-
-large-buffer-requires-2 : tie.Need-large-buffer-requires-2 Inv-loop μ-loop
-large-buffer-requires-2 c κs = search needs
-
-slice-aggregate-blank : tie.Need-slice-aggregate-blank Inv-loop μ-loop
-slice-aggregate-blank c = search needs
-
-blank-requires : tie.Need-blank-requires Inv-loop μ-loop
-blank-requires c κs = search needs
-
-slice-aggregate-free-slots : tie.Need-slice-aggregate-free-slots Inv-loop μ-loop
-slice-aggregate-free-slots c = search needs
 
 free-slots-requires : tie.Need-free-slots-requires Inv-loop μ-loop
 free-slots-requires c κs = ap validLength (c .before .before .blank .ensures .1) ∙ first-right
@@ -89,31 +68,10 @@ loop-holds c =
       claims = subst (λ (p : List ℤ). Said [] [] 0 p []) (sym (blank .ensures .1)) said-start;
     }
 
-slice-aggregate-round : tie.Need-slice-aggregate-round Inv-loop μ-loop
-slice-aggregate-round c = search needs
-
-slice-aggregate-round-2 : tie.Need-slice-aggregate-round-2 Inv-loop μ-loop
-slice-aggregate-round-2 c = search needs
-
-slice-aggregate-round-3 : tie.Need-slice-aggregate-round-3 Inv-loop μ-loop
-slice-aggregate-round-3 c = search needs
-
-slice-aggregate-round-4 : tie.Need-slice-aggregate-round-4 Inv-loop μ-loop
-slice-aggregate-round-4 c = search needs
-
 round-requires : tie.Need-round-requires Inv-loop μ-loop
 round-requires c κs =
     let t = c .before .before .before .before .before .loop .inv in
     (t .stands, (t .words, (t .space, (omega (arith, t .inputs), (omega (arith, t .outs), omega (arith, t .counted))))))
-
-enum-known-next : tie.Need-enum-known-next Inv-loop μ-loop
-enum-known-next c = search needs
-
-sub-rounds : tie.Need-sub-rounds Inv-loop μ-loop
-sub-rounds c = omega arith
-
-loop-less : tie.Need-loop-less Inv-loop μ-loop
-loop-less c = omega arith
 
 loop-again : tie.Need-loop-again Inv-loop μ-loop
 loop-again c =
@@ -138,9 +96,6 @@ loop-again c =
       claims = o .keeps (t .arrived) (t .printed) (t .claims);
     }
 
-enum-known-status : tie.Need-enum-known-status Inv-loop μ-loop
-enum-known-status c = search needs
-
 returns : tie.Need-returns Inv-loop μ-loop
 returns c =
     let at-round = c .before .before .before .before .before .before .before in
@@ -155,8 +110,9 @@ returns c =
 
 returns-2 : tie.Need-returns-2 Inv-loop μ-loop
 returns-2 c =
-    let t = c .before .loop .inv in
-    run-endless (c .before .loop .pool) (c .before .loop .input) (c .before .loop .out) (c .before .loop .run) (t .arrived) (t .printed) (t .claims) (t .done) (omega (arith, t .all))
+    let loop = c .before .loop in
+    let t = loop .inv in
+    run-endless (loop .pool) (loop .input) (loop .out) (loop .run) (t .arrived) (t .printed) (t .claims) (t .done) (omega (arith, t .all))
 
 pub answer-all-spec : {M : Type 1} → statement M
 answer-all-spec =
@@ -164,22 +120,22 @@ answer-all-spec =
     (tie.spec
     Inv-loop
     μ-loop
-    large-buffer-requires
-    large-buffer-requires-2
-    slice-aggregate-blank
-    blank-requires
-    slice-aggregate-free-slots
+    (λ c κs. search needs)
+    (λ c κs. search needs)
+    (λ c. search needs)
+    (λ c κs. search needs)
+    (λ c. search needs)
     free-slots-requires
     loop-holds
-    slice-aggregate-round
-    slice-aggregate-round-2
-    slice-aggregate-round-3
-    slice-aggregate-round-4
+    (λ c. search needs)
+    (λ c. search needs)
+    (λ c. search needs)
+    (λ c. search needs)
     round-requires
-    enum-known-next
-    sub-rounds
-    loop-less
+    (λ c. search needs)
+    (λ c. omega arith)
+    (λ c. omega arith)
     loop-again
-    enum-known-status
+    (λ c. search needs)
     returns
     returns-2)

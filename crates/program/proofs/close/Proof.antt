@@ -3,18 +3,6 @@ use Rattle.program.proofs.Rests.{closes-all, closes-stopped}
 use borrow.Author.Needs.{needs}
 use Rattle.program.proofs.close.Statement.{statement}
 use Rattle.program.proofs.close.Tie as tie
-use Rattle.program.proofs.close.Reads as reads
-use Rattle.program.proofs.close.Lts as lts
-use Rattle.program.proofs.flush.Reads as flush-reads
-
-flush-requires : tie.Need-flush-requires
-flush-requires c κs = search needs
-
-enum-told : tie.Need-enum-told
-enum-told c = search needs
-
-enum-told-2 : tie.Need-enum-told-2
-enum-told-2 c = search needs
 
 returns : tie.Need-returns
 returns c =
@@ -29,4 +17,4 @@ returns-2 c =
     closes-stopped (start .args .run) (flush .ensures) (c .enum-told2 .given .1)
 
 pub close-spec : {M : Type 1} → statement M
-close-spec = tie.close (tie.spec flush-requires enum-told enum-told-2 returns returns-2)
+close-spec = tie.close (tie.spec (λ c κs. search needs) (λ c. search needs) (λ c. search needs) returns returns-2)

@@ -3,18 +3,6 @@ use Rattle.program.proofs.Rests.{drains-on, drains-stuck}
 use borrow.Author.Needs.{needs}
 use Rattle.program.proofs.drain.Statement.{statement}
 use Rattle.program.proofs.drain.Tie as tie
-use Rattle.program.proofs.drain.Reads as reads
-use Rattle.program.proofs.drain.Lts as lts
-use Rattle.program.proofs.flush.Reads as flush-reads
-
-flush-requires : tie.Need-flush-requires
-flush-requires c κs = search needs
-
-enum-known-r : tie.Need-enum-known-r
-enum-known-r c = search needs
-
-enum-told : tie.Need-enum-told
-enum-told c = search needs
 
 returns : tie.Need-returns
 returns c =
@@ -29,4 +17,4 @@ returns-2 c =
     drains-stuck (start .args .run) (flush .ensures) (c .enum-told .given .1)
 
 pub drain-spec : {M : Type 1} → statement M
-drain-spec = tie.close (tie.spec flush-requires enum-known-r enum-told returns returns-2)
+drain-spec = tie.close (tie.spec (λ c κs. search needs) (λ c. search needs) (λ c. search needs) returns returns-2)

@@ -8,9 +8,6 @@ use Rattle.program.specs.Moving.{mostRounds, Sends, Taken, none, more, r
 use Rattle.program.proofs.Moves.{taken-within}
 use Rattle.program.proofs.flush.Statement.{statement}
 use Rattle.program.proofs.flush.Tie as tie
-use Rattle.program.proofs.flush.Reads as reads
-use Rattle.program.proofs.flush.Lts as lts
-use Rattle.program.proofs.send.Reads as send-reads
 
 -- so much is taken, after so many tries
 record Turn (filled sent tries : ℕ) : Type 0 where
@@ -42,12 +39,6 @@ send-requires c κs =
     let loop = c .before .before .loop in
     (taken-within (start .args .run .filled) (loop .sent) (loop .inv .taken), start .pre)
 
-enum-known-next : tie.Need-enum-known-next Inv-loop μ-loop
-enum-known-next c = search needs
-
-enum-told : tie.Need-enum-told Inv-loop μ-loop
-enum-told c = search needs
-
 returns-2 : tie.Need-returns-2 Inv-loop μ-loop
 unfolding Flushes
 returns-2 c =
@@ -55,12 +46,6 @@ returns-2 c =
     let loop = c .before .before .before .before .before .loop in
     let send = c .before .before .send in
     (loop .inv .taken, refused (subst (λ (x : Sent). Sends (loop .sent) (start .args .run .filled) x) (c .enum-told .given .1) (send .ensures)))
-
-sub-tries : tie.Need-sub-tries Inv-loop μ-loop
-sub-tries c = omega arith
-
-loop-less : tie.Need-loop-less Inv-loop μ-loop
-loop-less c = omega arith
 
 loop-again : tie.Need-loop-again Inv-loop μ-loop
 loop-again c =
@@ -91,10 +76,10 @@ flush-spec =
     loop-holds
     returns
     send-requires
-    enum-known-next
-    enum-told
+    (λ c. search needs)
+    (λ c. search needs)
     returns-2
-    sub-tries
-    loop-less
+    (λ c. omega arith)
+    (λ c. omega arith)
     loop-again
     returns-3)

@@ -28,12 +28,6 @@ Inv-loop pool work listed shown found₀ k₀ found k = Turn pool work listed sh
 abbrev μ-loop : tie.MeasureT-loop
 μ-loop pool work listed shown found₀ k₀ found k = shown - k
 
-no-record-requires : tie.Need-no-record-requires Inv-loop μ-loop
-no-record-requires c κs = search needs
-
-least-requires : tie.Need-least-requires Inv-loop μ-loop
-least-requires c κs = search needs
-
 loop-holds : tie.Need-loop-holds Inv-loop μ-loop
 loop-holds c =
     let start = c .before .before in
@@ -74,9 +68,6 @@ add-k c =
     let n = min-le-right (start .args .listed) 64 in
     omega arith
 
-loop-less : tie.Need-loop-less Inv-loop μ-loop
-loop-less c = omega arith
-
 loop-again : tie.Need-loop-again Inv-loop μ-loop
 loop-again c =
     let start = c .before .before .before .before .before in
@@ -103,13 +94,13 @@ found-list-spec =
     (tie.spec
     Inv-loop
     μ-loop
-    no-record-requires
-    least-requires
+    (λ c κs. search needs)
+    (λ c κs. search needs)
     loop-holds
     item-requires
     mul-found
     array-set-from-found
     add-k
-    loop-less
+    (λ c. omega arith)
     loop-again
     returns)

@@ -6,25 +6,15 @@ use Rattle.program.specs.Running.{none, cut}
 use borrow.Author.Needs.{needs}
 use Rattle.program.proofs.last_line.Statement.{statement}
 use Rattle.program.proofs.last_line.Tie as tie
-use Rattle.program.proofs.last_line.Reads as reads
-use Rattle.program.proofs.last_line.Lts as lts
-use Rattle.frames.proofs.bad_line.Reads as bad-line-reads
-use Rattle.program.proofs.close.Reads as close-reads
 
 returns : tie.Need-returns
 returns c = none (c .if1 .taken)
-
-bad-line-requires : tie.Need-bad-line-requires
-bad-line-requires c κs = search needs
 
 close-requires : tie.Need-close-requires
 close-requires c κs =
     let start = c .before .before .before .before .before .before .before .before in
     let bad-line = c .before .before .before .bad-line in
     omega (arith, start .pre .1, bad-line .ensures .1, bad-line .kept .0)
-
-same-length : tie.Need-same-length
-same-length c = search needs
 
 returns-2 : tie.Need-returns-2
 returns-2 c =
@@ -36,4 +26,4 @@ returns-2 c =
 
 pub last-line-spec : {M : Type 1} → statement M
 last-line-spec =
-    tie.close (tie.spec returns bad-line-requires close-requires same-length returns-2)
+    tie.close (tie.spec returns (λ c κs. search needs) close-requires (λ c. search needs) returns-2)

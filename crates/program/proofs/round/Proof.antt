@@ -6,23 +6,11 @@ use Rattle.program.proofs.Rests.{full-on, waits-on, waits-few, waits-co
 use borrow.Author.Needs.{needs}
 use Rattle.program.proofs.round.Statement.{statement}
 use Rattle.program.proofs.round.Tie as tie
-use Rattle.program.proofs.round.Reads as reads
-use Rattle.program.proofs.round.Lts as lts
-use Rattle.program.proofs.close.Reads as close-reads
-use Rattle.program.proofs.drain.Reads as drain-reads
-use Rattle.program.proofs.turn.Reads as turn-reads
-use Rattle.program.proofs.wait.Reads as wait-reads
 
 turn-requires : tie.Need-turn-requires
 turn-requires c κs =
     let start = c .before .before .before .before .before .before in
     (start .pre .0, (start .pre .1 .0, (start .pre .1 .1 .0, start .pre .1 .1 .1 .1 .1)))
-
-enum-known-r : tie.Need-enum-known-r
-enum-known-r c = search needs
-
-enum-known-r-2 : tie.Need-enum-known-r-2
-enum-known-r-2 c = search needs
 
 drain-requires : tie.Need-drain-requires
 drain-requires c κs =
@@ -32,9 +20,6 @@ drain-requires c κs =
     let r2 = c .before .before .r2 in
     full-on (start .args .pool .now) (start .args .input .now) (start .args .out .now) (start .args .run) (turn .last .0)
     (turn .last .1 .1 .1 .1 .0) (turn .result) (turn .ensures) (r2 .given .0 .0) (r2 .given .1) .stands .room
-
-enum-known-r-3 : tie.Need-enum-known-r-3
-enum-known-r-3 c = search needs
 
 wait-requires : tie.Need-wait-requires
 wait-requires c κs =
@@ -64,9 +49,6 @@ wait-requires c κs =
       ),
     )
 
-enum-known-r-4 : tie.Need-enum-known-r-4
-enum-known-r-4 c = search needs
-
 close-requires : tie.Need-close-requires
 close-requires c κs =
     let at-turn = c .before .before .before .before .before .before .before .before in
@@ -75,18 +57,6 @@ close-requires c κs =
     let r4 = c .before .before .r4 in
     ends-within (start .args .pool .now) (start .args .input .now) (start .args .out .now) (start .args .run) (turn .last .0)
     (turn .last .1 .1 .1 .1 .0) (turn .result) (turn .ensures) (r4 .given .0 .0) (r4 .given .1)
-
-same-length : tie.Need-same-length
-same-length c = search needs
-
-same-length-2 : tie.Need-same-length-2
-same-length-2 c = search needs
-
-same-length-3 : tie.Need-same-length-3
-same-length-3 c = search needs
-
-same-length-4 : tie.Need-same-length-4
-same-length-4 c = search needs
 
 returns : tie.Need-returns
 returns c =
@@ -97,18 +67,6 @@ returns c =
     rounds-goes (start .args .pool .now) (start .args .input .now) (start .args .out .now) (start .args .run) (turn .last .0)
     (turn .last .1 .1 .1 .1 .0) (turn .result) (turn .ensures) (r .given .0 .0) (r .given .1)
 
-same-length-5 : tie.Need-same-length-5
-same-length-5 c = search needs
-
-same-length-6 : tie.Need-same-length-6
-same-length-6 c = search needs
-
-same-length-7 : tie.Need-same-length-7
-same-length-7 c = search needs
-
-same-length-8 : tie.Need-same-length-8
-same-length-8 c = search needs
-
 returns-2 : tie.Need-returns-2
 returns-2 c =
     let at-turn = c .before .before .before .before .before .before .before .before .before in
@@ -117,18 +75,6 @@ returns-2 c =
     let r2 = c .before .before .before .r2 in
     rounds-full (start .args .pool .now) (start .args .input .now) (start .args .out .now) (start .args .run) (turn .last .0)
     (turn .last .1 .1 .1 .1 .0) (turn .result) (turn .ensures) (r2 .given .0 .0) (r2 .given .1) (c .drain .result) (c .drain .ensures)
-
-same-length-9 : tie.Need-same-length-9
-same-length-9 c = search needs
-
-same-length-10 : tie.Need-same-length-10
-same-length-10 c = search needs
-
-same-length-11 : tie.Need-same-length-11
-same-length-11 c = search needs
-
-same-length-12 : tie.Need-same-length-12
-same-length-12 c = search needs
 
 returns-3 : tie.Need-returns-3
 returns-3 c =
@@ -140,18 +86,6 @@ returns-3 c =
     rounds-waits (start .args .pool .now) (start .args .input .now) (start .args .out .now) (start .args .run) (turn .last .0)
     (turn .last .1 .1 .1 .1 .0) (turn .result) (turn .ensures) (r3 .given .0 .0) (r3 .given .1) (wait .last .0) (wait .last .1 .0)
     (wait .result) (wait .ensures)
-
-same-length-13 : tie.Need-same-length-13
-same-length-13 c = search needs
-
-same-length-14 : tie.Need-same-length-14
-same-length-14 c = search needs
-
-same-length-15 : tie.Need-same-length-15
-same-length-15 c = search needs
-
-same-length-16 : tie.Need-same-length-16
-same-length-16 c = search needs
 
 returns-4 : tie.Need-returns-4
 returns-4 c =
@@ -168,30 +102,30 @@ round-spec =
     tie.close
     (tie.spec
     turn-requires
-    enum-known-r
-    enum-known-r-2
+    (λ c. search needs)
+    (λ c. search needs)
     drain-requires
-    enum-known-r-3
+    (λ c. search needs)
     wait-requires
-    enum-known-r-4
+    (λ c. search needs)
     close-requires
-    same-length
-    same-length-2
-    same-length-3
-    same-length-4
+    (λ c. search needs)
+    (λ c. search needs)
+    (λ c. search needs)
+    (λ c. search needs)
     returns
-    same-length-5
-    same-length-6
-    same-length-7
-    same-length-8
+    (λ c. search needs)
+    (λ c. search needs)
+    (λ c. search needs)
+    (λ c. search needs)
     returns-2
-    same-length-9
-    same-length-10
-    same-length-11
-    same-length-12
+    (λ c. search needs)
+    (λ c. search needs)
+    (λ c. search needs)
+    (λ c. search needs)
     returns-3
-    same-length-13
-    same-length-14
-    same-length-15
-    same-length-16
+    (λ c. search needs)
+    (λ c. search needs)
+    (λ c. search needs)
+    (λ c. search needs)
     returns-4)

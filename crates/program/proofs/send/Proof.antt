@@ -8,33 +8,6 @@ use native.Mathlib.Omega.{arith}
 use borrow.Author.Needs.{needs}
 use Rattle.program.proofs.send.Statement.{statement}
 use Rattle.program.proofs.send.Tie as tie
-use Rattle.program.proofs.send.Reads as reads
-use Rattle.program.proofs.send.Lts as lts
-use Rattle.libc.proofs.sched_yield.Reads as sched-yield-reads
-use Rattle.libc.proofs.write.Reads as write-reads
-use Rattle.os.proofs.errno.Reads as errno-reads
-use Rattle.program.proofs.what_moved.Reads as what-moved-reads
-
-sub-write : tie.Need-sub-write
-sub-write c = search needs
-
-part-write-start : tie.Need-part-write-start
-part-write-start c = search needs
-
-part-write-end : tie.Need-part-write-end
-part-write-end c = search needs
-
-write-requires : tie.Need-write-requires
-write-requires c κs = search needs
-
-errno-requires : tie.Need-errno-requires
-errno-requires c κs = search needs
-
-what-moved-requires : tie.Need-what-moved-requires
-what-moved-requires c κs = search needs
-
-enum-known-n : tie.Need-enum-known-n
-enum-known-n c = search needs
 
 add-t13 : tie.Need-add-t13
 add-t13 c =
@@ -49,18 +22,6 @@ add-t13 c =
           (start .pre .0) (start .pre .1) (write .ensures)
           (rw (toZ-ofZ (sfits-of (write .ok)), toZ-ofZ (sfits-of (errno .ok))) at (what-moved .ensures)) (n .given .1),
     )
-
-enum-told : tie.Need-enum-told
-enum-told c = search needs
-
-enum-told-2 : tie.Need-enum-told-2
-enum-told-2 c = search needs
-
-sched-yield-requires : tie.Need-sched-yield-requires
-sched-yield-requires c κs = search needs
-
-enum-told-3 : tie.Need-enum-told-3
-enum-told-3 c = search needs
 
 returns : tie.Need-returns
 unfolding sentBy
@@ -111,18 +72,18 @@ pub send-spec : {M : Type 1} → statement M
 send-spec =
     tie.close
     (tie.spec
-    sub-write
-    part-write-start
-    part-write-end
-    write-requires
-    errno-requires
-    what-moved-requires
-    enum-known-n
+    (λ c. search needs)
+    (λ c. search needs)
+    (λ c. search needs)
+    (λ c κs. search needs)
+    (λ c κs. search needs)
+    (λ c κs. search needs)
+    (λ c. search needs)
     add-t13
-    enum-told
-    enum-told-2
-    sched-yield-requires
-    enum-told-3
+    (λ c. search needs)
+    (λ c. search needs)
+    (λ c κs. search needs)
+    (λ c. search needs)
     returns
     returns-2
     returns-3

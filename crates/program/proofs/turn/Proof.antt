@@ -7,34 +7,11 @@ use Rattle.program.proofs.Steps.{onward-full, onward-waits, onward-goes
 use borrow.Author.Needs.{needs}
 use Rattle.program.proofs.turn.Statement.{statement}
 use Rattle.program.proofs.turn.Tie as tie
-use Rattle.program.proofs.turn.Reads as reads
-use Rattle.program.proofs.turn.Lts as lts
-use Rattle.frames.proofs.bad_line.Reads as bad-line-reads
-use Rattle.frames.proofs.read_frame.Reads as read-frame-reads
-use Rattle.program.proofs.answer.Reads as answer-reads
-
-sub-if1 : tie.Need-sub-if1
-sub-if1 c = search needs
 
 returns : tie.Need-returns
 returns c =
     let start = c .before .before .before .before in
     onward-full (start .pre .0)
-
-sub-read-frame : tie.Need-sub-read-frame
-sub-read-frame c = search needs
-
-part-read-frame-start : tie.Need-part-read-frame-start
-part-read-frame-start c = search needs
-
-part-read-frame-end : tie.Need-part-read-frame-end
-part-read-frame-end c = search needs
-
-read-frame-requires : tie.Need-read-frame-requires
-read-frame-requires c κs = search needs
-
-enum-known-request : tie.Need-enum-known-request
-enum-known-request c = search needs
 
 answer-requires : tie.Need-answer-requires
 answer-requires c κs =
@@ -70,24 +47,6 @@ add-t31 c =
     let e = sym (read-frame .ensures) ∙ request .given .1 in
     omega (arith, asks-in (start .pre .0) (request .given .0 .0) (request .given .0 .1 .0) e, start .pre .0 .high)
 
-enum-told : tie.Need-enum-told
-enum-told c = search needs
-
-enum-told-2 : tie.Need-enum-told-2
-enum-told-2 c = search needs
-
-bad-line-requires : tie.Need-bad-line-requires
-bad-line-requires c κs = search needs
-
-same-length : tie.Need-same-length
-same-length c = search needs
-
-same-length-2 : tie.Need-same-length-2
-same-length-2 c = search needs
-
-same-length-3 : tie.Need-same-length-3
-same-length-3 c = search needs
-
 returns-2 : tie.Need-returns-2
 returns-2 c =
     let at-request = c .before .before .before .before .before .before .before .before .before .before in
@@ -107,9 +66,6 @@ returns-3 c =
     let e = sym (read-frame .ensures) ∙ c .enum-told .given .1 in
     onward-waits (start .pre .0) e
 
-same-length-4 : tie.Need-same-length-4
-same-length-4 c = search needs
-
 returns-4 : tie.Need-returns-4
 returns-4 c =
     let start = c .before .before .before .before .before .before .before .before .before .before .before .before in
@@ -124,23 +80,23 @@ pub turn-spec : {M : Type 1} → statement M
 turn-spec =
     tie.close
     (tie.spec
-    sub-if1
+    (λ c. search needs)
     returns
-    sub-read-frame
-    part-read-frame-start
-    part-read-frame-end
-    read-frame-requires
-    enum-known-request
+    (λ c. search needs)
+    (λ c. search needs)
+    (λ c. search needs)
+    (λ c κs. search needs)
+    (λ c. search needs)
     answer-requires
     add-t30
     add-t31
-    enum-told
-    enum-told-2
-    bad-line-requires
-    same-length
-    same-length-2
-    same-length-3
+    (λ c. search needs)
+    (λ c. search needs)
+    (λ c κs. search needs)
+    (λ c. search needs)
+    (λ c. search needs)
+    (λ c. search needs)
     returns-2
     returns-3
-    same-length-4
+    (λ c. search needs)
     returns-4)

@@ -7,23 +7,6 @@ use borrow.Author.Needs.{sfits-of}
 use borrow.Author.Needs.{needs}
 use Rattle.program.proofs.wait.Statement.{statement}
 use Rattle.program.proofs.wait.Tie as tie
-use Rattle.program.proofs.wait.Reads as reads
-use Rattle.program.proofs.wait.Lts as lts
-use Rattle.program.proofs.flush.Reads as flush-reads
-use Rattle.program.proofs.last_line.Reads as last-line-reads
-use Rattle.program.proofs.receive.Reads as receive-reads
-
-flush-requires : tie.Need-flush-requires
-flush-requires c κs = search needs
-
-enum-known-next : tie.Need-enum-known-next
-enum-known-next c = search needs
-
-enum-told : tie.Need-enum-told
-enum-told c = search needs
-
-same-length : tie.Need-same-length
-same-length c = search needs
 
 returns : tie.Need-returns
 returns c =
@@ -42,12 +25,6 @@ receive-requires c κs =
       omega (arith, e .at, e .end, start .pre .1 .0),
     )
 
-enum-known-r : tie.Need-enum-known-r
-enum-known-r c = search needs
-
-enum-known-r-2 : tie.Need-enum-known-r-2
-enum-known-r-2 c = search needs
-
 last-line-requires : tie.Need-last-line-requires
 last-line-requires c κs =
     let at-receive = c .before .before .before .before .before .before in
@@ -62,15 +39,6 @@ last-line-requires c κs =
     let k = ended-held low (omega (arith, e .end, start .pre .0 .1, receive .kept .0)) (receive .ensures) (r2 .given .1) in
     (omega (arith, k .before, e .before, start .pre .1 .1 .1), start .pre .1 .1 .0 .1)
 
-enum-told-2 : tie.Need-enum-told-2
-enum-told-2 c = search needs
-
-same-length-2 : tie.Need-same-length-2
-same-length-2 c = search needs
-
-same-length-3 : tie.Need-same-length-3
-same-length-3 c = search needs
-
 returns-2 : tie.Need-returns-2
 returns-2 c =
     let at-next = c .before .before .before .before .before .before .before .before in
@@ -81,12 +49,6 @@ returns-2 c =
     let r = c .before .r in
     waited-came (start .args .input .now) (start .args .out .now) (start .args .run) (next .given .0 .0) (flush .ensures) (next .given .1)
     (receive .last .0) (receive .ensures) (receive .kept .0) (r .given .0 .0) (r .given .1)
-
-same-length-4 : tie.Need-same-length-4
-same-length-4 c = search needs
-
-same-length-5 : tie.Need-same-length-5
-same-length-5 c = search needs
 
 returns-3 : tie.Need-returns-3
 returns-3 c =
@@ -102,12 +64,6 @@ returns-3 c =
     (receive .last .0) (receive .ensures) (receive .kept .0) (r2 .given .0 .0) (r2 .given .1) (last-line .last .0) (last-line .result)
     (last-line .ensures))
 
-same-length-6 : tie.Need-same-length-6
-same-length-6 c = search needs
-
-same-length-7 : tie.Need-same-length-7
-same-length-7 c = search needs
-
 returns-4 : tie.Need-returns-4
 returns-4 c =
     let at-next = c .before .before .before .before .before .before .before in
@@ -122,22 +78,22 @@ pub wait-spec : {M : Type 1} → statement M
 wait-spec =
     tie.close
     (tie.spec
-    flush-requires
-    enum-known-next
-    enum-told
-    same-length
+    (λ c κs. search needs)
+    (λ c. search needs)
+    (λ c. search needs)
+    (λ c. search needs)
     returns
     receive-requires
-    enum-known-r
-    enum-known-r-2
+    (λ c. search needs)
+    (λ c. search needs)
     last-line-requires
-    enum-told-2
-    same-length-2
-    same-length-3
+    (λ c. search needs)
+    (λ c. search needs)
+    (λ c. search needs)
     returns-2
-    same-length-4
-    same-length-5
+    (λ c. search needs)
+    (λ c. search needs)
     returns-3
-    same-length-6
-    same-length-7
+    (λ c. search needs)
+    (λ c. search needs)
     returns-4)

@@ -6,12 +6,6 @@ use Rattle.program.proofs.Moves.{moved-refused, moved-nothing, moved-by
 use borrow.Author.Needs.{needs}
 use Rattle.program.proofs.what_moved.Statement.{statement}
 use Rattle.program.proofs.what_moved.Tie as tie
-use Rattle.program.proofs.what_moved.Reads as reads
-use Rattle.program.proofs.what_moved.Lts as lts
-use Rattle.program.proofs.try_again.Reads as try-again-reads
-
-try-again-requires : tie.Need-try-again-requires
-try-again-requires c κs = search needs
 
 returns : tie.Need-returns
 returns c =
@@ -44,4 +38,4 @@ returns-4 c =
 
 pub what-moved-spec : {M : Type 1} → statement M
 what-moved-spec =
-    tie.close (tie.spec try-again-requires returns returns-2 cast-n returns-3 returns-4)
+    tie.close (tie.spec (λ c κs. search needs) returns returns-2 cast-n returns-3 returns-4)

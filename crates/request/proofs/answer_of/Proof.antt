@@ -3,51 +3,6 @@ use Rattle.request.proofs.Cases.{tell-changed, tell-listed, tell-rectan
 use borrow.Author.Needs.{needs}
 use Rattle.request.proofs.answer_of.Statement.{statement}
 use Rattle.request.proofs.answer_of.Tie as tie
-use Rattle.request.proofs.answer_of.Reads as reads
-use Rattle.request.proofs.answer_of.Lts as lts
-use Rattle.request.proofs.zeros.Reads as zeros-reads
-
-enum-told : tie.Need-enum-told
-enum-told c = search needs
-
-zeros-requires : tie.Need-zeros-requires
-zeros-requires c κs = search needs
-
-enum-known-reply : tie.Need-enum-known-reply
-enum-known-reply c = search needs
-
-enum-told-2 : tie.Need-enum-told-2
-enum-told-2 c = search needs
-
-zeros-requires-2 : tie.Need-zeros-requires-2
-zeros-requires-2 c κs = search needs
-
-enum-told-3 : tie.Need-enum-told-3
-enum-told-3 c = search needs
-
-zeros-requires-3 : tie.Need-zeros-requires-3
-zeros-requires-3 c κs = search needs
-
-enum-told-4 : tie.Need-enum-told-4
-enum-told-4 c = search needs
-
-zeros-requires-4 : tie.Need-zeros-requires-4
-zeros-requires-4 c κs = search needs
-
-enum-told-5 : tie.Need-enum-told-5
-enum-told-5 c = search needs
-
-zeros-requires-5 : tie.Need-zeros-requires-5
-zeros-requires-5 c κs = search needs
-
-enum-told-6 : tie.Need-enum-told-6
-enum-told-6 c = search needs
-
-zeros-requires-6 : tie.Need-zeros-requires-6
-zeros-requires-6 c κs = search needs
-
-enum-known-reply-2 : tie.Need-enum-known-reply-2
-enum-known-reply-2 c = search needs
 
 returns : tie.Need-returns
 returns c = c .zeros .ensures ∙ tell-changed (c .before .before .before .args .reply) (c .before .enum-told .given .1)
@@ -77,20 +32,20 @@ pub answer-of-spec : {M : Type 1} → statement M
 answer-of-spec =
     tie.close
     (tie.spec
-    enum-told
-    zeros-requires
-    enum-known-reply
-    enum-told-2
-    zeros-requires-2
-    enum-told-3
-    zeros-requires-3
-    enum-told-4
-    zeros-requires-4
-    enum-told-5
-    zeros-requires-5
-    enum-told-6
-    zeros-requires-6
-    enum-known-reply-2
+    (λ c. search needs)
+    (λ c κs. search needs)
+    (λ c. search needs)
+    (λ c. search needs)
+    (λ c κs. search needs)
+    (λ c. search needs)
+    (λ c κs. search needs)
+    (λ c. search needs)
+    (λ c κs. search needs)
+    (λ c. search needs)
+    (λ c κs. search needs)
+    (λ c. search needs)
+    (λ c κs. search needs)
+    (λ c. search needs)
     returns
     returns-2
     returns-3

@@ -6,12 +6,6 @@ use mathlib.Core.Path.{sym, _∙_}
 use borrow.Author.Needs.{needs}
 use Rattle.request.proofs.asked.Statement.{statement}
 use Rattle.request.proofs.asked.Tie as tie
-use Rattle.request.proofs.asked.Reads as reads
-use Rattle.request.proofs.asked.Lts as lts
-use Rattle.geometry.proofs.same.Reads as same-reads
-
-same-requires : tie.Need-same-requires
-same-requires c κs = search needs
 
 returns : tie.Need-returns
 returns c =
@@ -20,9 +14,6 @@ returns c =
     asks-insert (start .args .q)
     (sym (rw (toZ-ofZ {w = w32} {z = start .args .q .kind} (sfits-of (struct-told .given .0 .1))) at (c .before .same .ensures))
     ∙ c .if1 .taken)
-
-same-requires-2 : tie.Need-same-requires-2
-same-requires-2 c κs = search needs
 
 returns-2 : tie.Need-returns-2
 returns-2 c =
@@ -34,9 +25,6 @@ returns-2 c =
     (sym (rw (toZ-ofZ {w = w32} {z = start .args .q .kind} (sfits-of (struct-told .given .0 .1))) at (same .ensures)) ∙ if1 .left)
     (sym (rw (toZ-ofZ {w = w32} {z = start .args .q .kind} (sfits-of (struct-told .given .0 .1))) at (c .before .same2 .ensures))
     ∙ c .if2 .taken)
-
-same-requires-3 : tie.Need-same-requires-3
-same-requires-3 c κs = search needs
 
 returns-3 : tie.Need-returns-3
 returns-3 c =
@@ -69,4 +57,4 @@ returns-4 c =
 pub asked-spec : {M : Type 1} → statement M
 asked-spec =
     tie.close
-    (tie.spec same-requires returns same-requires-2 returns-2 same-requires-3 returns-3 returns-4)
+    (tie.spec (λ c κs. search needs) returns (λ c κs. search needs) returns-2 (λ c κs. search needs) returns-3 returns-4)

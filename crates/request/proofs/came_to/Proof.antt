@@ -3,21 +3,6 @@ use Rattle.request.proofs.Turns.{came-made, came-refused}
 use borrow.Author.Needs.{needs}
 use Rattle.request.proofs.came_to.Statement.{statement}
 use Rattle.request.proofs.came_to.Tie as tie
-use Rattle.request.proofs.came_to.Reads as reads
-use Rattle.request.proofs.came_to.Lts as lts
-use Rattle.request.proofs.told.Reads as told-reads
-
-enum-known-o : tie.Need-enum-known-o
-enum-known-o c = search needs
-
-told-requires : tie.Need-told-requires
-told-requires c κs = search needs
-
-enum-told : tie.Need-enum-told
-enum-told c = search needs
-
-told-requires-2 : tie.Need-told-requires-2
-told-requires-2 c κs = search needs
 
 returns : tie.Need-returns
 returns c =
@@ -32,4 +17,4 @@ returns-2 c =
 
 pub came-to-spec : {M : Type 1} → statement M
 came-to-spec =
-    tie.close (tie.spec enum-known-o told-requires enum-told told-requires-2 returns returns-2)
+    tie.close (tie.spec (λ c. search needs) (λ c κs. search needs) (λ c. search needs) (λ c κs. search needs) returns returns-2)

@@ -14,8 +14,6 @@ use lib.Seq.{getD-set-same, getD-set-other, ext-getD}
 use lib.IntN.{ℤ, pos}
 use Rattle.request.proofs.copy.Statement.{statement}
 use Rattle.request.proofs.copy.Tie as tie
-use Rattle.request.proofs.copy.Reads as reads
-use Rattle.request.proofs.copy.Lts as lts
 
 -- the first i words are copied
 record Turn (source target₀ target : List ℤ) (i : ℕ) : Type 0 where
@@ -42,23 +40,11 @@ abbrev μ-loop : tie.MeasureT-loop
 loop-holds : tie.Need-loop-holds Inv-loop μ-loop
 loop-holds c = record { most = omega arith; size = refl; is = λ k b. absurd (omega arith) }
 
-mul-target : tie.Need-mul-target Inv-loop μ-loop
-mul-target c = search needs
-
 shared-slice-copy-out-target : tie.Need-shared-slice-copy-out-target Inv-loop μ-loop
 shared-slice-copy-out-target c = omega (arith, c .before .before .pre, c .before .loop .inv .size, c .loop-test .taken)
 
-mul-t8 : tie.Need-mul-t8 Inv-loop μ-loop
-mul-t8 c = search needs
-
 slice-set-from-target : tie.Need-slice-set-from-target Inv-loop μ-loop
 slice-set-from-target c = omega (arith, c .before .before .loop .inv .size, c .before .loop-test .taken)
-
-add-i : tie.Need-add-i Inv-loop μ-loop
-add-i c = search needs
-
-loop-less : tie.Need-loop-less Inv-loop μ-loop
-loop-less c = search needs
 
 loop-again : tie.Need-loop-again Inv-loop μ-loop
 loop-again c =
@@ -87,12 +73,12 @@ copy-spec =
     Inv-loop
     μ-loop
     loop-holds
-    mul-target
+    (λ c. search needs)
     shared-slice-copy-out-target
-    mul-t8
+    (λ c. search needs)
     slice-set-from-target
-    add-i
-    loop-less
+    (λ c. search needs)
+    (λ c. search needs)
     loop-again
     same-length
     returns)

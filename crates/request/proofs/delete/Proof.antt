@@ -8,23 +8,6 @@ use Rattle.request.proofs.Rows.{delete-3, delete-4, delete-5}
 use borrow.Author.Needs.{needs}
 use Rattle.request.proofs.delete.Statement.{statement}
 use Rattle.request.proofs.delete.Tie as tie
-use Rattle.request.proofs.delete.Reads as reads
-use Rattle.request.proofs.delete.Lts as lts
-use Rattle.geometry.proofs.valid.Reads as valid-reads
-use Rattle.find_leaf.proofs.find_leaf.Reads as find-leaf-reads
-use Rattle.delete.proofs.delete_record.Reads as delete-record-reads
-use Rattle.request.proofs.came_to.Reads as came-to-reads
-use Rattle.request.proofs.good_number.Reads as good-number-reads
-use Rattle.request.proofs.keep.Reads as keep-reads
-use Rattle.request.proofs.scarce.Reads as scarce-reads
-use Rattle.request.proofs.take_back.Reads as take-back-reads
-use Rattle.request.proofs.told.Reads as told-reads
-
-valid-requires : tie.Need-valid-requires
-valid-requires c κs = search needs
-
-told-requires : tie.Need-told-requires
-told-requires c κs = search needs
 
 returns : tie.Need-returns
 returns c =
@@ -35,12 +18,6 @@ returns c =
           (λ filled room. delete-3 _ filled room (start .args .r) (sym (valid .ensures) ∙ not-true _ (c .before .if1 .taken))),
       refl,
     )
-
-good-number-requires : tie.Need-good-number-requires
-good-number-requires c κs = search needs
-
-told-requires-2 : tie.Need-told-requires-2
-told-requires-2 c κs = search needs
 
 returns-2 : tie.Need-returns-2
 returns-2 c =
@@ -62,12 +39,6 @@ find-leaf-requires c κs =
       (low-enough (start .args .pool .now) ((start .pre .0) .right)
           (ready-whole (start .args .pool .now) (start .args .free) (start .pre .0))),
     )
-
-told-requires-3 : tie.Need-told-requires-3
-told-requires-3 c κs = search needs
-
-same-length : tie.Need-same-length
-same-length c = search needs
 
 returns-3 : tie.Need-returns-3
 returns-3 c =
@@ -121,15 +92,6 @@ take-back-requires c κs =
     let delete-record = c .before .before .before .delete-record in
     keep .ensures .0 ∙ start .pre .1 ∙ sym (delete-record .kept .0)
 
-came-to-requires : tie.Need-came-to-requires
-came-to-requires c κs = search needs
-
-same-length-2 : tie.Need-same-length-2
-same-length-2 c = search needs
-
-same-length-3 : tie.Need-same-length-3
-same-length-3 c = search needs
-
 returns-4 : tie.Need-returns-4
 returns-4 c =
     let at-scarce = c .before .before .before .before .before .before .before .before .before .before in
@@ -158,21 +120,21 @@ pub delete-spec : {M : Type 1} → statement M
 delete-spec =
     tie.close
     (tie.spec
-    valid-requires
-    told-requires
+    (λ c κs. search needs)
+    (λ c κs. search needs)
     returns
-    good-number-requires
-    told-requires-2
+    (λ c κs. search needs)
+    (λ c κs. search needs)
     returns-2
     find-leaf-requires
-    told-requires-3
-    same-length
+    (λ c κs. search needs)
+    (λ c. search needs)
     returns-3
     scarce-requires
     keep-requires
     delete-record-requires
     take-back-requires
-    came-to-requires
-    same-length-2
-    same-length-3
+    (λ c κs. search needs)
+    (λ c. search needs)
+    (λ c. search needs)
     returns-4)

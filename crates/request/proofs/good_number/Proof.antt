@@ -5,16 +5,10 @@ use Rattle.rules.specs.Numbers.{goodNumber}
 use borrow.Author.Needs.{needs}
 use Rattle.request.proofs.good_number.Statement.{statement}
 use Rattle.request.proofs.good_number.Tie as tie
-use Rattle.request.proofs.good_number.Reads as reads
-use Rattle.request.proofs.good_number.Lts as lts
-use Rattle.geometry.proofs.le.Reads as le-reads
-
-le-requires : tie.Need-le-requires
-le-requires c κs = search needs
 
 returns : tie.Need-returns
 unfolding goodNumber
 returns c = rw (toZ-ofZ {w = w32} {z = c .before .before .args .n .0} (sfits-of (c .before .struct-told .given .0 .1))) at (c .le .ensures)
 
 pub good-number-spec : {M : Type 1} → statement M
-good-number-spec = tie.close (tie.spec le-requires returns)
+good-number-spec = tie.close (tie.spec (λ c κs. search needs) returns)

@@ -7,20 +7,6 @@ use Rattle.request.proofs.Rows.{insert-3, insert-4, insert-6}
 use borrow.Author.Needs.{needs}
 use Rattle.request.proofs.insert.Statement.{statement}
 use Rattle.request.proofs.insert.Tie as tie
-use Rattle.request.proofs.insert.Reads as reads
-use Rattle.request.proofs.insert.Lts as lts
-use Rattle.geometry.proofs.valid.Reads as valid-reads
-use Rattle.insert.proofs.insert_record.Reads as insert-record-reads
-use Rattle.find_leaf.proofs.holds.Reads as holds-reads
-use Rattle.request.proofs.came_to.Reads as came-to-reads
-use Rattle.request.proofs.good_number.Reads as good-number-reads
-use Rattle.request.proofs.told.Reads as told-reads
-
-valid-requires : tie.Need-valid-requires
-valid-requires c κs = search needs
-
-told-requires : tie.Need-told-requires
-told-requires c κs = search needs
 
 returns : tie.Need-returns
 returns c =
@@ -29,12 +15,6 @@ returns c =
     rw (c .told .ensures)
     (row-applies (start .args .pool .now) (start .args .free) (start .pre) (Insert (start .args .r)) BadRectangle
     (λ filled room. insert-3 _ filled room (start .args .r) (sym (valid .ensures) ∙ not-true _ (c .before .if1 .taken))))
-
-good-number-requires : tie.Need-good-number-requires
-good-number-requires c κs = search needs
-
-told-requires-2 : tie.Need-told-requires-2
-told-requires-2 c κs = search needs
 
 returns-2 : tie.Need-returns-2
 returns-2 c =
@@ -51,12 +31,6 @@ holds-requires : tie.Need-holds-requires
 holds-requires c κs =
     let start = c .before .before .before .before .before .before .before in
     (start .pre .right, ready-whole (start .args .pool .now) (start .args .free) (start .pre))
-
-told-requires-3 : tie.Need-told-requires-3
-told-requires-3 c κs = search needs
-
-same-length : tie.Need-same-length
-same-length c = search needs
 
 returns-3 : tie.Need-returns-3
 returns-3 c =
@@ -85,12 +59,6 @@ insert-record-requires c κs =
       ),
     )
 
-came-to-requires : tie.Need-came-to-requires
-came-to-requires c κs = search needs
-
-same-length-2 : tie.Need-same-length-2
-same-length-2 c = search needs
-
 returns-4 : tie.Need-returns-4
 returns-4 c =
     let at-if2 = c .before .before .before .before .before .before .before in
@@ -111,17 +79,17 @@ pub insert-spec : {M : Type 1} → statement M
 insert-spec =
     tie.close
     (tie.spec
-    valid-requires
-    told-requires
+    (λ c κs. search needs)
+    (λ c κs. search needs)
     returns
-    good-number-requires
-    told-requires-2
+    (λ c κs. search needs)
+    (λ c κs. search needs)
     returns-2
     holds-requires
-    told-requires-3
-    same-length
+    (λ c κs. search needs)
+    (λ c. search needs)
     returns-3
     insert-record-requires
-    came-to-requires
-    same-length-2
+    (λ c κs. search needs)
+    (λ c. search needs)
     returns-4)

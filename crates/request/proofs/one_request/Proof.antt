@@ -10,51 +10,29 @@ use Rattle.request.proofs.Listing.{quiet}
 use borrow.Author.Needs.{needs}
 use Rattle.request.proofs.one_request.Statement.{statement}
 use Rattle.request.proofs.one_request.Tie as tie
-use Rattle.request.proofs.one_request.Reads as reads
-use Rattle.request.proofs.one_request.Lts as lts
-use Rattle.request.proofs.asked.Reads as asked-reads
-use Rattle.request.proofs.delete.Reads as delete-reads
-use Rattle.request.proofs.insert.Reads as insert-reads
-use Rattle.request.proofs.search.Reads as search-reads
-use Rattle.request.proofs.update.Reads as update-reads
 
 asked-requires : tie.Need-asked-requires
 asked-requires c κs = c .pre .1 .1 .0
-
-enum-known-r : tie.Need-enum-known-r
-enum-known-r c = search needs
 
 insert-requires : tie.Need-insert-requires
 insert-requires c κs =
     let start = c .before .before .before .before .before in
     start .pre .0
 
-enum-known-r-2 : tie.Need-enum-known-r-2
-enum-known-r-2 c = search needs
-
 delete-requires : tie.Need-delete-requires
 delete-requires c κs =
     let start = c .before .before .before .before .before .before in
     (start .pre .0, start .pre .1 .0)
-
-enum-known-old : tie.Need-enum-known-old
-enum-known-old c = search needs
 
 update-requires : tie.Need-update-requires
 update-requires c κs =
     let start = c .before .before .before .before .before .before in
     (start .pre .0, start .pre .1 .0)
 
-enum-known-window : tie.Need-enum-known-window
-enum-known-window c = search needs
-
 search-requires : tie.Need-search-requires
 search-requires c κs =
     let start = c .before .before .before .before .before .before in
     (start .pre .0, (start .pre .1 .0, start .pre .1 .1 .1))
-
-same-length : tie.Need-same-length
-same-length c = search needs
 
 returns : tie.Need-returns
 returns c =
@@ -65,12 +43,6 @@ returns c =
     (request ours (read (start .args .pool .now)) (start .args .filled) (start .args .room) a) _ _ _) (start .args .q) _
     (asked .ensures ∙ ap some (r .given .1))
     (quiet _ _ _ _ _ (start .pre .1 .0) (c .before .insert .ensures (start .args .filled) (start .args .room)))
-
-same-length-2 : tie.Need-same-length-2
-same-length-2 c = search needs
-
-same-length-3 : tie.Need-same-length-3
-same-length-3 c = search needs
 
 returns-2 : tie.Need-returns-2
 returns-2 c =
@@ -83,12 +55,6 @@ returns-2 c =
     (asked .ensures ∙ ap some (r2 .given .1))
     (quiet _ _ _ _ _ (delete .ensures .1 ∙ start .pre .1 .0) (delete .ensures .0 (start .args .filled) (start .args .room)))
 
-same-length-4 : tie.Need-same-length-4
-same-length-4 c = search needs
-
-same-length-5 : tie.Need-same-length-5
-same-length-5 c = search needs
-
 returns-3 : tie.Need-returns-3
 returns-3 c =
     let start = c .before .before .before .before .before .before .before .before .before in
@@ -99,12 +65,6 @@ returns-3 c =
     (request ours (read (start .args .pool .now)) (start .args .filled) (start .args .room) a) _ _ _) (start .args .q) _
     (asked .ensures ∙ ap some (old .given .1))
     (quiet _ _ _ _ _ (update .ensures .1 ∙ start .pre .1 .0) (update .ensures .0 (start .args .filled) (start .args .room)))
-
-same-length-6 : tie.Need-same-length-6
-same-length-6 c = search needs
-
-same-length-7 : tie.Need-same-length-7
-same-length-7 c = search needs
 
 returns-4 : tie.Need-returns-4
 returns-4 c =
@@ -120,22 +80,22 @@ one-request-spec =
     tie.close
     (tie.spec
     asked-requires
-    enum-known-r
+    (λ c. search needs)
     insert-requires
-    enum-known-r-2
+    (λ c. search needs)
     delete-requires
-    enum-known-old
+    (λ c. search needs)
     update-requires
-    enum-known-window
+    (λ c. search needs)
     search-requires
-    same-length
+    (λ c. search needs)
     returns
-    same-length-2
-    same-length-3
+    (λ c. search needs)
+    (λ c. search needs)
     returns-2
-    same-length-4
-    same-length-5
+    (λ c. search needs)
+    (λ c. search needs)
     returns-3
-    same-length-6
-    same-length-7
+    (λ c. search needs)
+    (λ c. search needs)
     returns-4)

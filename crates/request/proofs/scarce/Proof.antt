@@ -7,19 +7,6 @@ use Rattle.request.proofs.Turns.{enough-is, back-small}
 use borrow.Author.Needs.{needs}
 use Rattle.request.proofs.scarce.Statement.{statement}
 use Rattle.request.proofs.scarce.Tie as tie
-use Rattle.request.proofs.scarce.Reads as reads
-use Rattle.request.proofs.scarce.Lts as lts
-use Rattle.pool.proofs.height_of.Reads as height-of-reads
-use Rattle.request.proofs.most_back.Reads as most-back-reads
-
-height-of-requires : tie.Need-height-of-requires
-height-of-requires c κs = search needs
-
-most-back-requires : tie.Need-most-back-requires
-most-back-requires c κs = search needs
-
-add-result : tie.Need-add-result
-add-result c = search needs
 
 mul-result : tie.Need-mul-result
 mul-result c =
@@ -29,12 +16,6 @@ mul-result c =
     let low : height-of .result ≤ 8 = rw (height-of .ensures) (start .pre .1) in
     let n = c .most-back .ensures .1 in
     record { fits = omega (arith, few) }
-
-add-result-2 : tie.Need-add-result-2
-add-result-2 c = search needs
-
-add-result-3 : tie.Need-add-result-3
-add-result-3 c = search needs
 
 add-result-4 : tie.Need-add-result-4
 add-result-4 c =
@@ -57,11 +38,11 @@ pub scarce-spec : {M : Type 1} → statement M
 scarce-spec =
     tie.close
     (tie.spec
-    height-of-requires
-    most-back-requires
-    add-result
+    (λ c κs. search needs)
+    (λ c κs. search needs)
+    (λ c. search needs)
     mul-result
-    add-result-2
-    add-result-3
+    (λ c. search needs)
+    (λ c. search needs)
     add-result-4
     returns)

@@ -7,19 +7,6 @@ use Rattle.found_items.specs.Items.{Pointing}
 use borrow.Author.Needs.{needs}
 use Rattle.request.proofs.search.Statement.{statement}
 use Rattle.request.proofs.search.Tie as tie
-use Rattle.request.proofs.search.Reads as reads
-use Rattle.request.proofs.search.Lts as lts
-use Rattle.geometry.proofs.valid.Reads as valid-reads
-use Rattle.request.proofs.answer_of.Reads as answer-of-reads
-use Rattle.request.proofs.told.Reads as told-reads
-use Rattle.search.proofs.list.Reads as list-reads
-use Rattle.found_order.proofs.sort.Reads as sort-reads
-
-valid-requires : tie.Need-valid-requires
-valid-requires c κs = search needs
-
-told-requires : tie.Need-told-requires
-told-requires c κs = search needs
 
 returns : tie.Need-returns
 returns c =
@@ -47,15 +34,6 @@ cast-found c =
       fits = omega (arith, walk-small (start .args .pool .now) (start .args .free) (start .pre .0) (start .args .window), list .ensures .0);
     }
 
-cast-opened : tie.Need-cast-opened
-cast-opened c = search needs
-
-told-requires-2 : tie.Need-told-requires-2
-told-requires-2 c κs = search needs
-
-same-length : tie.Need-same-length
-same-length c = search needs
-
 returns-2 : tie.Need-returns-2
 returns-2 c =
     let start = c .before .before .before .before .before .before .before .before .before .before in
@@ -81,15 +59,6 @@ sort-requires c κs =
       subst (Pointing (start .args .pool .now) _ 0) (sym (list .ensures .0)) (list .ensures .1 .1 .1 .1 .0),
     )
 
-cast-t20 : tie.Need-cast-t20
-cast-t20 c = search needs
-
-answer-of-requires : tie.Need-answer-of-requires
-answer-of-requires c κs = search needs
-
-same-length-2 : tie.Need-same-length-2
-same-length-2 c = search needs
-
 returns-3 : tie.Need-returns-3
 returns-3 c =
     let at-if2 = c .before .before .before .before in
@@ -108,17 +77,17 @@ pub search-spec : {M : Type 1} → statement M
 search-spec =
     tie.close
     (tie.spec
-    valid-requires
-    told-requires
+    (λ c κs. search needs)
+    (λ c κs. search needs)
     returns
     list-requires
     cast-found
-    cast-opened
-    told-requires-2
-    same-length
+    (λ c. search needs)
+    (λ c κs. search needs)
+    (λ c. search needs)
     returns-2
     sort-requires
-    cast-t20
-    answer-of-requires
-    same-length-2
+    (λ c. search needs)
+    (λ c κs. search needs)
+    (λ c. search needs)
     returns-3)

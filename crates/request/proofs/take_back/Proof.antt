@@ -3,24 +3,9 @@ use Rattle.request.proofs.Turns.{back-made, back-refused}
 use borrow.Author.Needs.{needs}
 use Rattle.request.proofs.take_back.Statement.{statement}
 use Rattle.request.proofs.take_back.Tie as tie
-use Rattle.request.proofs.take_back.Reads as reads
-use Rattle.request.proofs.take_back.Lts as lts
-use Rattle.request.proofs.copy.Reads as copy-reads
-
-enum-told : tie.Need-enum-told
-enum-told c = search needs
-
-enum-told-2 : tie.Need-enum-told-2
-enum-told-2 c = search needs
-
-copy-requires : tie.Need-copy-requires
-copy-requires c κs = search needs
 
 returns : tie.Need-returns
 returns c = back-made (c .before .before .args .o) _ _ _ _ (c .enum-told .given .1) refl
-
-same-length : tie.Need-same-length
-same-length c = search needs
 
 returns-2 : tie.Need-returns-2
 returns-2 c =
@@ -30,4 +15,4 @@ returns-2 c =
 
 pub take-back-spec : {M : Type 1} → statement M
 take-back-spec =
-    tie.close (tie.spec enum-told enum-told-2 copy-requires returns same-length returns-2)
+    tie.close (tie.spec (λ c. search needs) (λ c. search needs) (λ c κs. search needs) returns (λ c. search needs) returns-2)

@@ -8,24 +8,6 @@ use Rattle.request.proofs.Rows.{update-old, update-new, update-4, updat
 use borrow.Author.Needs.{needs}
 use Rattle.request.proofs.update.Statement.{statement}
 use Rattle.request.proofs.update.Tie as tie
-use Rattle.request.proofs.update.Reads as reads
-use Rattle.request.proofs.update.Lts as lts
-use Rattle.geometry.proofs.valid.Reads as valid-reads
-use Rattle.find_leaf.proofs.find_leaf.Reads as find-leaf-reads
-use Rattle.request.proofs.came_to.Reads as came-to-reads
-use Rattle.request.proofs.good_number.Reads as good-number-reads
-use Rattle.request.proofs.keep.Reads as keep-reads
-use Rattle.request.proofs.other_held.Reads as other-held-reads
-use Rattle.request.proofs.replace.Reads as replace-reads
-use Rattle.request.proofs.scarce.Reads as scarce-reads
-use Rattle.request.proofs.take_back.Reads as take-back-reads
-use Rattle.request.proofs.told.Reads as told-reads
-
-valid-requires : tie.Need-valid-requires
-valid-requires c κs = search needs
-
-told-requires : tie.Need-told-requires
-told-requires c κs = search needs
 
 returns : tie.Need-returns
 returns c =
@@ -37,12 +19,6 @@ returns c =
           (sym (valid .ensures) ∙ not-true _ (c .before .if1 .taken))),
       refl,
     )
-
-valid-requires-2 : tie.Need-valid-requires-2
-valid-requires-2 c κs = search needs
-
-told-requires-2 : tie.Need-told-requires-2
-told-requires-2 c κs = search needs
 
 returns-2 : tie.Need-returns-2
 returns-2 c =
@@ -56,12 +32,6 @@ returns-2 c =
           (sym (valid2 .ensures) ∙ not-true _ (c .before .if2 .taken))),
       refl,
     )
-
-good-number-requires : tie.Need-good-number-requires
-good-number-requires c κs = search needs
-
-told-requires-3 : tie.Need-told-requires-3
-told-requires-3 c κs = search needs
 
 returns-3 : tie.Need-returns-3
 returns-3 c =
@@ -85,12 +55,6 @@ find-leaf-requires c κs =
       (low-enough (start .args .pool .now) ((start .pre .0) .right)
           (ready-whole (start .args .pool .now) (start .args .free) (start .pre .0))),
     )
-
-told-requires-4 : tie.Need-told-requires-4
-told-requires-4 c κs = search needs
-
-same-length : tie.Need-same-length
-same-length c = search needs
 
 returns-4 : tie.Need-returns-4
 returns-4 c =
@@ -117,12 +81,6 @@ other-held-requires : tie.Need-other-held-requires
 other-held-requires c κs =
     let start = c .before .before .before .before .before .before .before .before .before .before .before .before .before in
     ((start .pre .0) .right, ready-whole (start .args .pool .now) (start .args .free) (start .pre .0))
-
-told-requires-5 : tie.Need-told-requires-5
-told-requires-5 c κs = search needs
-
-same-length-2 : tie.Need-same-length-2
-same-length-2 c = search needs
 
 returns-5 : tie.Need-returns-5
 returns-5 c =
@@ -194,15 +152,6 @@ take-back-requires c κs =
     let replace = c .before .before .before .replace in
     keep .ensures .0 ∙ start .pre .1 ∙ sym (replace .kept .0)
 
-came-to-requires : tie.Need-came-to-requires
-came-to-requires c κs = search needs
-
-same-length-3 : tie.Need-same-length-3
-same-length-3 c = search needs
-
-same-length-4 : tie.Need-same-length-4
-same-length-4 c = search needs
-
 returns-6 : tie.Need-returns-6
 returns-6 c =
     let at-other-held = c .before .before .before .before .before .before .before .before .before .before .before .before .before .before in
@@ -236,28 +185,28 @@ pub update-spec : {M : Type 1} → statement M
 update-spec =
     tie.close
     (tie.spec
-    valid-requires
-    told-requires
+    (λ c κs. search needs)
+    (λ c κs. search needs)
     returns
-    valid-requires-2
-    told-requires-2
+    (λ c κs. search needs)
+    (λ c κs. search needs)
     returns-2
-    good-number-requires
-    told-requires-3
+    (λ c κs. search needs)
+    (λ c κs. search needs)
     returns-3
     find-leaf-requires
-    told-requires-4
-    same-length
+    (λ c κs. search needs)
+    (λ c. search needs)
     returns-4
     other-held-requires
-    told-requires-5
-    same-length-2
+    (λ c κs. search needs)
+    (λ c. search needs)
     returns-5
     scarce-requires
     keep-requires
     replace-requires
     take-back-requires
-    came-to-requires
-    same-length-3
-    same-length-4
+    (λ c κs. search needs)
+    (λ c. search needs)
+    (λ c. search needs)
     returns-6)

@@ -3,17 +3,6 @@ use Rattle.search.proofs.Steps.{top-room, top-went}
 use borrow.Author.Needs.{needs}
 use Rattle.search.proofs.list.Statement.{statement}
 use Rattle.search.proofs.list.Tie as tie
-use Rattle.search.proofs.list.Reads as reads
-use Rattle.search.proofs.list.Lts as lts
-use Rattle.pool.proofs.height_of.Reads as height-of-reads
-use Rattle.pool.proofs.root_of.Reads as root-of-reads
-use Rattle.search.proofs.list_node.Reads as list-node-reads
-
-height-of-requires : tie.Need-height-of-requires
-height-of-requires c κs = search needs
-
-root-of-requires : tie.Need-root-of-requires
-root-of-requires c κs = search needs
 
 list-node-requires : tie.Need-list-node-requires
 list-node-requires c κs =
@@ -25,9 +14,6 @@ list-node-requires c κs =
           (s .args .items .now) (s .pre .1 .1),
     )
 
-same-length : tie.Need-same-length
-same-length c = search needs
-
 returns : tie.Need-returns
 returns c =
     let s = c .before .before .before .before .before in
@@ -38,4 +24,4 @@ returns c =
 
 pub list-spec : {M : Type 1} → statement M
 list-spec =
-    tie.close (tie.spec height-of-requires root-of-requires list-node-requires same-length returns)
+    tie.close (tie.spec (λ c κs. search needs) (λ c κs. search needs) list-node-requires (λ c. search needs) returns)

@@ -5,11 +5,6 @@ use Rattle.search.proofs.Steps.{went-one}
 use borrow.Author.Needs.{needs}
 use Rattle.search.proofs.list_record.Statement.{statement}
 use Rattle.search.proofs.list_record.Tie as tie
-use Rattle.search.proofs.list_record.Reads as reads
-use Rattle.search.proofs.list_record.Lts as lts
-use Rattle.found_items.proofs.put_item.Reads as put-item-reads
-use Rattle.pool.proofs.spot.Reads as spot-reads
-use Rattle.nodes.proofs.number_at.Reads as number-at-reads
 
 number-at-requires : tie.Need-number-at-requires
 number-at-requires c κs = (c .pre .0 .right, c .pre .1 .0)
@@ -21,12 +16,6 @@ put-item-requires : tie.Need-put-item-requires
 put-item-requires c κs =
     let s = c .before .before .before in
     (omega (arith, s .pre .1 .1 .room), omega (arith, c .before .spot .ensures, few (s .pre .0), slot-few (s .pre .0), s .pre .1 .0))
-
-add-next : tie.Need-add-next
-add-next c = search needs
-
-same-length : tie.Need-same-length
-same-length c = search needs
 
 returns : tie.Need-returns
 returns c =
@@ -40,4 +29,4 @@ returns c =
 pub list-record-spec : {M : Type 1} → statement M
 list-record-spec =
     tie.close
-    (tie.spec number-at-requires spot-requires put-item-requires add-next same-length returns)
+    (tie.spec number-at-requires spot-requires put-item-requires (λ c. search needs) (λ c. search needs) returns)

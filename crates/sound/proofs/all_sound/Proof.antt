@@ -16,10 +16,6 @@ use Rattle.sound.proofs.Everies.{every-fails, every-goes, every-none}
 use Rattle.sound.proofs.Walks.{slots-size, slots-at}
 use Rattle.sound.proofs.all_sound.Statement.{statement}
 use Rattle.sound.proofs.all_sound.Tie as tie
-use Rattle.sound.proofs.all_sound.Reads as reads
-use Rattle.sound.proofs.all_sound.Lts as lts
-use Rattle.pool.proofs.slot_count.Reads as slot-count-reads
-use Rattle.sound.proofs.used_sound.Reads as used-sound-reads
 
 -- the slots from the i-th on answer for all
 record Turn (w : List ℤ) (n i : ℕ) : Type 0 where
@@ -33,14 +29,8 @@ Inv-loop pool n i₀ i = Turn pool n i
 abbrev μ-loop : tie.MeasureT-loop
 μ-loop pool n i₀ i = n - i
 
-slot-count-requires : tie.Need-slot-count-requires Inv-loop μ-loop
-slot-count-requires c κs = search needs
-
 loop-holds : tie.Need-loop-holds Inv-loop μ-loop
 loop-holds c = record { size = c .slot-count .ensures ∙ sym (read-slots (c .before .args .pool .now)); most = omega arith; rest = refl }
-
-add-t5 : tie.Need-add-t5 Inv-loop μ-loop
-add-t5 c = search needs
 
 used-sound-requires : tie.Need-used-sound-requires Inv-loop μ-loop
 used-sound-requires c κs =
@@ -59,12 +49,6 @@ returns c =
     let is = ap (usedSound p) (slots-at p (loop .i) there) ∙ sym (used-sound .ensures) ∙ not-true (used-sound .result) (c .if1 .taken) in
     let in-list : loop .i < length (slotNumbers p) = omega (arith, there, slots-size p) in
     sym (every-fails (usedSound p) (slotNumbers p) (loop .i) (slot 0) in-list is) ∙ loop .inv .rest
-
-add-i : tie.Need-add-i Inv-loop μ-loop
-add-i c = search needs
-
-loop-less : tie.Need-loop-less Inv-loop μ-loop
-loop-less c = search needs
 
 loop-again : tie.Need-loop-again Inv-loop μ-loop
 loop-again c =
@@ -94,12 +78,12 @@ all-sound-spec =
     (tie.spec
     Inv-loop
     μ-loop
-    slot-count-requires
+    (λ c κs. search needs)
     loop-holds
-    add-t5
+    (λ c. search needs)
     used-sound-requires
     returns
-    add-i
-    loop-less
+    (λ c. search needs)
+    (λ c. search needs)
     loop-again
     returns-2)

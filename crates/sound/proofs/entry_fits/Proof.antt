@@ -10,19 +10,6 @@ use Rattle.nodes.proofs.Slots.{asked-within}
 use borrow.Author.Needs.{needs}
 use Rattle.sound.proofs.entry_fits.Statement.{statement}
 use Rattle.sound.proofs.entry_fits.Tie as tie
-use Rattle.sound.proofs.entry_fits.Reads as reads
-use Rattle.sound.proofs.entry_fits.Lts as lts
-use Rattle.geometry.proofs.same_rect.Reads as same-rect-reads
-use Rattle.nodes.proofs.child.Reads as child-reads
-use Rattle.nodes.proofs.cover_of.Reads as cover-of-reads
-use Rattle.nodes.proofs.is_slot.Reads as is-slot-reads
-use Rattle.pool.proofs.level_of.Reads as level-of-reads
-
-child-requires : tie.Need-child-requires
-child-requires c κs = search needs
-
-is-slot-requires : tie.Need-is-slot-requires
-is-slot-requires c κs = search needs
 
 returns : tie.Need-returns
 returns c =
@@ -60,9 +47,6 @@ cover-of-requires c κs =
     let slot = c .before .before .before .is-slot in
     asked-within (s .args .pool .now) (child .result) (s .pre) (sym (slot .ensures) ∙ not-false (slot .result) (c .before .before .if1 .left))
 
-same-rect-requires : tie.Need-same-rect-requires
-same-rect-requires c κs = search needs
-
 returns-3 : tie.Need-returns-3
 returns-3 c =
     let start = c .before .before .before .before .before .before .before .before in
@@ -85,11 +69,11 @@ pub entry-fits-spec : {M : Type 1} → statement M
 entry-fits-spec =
     tie.close
     (tie.spec
-    child-requires
-    is-slot-requires
+    (λ c κs. search needs)
+    (λ c κs. search needs)
     returns
     level-of-requires
     returns-2
     cover-of-requires
-    same-rect-requires
+    (λ c κs. search needs)
     returns-3)

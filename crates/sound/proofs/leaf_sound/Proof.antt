@@ -15,11 +15,6 @@ use Rattle.rules_laws.proofs.Bools.{not-true, not-false}
 use Rattle.sound.proofs.Everies.{every-fails, every-goes, every-none}
 use Rattle.sound.proofs.leaf_sound.Statement.{statement}
 use Rattle.sound.proofs.leaf_sound.Tie as tie
-use Rattle.sound.proofs.leaf_sound.Reads as reads
-use Rattle.sound.proofs.leaf_sound.Lts as lts
-use Rattle.pool.proofs.count_of.Reads as count-of-reads
-use Rattle.pool.proofs.entry_of.Reads as entry-of-reads
-use Rattle.sound.proofs.leaf_entry_sound.Reads as leaf-entry-sound-reads
 
 -- the entries from i on answer for all
 record Turn (es : List Entry) (n i : ℕ) : Type 0 where
@@ -42,9 +37,6 @@ loop-holds c = record { size = c .count-of .ensures .0; most = omega arith; rest
 entry-of-requires : tie.Need-entry-of-requires Inv-loop μ-loop
 entry-of-requires c κs = (c .before .before .before .pre, omega (arith, c .loop-test .taken, c .before .loop .inv .size))
 
-leaf-entry-sound-requires : tie.Need-leaf-entry-sound-requires Inv-loop μ-loop
-leaf-entry-sound-requires c κs = search needs
-
 returns : tie.Need-returns Inv-loop μ-loop
 unfolding entryAt entryFrom
 returns c =
@@ -55,12 +47,6 @@ returns c =
     let asked = c .before .leaf-entry-sound in
     let is = sym (ap leafEntrySound (c .before .before .entry-of .ensures)) ∙ sym (asked .ensures) ∙ not-true (asked .result) (c .if1 .taken) in
     sym (every-fails leafEntrySound es (l .i) noEntry there is) ∙ l .inv .rest
-
-add-i : tie.Need-add-i Inv-loop μ-loop
-add-i c = search needs
-
-loop-less : tie.Need-loop-less Inv-loop μ-loop
-loop-less c = search needs
 
 loop-again : tie.Need-loop-again Inv-loop μ-loop
 unfolding entryAt entryFrom
@@ -89,9 +75,9 @@ leaf-sound-spec =
     count-of-requires
     loop-holds
     entry-of-requires
-    leaf-entry-sound-requires
+    (λ c κs. search needs)
     returns
-    add-i
-    loop-less
+    (λ c. search needs)
+    (λ c. search needs)
     loop-again
     returns-2)

@@ -7,36 +7,18 @@ use Rattle.sound.proofs.Tops.{not-tidy, not-shaped, too-high, tidy-shap
 use borrow.Author.Needs.{needs}
 use Rattle.sound.proofs.sound.Statement.{statement}
 use Rattle.sound.proofs.sound.Tie as tie
-use Rattle.sound.proofs.sound.Reads as reads
-use Rattle.sound.proofs.sound.Lts as lts
-use Rattle.pool.proofs.height_of.Reads as height-of-reads
-use Rattle.sound_shape.proofs.shaped.Reads as shaped-reads
-use Rattle.pool.proofs.tidy.tidy.Reads as tidy-reads
-use Rattle.sound.proofs.all_sound.Reads as all-sound-reads
-
-tidy-requires : tie.Need-tidy-requires
-tidy-requires c κs = search needs
 
 returns : tie.Need-returns
 returns c = sym (not-tidy _ (sym (c .before .tidy .ensures) ∙ not-true _ (c .if1 .taken)))
 
-shaped-requires : tie.Need-shaped-requires
-shaped-requires c κs = search needs
-
 returns-2 : tie.Need-returns-2
 returns-2 c = sym (not-shaped _ (sym (c .before .shaped .ensures) ∙ not-true _ (c .if2 .taken)))
-
-height-of-requires : tie.Need-height-of-requires
-height-of-requires c κs = search needs
 
 returns-3 : tie.Need-returns-3
 returns-3 c =
     let s = c .before .before .before .before .before .before in
     let w = s .args .pool .now in
     sym (too-high w (rw (read-slots w) (few-slots w (s .pre))) (rw (c .before .height-of .ensures) at (c .if3 .taken)))
-
-all-sound-requires : tie.Need-all-sound-requires
-all-sound-requires c κs = search needs
 
 returns-4 : tie.Need-returns-4
 returns-4 c =
@@ -51,11 +33,11 @@ pub sound-spec : {M : Type 1} → statement M
 sound-spec =
     tie.close
     (tie.spec
-    tidy-requires
+    (λ c κs. search needs)
     returns
-    shaped-requires
+    (λ c κs. search needs)
     returns-2
-    height-of-requires
+    (λ c κs. search needs)
     returns-3
-    all-sound-requires
+    (λ c κs. search needs)
     returns-4)

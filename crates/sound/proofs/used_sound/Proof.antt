@@ -7,21 +7,11 @@ use Rattle.sound.proofs.Walks.{used-free, used-node}
 use borrow.Author.Needs.{needs}
 use Rattle.sound.proofs.used_sound.Statement.{statement}
 use Rattle.sound.proofs.used_sound.Tie as tie
-use Rattle.sound.proofs.used_sound.Reads as reads
-use Rattle.sound.proofs.used_sound.Lts as lts
-use Rattle.pool.proofs.level_of.Reads as level-of-reads
-use Rattle.sound.proofs.node_sound.Reads as node-sound-reads
-
-level-of-requires : tie.Need-level-of-requires
-level-of-requires c κs = search needs
 
 returns : tie.Need-returns
 returns c =
     let s = c .before .before in
     used-free (read (s .args .pool .now)) (s .args .s) (sym (c .before .level-of .ensures) ∙ c .if1 .taken)
-
-node-sound-requires : tie.Need-node-sound-requires
-node-sound-requires c κs = search needs
 
 returns-2 : tie.Need-returns-2
 returns-2 c =
@@ -33,4 +23,4 @@ returns-2 c =
     ∙ used-node p (s .args .s) (λ q. c .before .if1 .left (level ∙ q))
 
 pub used-sound-spec : {M : Type 1} → statement M
-used-sound-spec = tie.close (tie.spec level-of-requires returns node-sound-requires returns-2)
+used-sound-spec = tie.close (tie.spec (λ c κs. search needs) returns (λ c κs. search needs) returns-2)

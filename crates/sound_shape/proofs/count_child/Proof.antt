@@ -3,30 +3,12 @@ use Rattle.sound_shape.proofs.Counts.{no-slot, at-slot}
 use borrow.Author.Needs.{needs}
 use Rattle.sound_shape.proofs.count_child.Statement.{statement}
 use Rattle.sound_shape.proofs.count_child.Tie as tie
-use Rattle.sound_shape.proofs.count_child.Reads as reads
-use Rattle.sound_shape.proofs.count_child.Lts as lts
-use Rattle.sound_shape.proofs.one_more.Reads as one-more-reads
 
 returns : tie.Need-returns
 returns c = no-slot (c .before .args .s) (c .before .args .counts .now) (λ t low high e. omega (arith, c .if1 .taken))
 
 returns-2 : tie.Need-returns-2
 returns-2 c = no-slot (c .before .before .args .s) (c .before .before .args .counts .now) (λ t low high e. omega (arith, c .if2 .taken))
-
-mul-one-more : tie.Need-mul-one-more
-mul-one-more c = search needs
-
-element-copy-out-one-more : tie.Need-element-copy-out-one-more
-element-copy-out-one-more c = search needs
-
-one-more-requires : tie.Need-one-more-requires
-one-more-requires c κs = search needs
-
-mul-counts : tie.Need-mul-counts
-mul-counts c = search needs
-
-element-write-counts : tie.Need-element-write-counts
-element-write-counts c = search needs
 
 returns-3 : tie.Need-returns-3
 returns-3 c =
@@ -42,9 +24,9 @@ count-child-spec =
     (tie.spec
     returns
     returns-2
-    mul-one-more
-    element-copy-out-one-more
-    one-more-requires
-    mul-counts
-    element-write-counts
+    (λ c. search needs)
+    (λ c. search needs)
+    (λ c κs. search needs)
+    (λ c. search needs)
+    (λ c. search needs)
     returns-3)

@@ -14,11 +14,6 @@ use Rattle.sound_shape.specs.Shapes.{Counting, OneMore}
 use Rattle.sound_shape.proofs.Counts.{counting-none, counting-more, counting-one}
 use Rattle.sound_shape.proofs.count_children.Statement.{statement}
 use Rattle.sound_shape.proofs.count_children.Tie as tie
-use Rattle.sound_shape.proofs.count_children.Reads as reads
-use Rattle.sound_shape.proofs.count_children.Lts as lts
-use Rattle.pool.proofs.child_of.Reads as child-of-reads
-use Rattle.pool.proofs.count_of.Reads as count-of-reads
-use Rattle.sound_shape.proofs.count_child.Reads as count-child-reads
 
 -- the first i entries are counted
 record Turn (es : List Entry) (n : ℕ) (counts₀ counts : List ℕ) (i : ℕ) : Type 0 where
@@ -61,12 +56,6 @@ count-child-requires c κs =
     let loop = c .before .before .before .loop in
     loop .inv .counted .size ∙ start .pre .1 .1
 
-add-i : tie.Need-add-i Inv-loop μ-loop
-add-i c = search needs
-
-loop-less : tie.Need-loop-less Inv-loop μ-loop
-loop-less c = search needs
-
 loop-again : tie.Need-loop-again Inv-loop μ-loop
 unfolding entryAt entryFrom
 loop-again c =
@@ -96,7 +85,7 @@ count-children-spec =
     loop-holds
     child-of-requires
     count-child-requires
-    add-i
-    loop-less
+    (λ c. search needs)
+    (λ c. search needs)
     loop-again
     returns)

@@ -13,10 +13,6 @@ use Rattle.sound_shape.specs.Shapes.{innerOf, Counting}
 use Rattle.sound_shape.proofs.Counts.{counting-none, counting-more, innerOf-none, inner-more, inner-all}
 use Rattle.sound_shape.proofs.count_parents.Statement.{statement}
 use Rattle.sound_shape.proofs.count_parents.Tie as tie
-use Rattle.sound_shape.proofs.count_parents.Reads as reads
-use Rattle.sound_shape.proofs.count_parents.Lts as lts
-use Rattle.pool.proofs.slot_count.Reads as slot-count-reads
-use Rattle.sound_shape.proofs.count_slot.Reads as count-slot-reads
 
 -- the inner nodes before slot s are counted
 record Turn (ns : List Node) (n : ℕ) (counts₀ counts : List ℕ) (s : ℕ) : Type 0 where

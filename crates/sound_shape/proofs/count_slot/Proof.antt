@@ -6,13 +6,6 @@ use Rattle.sound_shape.proofs.Counts.{counting-none, innerOf-yes, inner
 use borrow.Author.Needs.{needs}
 use Rattle.sound_shape.proofs.count_slot.Statement.{statement}
 use Rattle.sound_shape.proofs.count_slot.Tie as tie
-use Rattle.sound_shape.proofs.count_slot.Reads as reads
-use Rattle.sound_shape.proofs.count_slot.Lts as lts
-use Rattle.pool.proofs.level_of.Reads as level-of-reads
-use Rattle.sound_shape.proofs.count_children.Reads as count-children-reads
-
-level-of-requires : tie.Need-level-of-requires
-level-of-requires c κs = search needs
 
 returns : tie.Need-returns
 returns c =
@@ -45,4 +38,4 @@ returns-2 c =
     (c .count-children .ensures)
 
 pub count-slot-spec : {M : Type 1} → statement M
-count-slot-spec = tie.close (tie.spec level-of-requires returns count-children-requires returns-2)
+count-slot-spec = tie.close (tie.spec (λ c κs. search needs) returns count-children-requires returns-2)

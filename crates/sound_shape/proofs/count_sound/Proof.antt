@@ -8,27 +8,9 @@ use Rattle.sound_shape.proofs.Asked.{free-counts, used-counts}
 use borrow.Author.Needs.{needs}
 use Rattle.sound_shape.proofs.count_sound.Statement.{statement}
 use Rattle.sound_shape.proofs.count_sound.Tie as tie
-use Rattle.sound_shape.proofs.count_sound.Reads as reads
-use Rattle.sound_shape.proofs.count_sound.Lts as lts
-use Rattle.pool.proofs.count_of.Reads as count-of-reads
-use Rattle.pool.proofs.level_of.Reads as level-of-reads
-use Rattle.sound_shape.proofs.fewest.Reads as fewest-reads
-use Rattle.sound_shape.proofs.is_root.Reads as is-root-reads
-
-level-of-requires : tie.Need-level-of-requires
-level-of-requires c κs = search needs
 
 returns : tie.Need-returns
 returns c = free-counts (read (c .before .before .args .pool .now)) (c .before .before .args .s) (sym (c .before .level-of .ensures) ∙ c .if1 .taken)
-
-is-root-requires : tie.Need-is-root-requires
-is-root-requires c κs = search needs
-
-fewest-requires : tie.Need-fewest-requires
-fewest-requires c κs = search needs
-
-count-of-requires : tie.Need-count-of-requires
-count-of-requires c κs = search needs
 
 returns-2 : tie.Need-returns-2
 returns-2 c =
@@ -44,9 +26,9 @@ pub count-sound-spec : {M : Type 1} → statement M
 count-sound-spec =
     tie.close
     (tie.spec
-    level-of-requires
+    (λ c κs. search needs)
     returns
-    is-root-requires
-    fewest-requires
-    count-of-requires
+    (λ c κs. search needs)
+    (λ c κs. search needs)
+    (λ c κs. search needs)
     returns-2)

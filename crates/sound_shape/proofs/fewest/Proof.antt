@@ -2,8 +2,6 @@ use Rattle.rules_laws.proofs.Bools.{not-true, not-false}
 use Rattle.rules.specs.Sound.{fewest}
 use Rattle.sound_shape.proofs.fewest.Statement.{statement}
 use Rattle.sound_shape.proofs.fewest.Tie as tie
-use Rattle.sound_shape.proofs.fewest.Reads as reads
-use Rattle.sound_shape.proofs.fewest.Lts as lts
 
 returns : tie.Need-returns
 unfolding fewest

@@ -6,16 +6,6 @@ use Rattle.sound_shape.proofs.Asked.{free-entries, used-entries}
 use borrow.Author.Needs.{needs}
 use Rattle.sound_shape.proofs.free_empty.Statement.{statement}
 use Rattle.sound_shape.proofs.free_empty.Tie as tie
-use Rattle.sound_shape.proofs.free_empty.Reads as reads
-use Rattle.sound_shape.proofs.free_empty.Lts as lts
-use Rattle.pool.proofs.count_of.Reads as count-of-reads
-use Rattle.pool.proofs.level_of.Reads as level-of-reads
-
-level-of-requires : tie.Need-level-of-requires
-level-of-requires c κs = search needs
-
-count-of-requires : tie.Need-count-of-requires
-count-of-requires c κs = search needs
 
 returns : tie.Need-returns
 returns c =
@@ -30,4 +20,4 @@ returns-2 c =
     used-entries (read (start .args .pool .now)) (start .args .s) (λ e. c .if1 .left (c .before .level-of .ensures ∙ e))
 
 pub free-empty-spec : {M : Type 1} → statement M
-free-empty-spec = tie.close (tie.spec level-of-requires count-of-requires returns returns-2)
+free-empty-spec = tie.close (tie.spec (λ c κs. search needs) (λ c κs. search needs) returns returns-2)

@@ -12,10 +12,6 @@ use Rattle.sound_shape.specs.Shapes.{recordCounts}
 use Rattle.sound_shape.proofs.Asked.{records-more, records-end}
 use Rattle.sound_shape.proofs.leaf_records.Statement.{statement}
 use Rattle.sound_shape.proofs.leaf_records.Tie as tie
-use Rattle.sound_shape.proofs.leaf_records.Reads as reads
-use Rattle.sound_shape.proofs.leaf_records.Lts as lts
-use Rattle.pool.proofs.slot_count.Reads as slot-count-reads
-use Rattle.sound_shape.proofs.records_in.Reads as records-in-reads
 
 -- the sum, and the records of the slots from s on, are all
 record Turn (ns : List Node) (n sum s : ℕ) : Type 0 where

@@ -4,19 +4,9 @@ use Rattle.sound_shape.proofs.Asked.{free-parent, root-parent, used-par
 use borrow.Author.Needs.{needs}
 use Rattle.sound_shape.proofs.one_parent.Statement.{statement}
 use Rattle.sound_shape.proofs.one_parent.Tie as tie
-use Rattle.sound_shape.proofs.one_parent.Reads as reads
-use Rattle.sound_shape.proofs.one_parent.Lts as lts
-use Rattle.pool.proofs.level_of.Reads as level-of-reads
-use Rattle.sound_shape.proofs.is_root.Reads as is-root-reads
-
-level-of-requires : tie.Need-level-of-requires
-level-of-requires c κs = search needs
 
 returns : tie.Need-returns
 returns c = free-parent (read (c .before .before .args .pool .now)) (c .before .before .args .s) (sym (c .before .level-of .ensures) ∙ c .if1 .taken)
-
-is-root-requires : tie.Need-is-root-requires
-is-root-requires c κs = search needs
 
 returns-2 : tie.Need-returns-2
 returns-2 c =
@@ -36,4 +26,4 @@ returns-3 c =
 
 pub one-parent-spec : {M : Type 1} → statement M
 one-parent-spec =
-    tie.close (tie.spec level-of-requires returns is-root-requires returns-2 returns-3)
+    tie.close (tie.spec (λ c κs. search needs) returns (λ c κs. search needs) returns-2 returns-3)

@@ -6,16 +6,6 @@ use Rattle.sound_shape.proofs.Asked.{leaf-records, no-records}
 use borrow.Author.Needs.{needs}
 use Rattle.sound_shape.proofs.records_in.Statement.{statement}
 use Rattle.sound_shape.proofs.records_in.Tie as tie
-use Rattle.sound_shape.proofs.records_in.Reads as reads
-use Rattle.sound_shape.proofs.records_in.Lts as lts
-use Rattle.pool.proofs.count_of.Reads as count-of-reads
-use Rattle.pool.proofs.level_of.Reads as level-of-reads
-
-level-of-requires : tie.Need-level-of-requires
-level-of-requires c κs = search needs
-
-count-of-requires : tie.Need-count-of-requires
-count-of-requires c κs = search needs
 
 returns : tie.Need-returns
 unfolding entriesAt
@@ -35,4 +25,4 @@ returns-2 c =
     )
 
 pub records-in-spec : {M : Type 1} → statement M
-records-in-spec = tie.close (tie.spec level-of-requires count-of-requires returns returns-2)
+records-in-spec = tie.close (tie.spec (λ c κs. search needs) (λ c κs. search needs) returns returns-2)

@@ -11,18 +11,6 @@ use Rattle.sound_shape.proofs.Asked.{root-none, root-level}
 use borrow.Author.Needs.{needs}
 use Rattle.sound_shape.proofs.root_sound.Statement.{statement}
 use Rattle.sound_shape.proofs.root_sound.Tie as tie
-use Rattle.sound_shape.proofs.root_sound.Reads as reads
-use Rattle.sound_shape.proofs.root_sound.Lts as lts
-use Rattle.pool.proofs.height_of.Reads as height-of-reads
-use Rattle.pool.proofs.level_of.Reads as level-of-reads
-use Rattle.pool.proofs.root_of.Reads as root-of-reads
-use Rattle.nodes.proofs.is_slot.Reads as is-slot-reads
-
-root-of-requires : tie.Need-root-of-requires
-root-of-requires c κs = search needs
-
-is-slot-requires : tie.Need-is-slot-requires
-is-slot-requires c κs = search needs
 
 returns : tie.Need-returns
 returns c =
@@ -36,9 +24,6 @@ level-of-requires c κs =
     let s = c .before .before .before in
     let asked = c .before .is-slot in
     asked-within (s .args .pool .now) (c .before .before .root-of .result) (s .pre) (sym (asked .ensures) ∙ not-false (asked .result) (c .if1 .left))
-
-height-of-requires : tie.Need-height-of-requires
-height-of-requires c κs = search needs
 
 returns-2 : tie.Need-returns-2
 returns-2 c =
@@ -54,4 +39,4 @@ returns-2 c =
 pub root-sound-spec : {M : Type 1} → statement M
 root-sound-spec =
     tie.close
-    (tie.spec root-of-requires is-slot-requires returns level-of-requires height-of-requires returns-2)
+    (tie.spec (λ c κs. search needs) (λ c κs. search needs) returns level-of-requires (λ c κs. search needs) returns-2)

@@ -5,34 +5,6 @@ use Rattle.sound_shape.proofs.Asked.{shape-is}
 use borrow.Author.Needs.{needs}
 use Rattle.sound_shape.proofs.shaped.Statement.{statement}
 use Rattle.sound_shape.proofs.shaped.Tie as tie
-use Rattle.sound_shape.proofs.shaped.Reads as reads
-use Rattle.sound_shape.proofs.shaped.Lts as lts
-use Rattle.geometry.proofs.and.Reads as and-reads
-use Rattle.sound_shape.proofs.height_sound.Reads as height-sound-reads
-use Rattle.sound_shape.proofs.records_sound.Reads as records-sound-reads
-use Rattle.sound_shape.proofs.root_sound.Reads as root-sound-reads
-use Rattle.sound_shape.proofs.shaped_nodes.Reads as shaped-nodes-reads
-
-height-sound-requires : tie.Need-height-sound-requires
-height-sound-requires c κs = search needs
-
-root-sound-requires : tie.Need-root-sound-requires
-root-sound-requires c κs = search needs
-
-and-requires : tie.Need-and-requires
-and-requires c κs = search needs
-
-shaped-nodes-requires : tie.Need-shaped-nodes-requires
-shaped-nodes-requires c κs = search needs
-
-records-sound-requires : tie.Need-records-sound-requires
-records-sound-requires c κs = search needs
-
-and-requires-2 : tie.Need-and-requires-2
-and-requires-2 c κs = search needs
-
-and-requires-3 : tie.Need-and-requires-3
-and-requires-3 c κs = search needs
 
 returns : tie.Need-returns
 returns c =
@@ -52,11 +24,11 @@ pub shaped-spec : {M : Type 1} → statement M
 shaped-spec =
     tie.close
     (tie.spec
-    height-sound-requires
-    root-sound-requires
-    and-requires
-    shaped-nodes-requires
-    records-sound-requires
-    and-requires-2
-    and-requires-3
+    (λ c κs. search needs)
+    (λ c κs. search needs)
+    (λ c κs. search needs)
+    (λ c κs. search needs)
+    (λ c κs. search needs)
+    (λ c κs. search needs)
+    (λ c κs. search needs)
     returns)

@@ -6,10 +6,6 @@ use borrow.Author.Needs.{needs}
 use Rattle.rules.specs.Numbers.{mostSlots}
 use Rattle.sound_shape.proofs.shaped_nodes.Statement.{statement}
 use Rattle.sound_shape.proofs.shaped_nodes.Tie as tie
-use Rattle.sound_shape.proofs.shaped_nodes.Reads as reads
-use Rattle.sound_shape.proofs.shaped_nodes.Lts as lts
-use Rattle.sound_shape.proofs.count_parents.Reads as count-parents-reads
-use Rattle.sound_shape.proofs.shaped_slots.Reads as shaped-slots-reads
 
 count-parents-requires : tie.Need-count-parents-requires
 count-parents-requires c κs = (c .before .pre, length-replicate {A = ℕ} mostSlots 0)
@@ -17,8 +13,5 @@ count-parents-requires c κs = (c .before .pre, length-replicate {A = ℕ} mostS
 shaped-slots-requires : tie.Need-shaped-slots-requires
 shaped-slots-requires c κs = (c .before .before .before .pre, c .before .count-parents .ensures .on [] counted-none)
 
-returns : tie.Need-returns
-returns c = search needs
-
 pub shaped-nodes-spec : {M : Type 1} → statement M
-shaped-nodes-spec = tie.close (tie.spec count-parents-requires shaped-slots-requires returns)
+shaped-nodes-spec = tie.close (tie.spec count-parents-requires shaped-slots-requires (λ c. search needs))

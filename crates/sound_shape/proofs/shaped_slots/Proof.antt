@@ -14,10 +14,6 @@ use Rattle.sound_shape.proofs.Asked.{askedFrom, asked-on, asked-stop, a
 use Rattle.sound_shape.proofs.Counts.{all-leading}
 use Rattle.sound_shape.proofs.shaped_slots.Statement.{statement}
 use Rattle.sound_shape.proofs.shaped_slots.Tie as tie
-use Rattle.sound_shape.proofs.shaped_slots.Reads as reads
-use Rattle.sound_shape.proofs.shaped_slots.Lts as lts
-use Rattle.pool.proofs.slot_count.Reads as slot-count-reads
-use Rattle.sound_shape.proofs.slot_shaped.Reads as slot-shaped-reads
 
 -- the slots from s on are asked as all are
 record Turn (w : List ℤ) (n s : ℕ) : Type 0 where

@@ -9,25 +9,6 @@ use Rattle.split.proofs.Turns.{first, one-forced, two-forced, next-is, 
 use borrow.Author.Needs.{needs}
 use Rattle.split.proofs.assign.Statement.{statement}
 use Rattle.split.proofs.assign.Tie as tie
-use Rattle.split.proofs.assign.Reads as reads
-use Rattle.split.proofs.assign.Lts as lts
-use Rattle.split.proofs.first_left.Reads as first-left-reads
-use Rattle.split.proofs.join_one.Reads as join-one-reads
-use Rattle.split.proofs.join_two.Reads as join-two-reads
-use Rattle.split.proofs.pick_next.Reads as pick-next-reads
-use Rattle.split.proofs.second_first.Reads as second-first-reads
-
-add-left : tie.Need-add-left
-add-left c = search needs
-
-sub-left : tie.Need-sub-left
-sub-left c = search needs
-
-add-if1 : tie.Need-add-if1
-add-if1 c = search needs
-
-first-left-requires : tie.Need-first-left-requires
-first-left-requires c κs = search needs
 
 join-one-requires : tie.Need-join-one-requires
 join-one-requires c κs =
@@ -46,12 +27,6 @@ returns c =
     let e = c .before .before .if1 .taken in
     let q = c .join-one .ensures ∙ ap (withOne (start .args .t1) (start .args .t)) (c .before .first-left .ensures .0) in
     rw q (one-forced v o h e, (with-ok v o (first-free o h), one-more (start .args .t1) h f (first v o h) (λ x. omega arith)))
-
-add-if2 : tie.Need-add-if2
-add-if2 c = search needs
-
-first-left-requires-2 : tie.Need-first-left-requires-2
-first-left-requires-2 c κs = search needs
 
 join-two-requires : tie.Need-join-two-requires
 join-two-requires c κs =
@@ -72,9 +47,6 @@ returns-2 c =
     let q = c .join-two .ensures
     ∙ ap (λ (k : ℕ). flipped (withOne (start .args .t1) (flipped (start .args .t)) k)) (c .before .first-left2 .ensures .0) in
     rw q (two-forced v o h e, (second-ok v o (first-free o h), two-more (start .args .t1) h f (first v o h) (if1 .left)))
-
-pick-next-requires : tie.Need-pick-next-requires
-pick-next-requires c κs = search needs
 
 -- the place that PickNext takes has no group yet
 free : (c : tie.After-pick-next) → Free (c .before .before .before .before .before .before .args .t) (c .pick-next .result)
@@ -150,17 +122,17 @@ pub assign-spec : {M : Type 1} → statement M
 assign-spec =
     tie.close
     (tie.spec
-    add-left
-    sub-left
-    add-if1
-    first-left-requires
+    (λ c. search needs)
+    (λ c. search needs)
+    (λ c. search needs)
+    (λ c κs. search needs)
     join-one-requires
     returns
-    add-if2
-    first-left-requires-2
+    (λ c. search needs)
+    (λ c κs. search needs)
     join-two-requires
     returns-2
-    pick-next-requires
+    (λ c κs. search needs)
     mul-second-first
     array-copy-out-second-first
     second-first-requires

@@ -10,8 +10,6 @@ use native.Mathlib.Omega.{arith}
 use Rattle.split.specs.State.{unjoined, firstOf}
 use Rattle.split.proofs.first_left.Statement.{statement}
 use Rattle.split.proofs.first_left.Tie as tie
-use Rattle.split.proofs.first_left.Reads as reads
-use Rattle.split.proofs.first_left.Lts as lts
 
 -- the places from i on have the same first as all
 record Turn (joined : List Bool) (i : ℕ) : Type 0 where
@@ -25,24 +23,12 @@ Inv-loop joined i₀ i = Turn joined i
 abbrev μ-loop : tie.MeasureT-loop
 μ-loop joined i₀ i = 9 - i
 
-loop-holds : tie.Need-loop-holds Inv-loop μ-loop
-loop-holds c = search needs
-
-array-read-if1 : tie.Need-array-read-if1 Inv-loop μ-loop
-array-read-if1 c = search needs
-
 returns : tie.Need-returns Inv-loop μ-loop
 returns c =
     let loop = c .before .before .loop in
     let m = c .before .before .before .args .t1 in
     let k : loop .i < length m = omega arith in
     (sym (first-here m (loop .i) k (not-true (getD m (loop .i) false) (c .if1 .taken))) ∙ loop .inv .rest, c .before .loop-test .taken)
-
-add-i : tie.Need-add-i Inv-loop μ-loop
-add-i c = search needs
-
-loop-less : tie.Need-loop-less Inv-loop μ-loop
-loop-less c = search needs
 
 loop-again : tie.Need-loop-again Inv-loop μ-loop
 loop-again c =
@@ -68,10 +54,10 @@ first-left-spec =
     (tie.spec
     Inv-loop
     μ-loop
-    loop-holds
-    array-read-if1
+    (λ c. search needs)
+    (λ c. search needs)
     returns
-    add-i
-    loop-less
+    (λ c. search needs)
+    (λ c. search needs)
     loop-again
     returns-2)

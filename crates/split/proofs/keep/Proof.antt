@@ -1,8 +1,6 @@
 use borrow.Author.Tests.{lt-ltb, le-ltb}
 use Rattle.split.proofs.keep.Statement.{statement}
 use Rattle.split.proofs.keep.Tie as tie
-use Rattle.split.proofs.keep.Reads as reads
-use Rattle.split.proofs.keep.Lts as lts
 
 returns : tie.Need-returns
 returns c = rw (lt-ltb _ _ (c .if1 .taken))

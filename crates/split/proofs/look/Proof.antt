@@ -4,26 +4,10 @@ use Rattle.split.specs.State.{widerNext}
 use borrow.Author.Needs.{needs}
 use Rattle.split.proofs.look.Statement.{statement}
 use Rattle.split.proofs.look.Tie as tie
-use Rattle.split.proofs.look.Reads as reads
-use Rattle.split.proofs.look.Lts as lts
-use Rattle.split.proofs.preference.Reads as preference-reads
-use Rattle.split.proofs.wider.Reads as wider-reads
-
-returns : tie.Need-returns
-returns c = search needs
-
-mul-preference : tie.Need-mul-preference
-mul-preference c = search needs
-
-array-copy-out-preference : tie.Need-array-copy-out-preference
-array-copy-out-preference c = search needs
 
 preference-requires : tie.Need-preference-requires
 unfolding rectFrom
 preference-requires c κs = let s = c .before .before in (s .pre .0 .ok (s .args .i) (s .pre .1 .0), (s .pre .1 .1 .0, s .pre .1 .1 .1))
-
-wider-requires : tie.Need-wider-requires
-wider-requires c κs = search needs
 
 returns-2 : tie.Need-returns-2
 unfolding widerNext preference rectFrom
@@ -33,9 +17,9 @@ pub look-spec : {M : Type 1} → statement M
 look-spec =
     tie.close
     (tie.spec
-    returns
-    mul-preference
-    array-copy-out-preference
+    (λ c. search needs)
+    (λ c. search needs)
+    (λ c. search needs)
     preference-requires
-    wider-requires
+    (λ c κs. search needs)
     returns-2)

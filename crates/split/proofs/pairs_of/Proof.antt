@@ -12,10 +12,6 @@ use Rattle.split.specs.declared.KeyedSeeds.{KeyedSeeds}
 use Rattle.split.specs.State.{Keyed, seedsOf}
 use Rattle.split.proofs.pairs_of.Statement.{statement}
 use Rattle.split.proofs.pairs_of.Tie as tie
-use Rattle.split.proofs.pairs_of.Reads as reads
-use Rattle.split.proofs.pairs_of.Lts as lts
-use Rattle.geometry.proofs.waste.Reads as waste-reads
-use Rattle.split.proofs.keep.Reads as keep-reads
 
 -- j is at most 9 and past i; the pair is keyed; what is left to look at gives what the whole gives
 record Pass (i : ℕ) (nine : List Rect) (b₀ b : KeyedSeeds) (j : ℕ) : Type 0 where
@@ -49,23 +45,8 @@ module _ {i : ℕ} {nine : List Rect} {b₀ b : KeyedSeeds} {j : ℕ} (u : Pass 
     rest = rw (kept-places (u .keyed) new-keyed) (sym (inner-step nine i (seedsOf b) j h) ∙ u .rest);
   }
 
-mul-a : tie.Need-mul-a Inv-loop μ-loop
-mul-a c = search needs
-
-array-copy-out-a : tie.Need-array-copy-out-a Inv-loop μ-loop
-array-copy-out-a c = search needs
-
-add-j : tie.Need-add-j Inv-loop μ-loop
-add-j c = search needs
-
 loop-holds : tie.Need-loop-holds Inv-loop μ-loop
 loop-holds c = record { most = omega arith; past = omega arith; keyed = c .before .pre .1 .1; rest = refl }
-
-mul-waste : tie.Need-mul-waste Inv-loop μ-loop
-mul-waste c = search needs
-
-array-copy-out-waste : tie.Need-array-copy-out-waste Inv-loop μ-loop
-array-copy-out-waste c = search needs
 
 waste-requires : tie.Need-waste-requires Inv-loop μ-loop
 unfolding rectFrom
@@ -73,15 +54,6 @@ waste-requires c κs =
     let start = c .before .before .before .before in
     let loop = c .before .before .loop in
     (start .pre .0 .ok (start .args .i) (start .pre .1 .0), start .pre .0 .ok (loop .j) (c .before .loop-test .taken))
-
-keep-requires : tie.Need-keep-requires Inv-loop μ-loop
-keep-requires c κs = search needs
-
-add-j-2 : tie.Need-add-j-2 Inv-loop μ-loop
-add-j-2 c = search needs
-
-loop-less : tie.Need-loop-less Inv-loop μ-loop
-loop-less c = search needs
 
 loop-again : tie.Need-loop-again Inv-loop μ-loop
 unfolding pair wasteOf rectFrom
@@ -105,15 +77,15 @@ pairs-of-spec =
     (tie.spec
     Inv-loop
     μ-loop
-    mul-a
-    array-copy-out-a
-    add-j
+    (λ c. search needs)
+    (λ c. search needs)
+    (λ c. search needs)
     loop-holds
-    mul-waste
-    array-copy-out-waste
+    (λ c. search needs)
+    (λ c. search needs)
     waste-requires
-    keep-requires
-    add-j-2
-    loop-less
+    (λ c κs. search needs)
+    (λ c. search needs)
+    (λ c. search needs)
     loop-again
     returns)

@@ -14,11 +14,6 @@ use Rattle.geometry.proofs.Rules.{chosen}
 use Rattle.split.proofs.Nexts.{ahead, Preferred, next-key, next-step, next-none, next-first}
 use Rattle.split.proofs.pick_next.Statement.{statement}
 use Rattle.split.proofs.pick_next.Tie as tie
-use Rattle.split.proofs.pick_next.Reads as reads
-use Rattle.split.proofs.pick_next.Lts as lts
-use Rattle.split.proofs.first_left.Reads as first-left-reads
-use Rattle.split.proofs.look.Reads as look-reads
-use Rattle.split.proofs.preference.Reads as preference-reads
 
 -- the key is the place's preference, and the places from i on give what all give
 record Turn (one two : Rect) (nine : List Rect) (joined : List Bool) (best : KeyedPlace) (i : ℕ) : Type 0 where
@@ -45,9 +40,6 @@ Inv-loop one two nine joined at key best₀ i₀ best i = Turn one two nine join
 abbrev μ-loop : tie.MeasureT-loop
 μ-loop one two nine joined at key best₀ i₀ best i = 9 - i
 
-first-left-requires : tie.Need-first-left-requires Inv-loop μ-loop
-first-left-requires c κs = search needs
-
 mul-preference : tie.Need-mul-preference Inv-loop μ-loop
 mul-preference c = omega (arith, c .first-left .ensures .1)
 
@@ -73,17 +65,8 @@ loop-holds c =
       rest = rw f (next-first (start .args .t1) (start .args .one) (start .args .two) (unjoined (start .args .t2) 0));
     }
 
-array-read-look : tie.Need-array-read-look Inv-loop μ-loop
-array-read-look c = search needs
-
 look-requires : tie.Need-look-requires Inv-loop μ-loop
 look-requires c κs = let s = c .before .before .before .before .before in (s .pre .0, (c .loop-test .taken, (s .pre .1 .0, s .pre .1 .1)))
-
-add-i : tie.Need-add-i Inv-loop μ-loop
-add-i c = search needs
-
-loop-less : tie.Need-loop-less Inv-loop μ-loop
-loop-less c = search needs
 
 loop-again : tie.Need-loop-again Inv-loop μ-loop
 loop-again c = rw (c .look .ensures) (turn (c .before .before .loop .inv) (c .before .loop-test .taken))
@@ -101,14 +84,14 @@ pick-next-spec =
     (tie.spec
     Inv-loop
     μ-loop
-    first-left-requires
+    (λ c κs. search needs)
     mul-preference
     array-copy-out-preference
     preference-requires
     loop-holds
-    array-read-look
+    (λ c. search needs)
     look-requires
-    add-i
-    loop-less
+    (λ c. search needs)
+    (λ c. search needs)
     loop-again
     returns)

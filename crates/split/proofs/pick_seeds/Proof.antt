@@ -11,10 +11,6 @@ use Rattle.split.specs.State.{Keyed, seedsOf}
 use Rattle.split.proofs.Seeds.{outer, outer-step, outer-none, outer-all}
 use Rattle.split.proofs.pick_seeds.Statement.{statement}
 use Rattle.split.proofs.pick_seeds.Tie as tie
-use Rattle.split.proofs.pick_seeds.Reads as reads
-use Rattle.split.proofs.pick_seeds.Lts as lts
-use Rattle.geometry.proofs.waste.Reads as waste-reads
-use Rattle.split.proofs.pairs_of.Reads as pairs-of-reads
 
 -- the pair is keyed, and the first members from i on give what all give
 record Round (nine : List Rect) (b : KeyedSeeds) (i : ℕ) : Type 0 where
@@ -27,12 +23,6 @@ Inv-loop nine key b₀ i₀ b i = Round nine b i
 
 abbrev μ-loop : tie.MeasureT-loop
 μ-loop nine key b₀ i₀ b i = 9 - i
-
-array-copy-out-waste : tie.Need-array-copy-out-waste Inv-loop μ-loop
-array-copy-out-waste c = search needs
-
-array-copy-out-waste-2 : tie.Need-array-copy-out-waste-2 Inv-loop μ-loop
-array-copy-out-waste-2 c = search needs
 
 waste-requires : tie.Need-waste-requires Inv-loop μ-loop
 unfolding rectFrom
@@ -50,12 +40,6 @@ loop-holds c =
 
 pairs-of-requires : tie.Need-pairs-of-requires Inv-loop μ-loop
 pairs-of-requires c κs = let s = c .before .before .before .before .before in (s .pre, (c .loop-test .taken, c .before .loop .inv .keyed))
-
-add-i : tie.Need-add-i Inv-loop μ-loop
-add-i c = search needs
-
-loop-less : tie.Need-loop-less Inv-loop μ-loop
-loop-less c = search needs
 
 loop-again : tie.Need-loop-again Inv-loop μ-loop
 loop-again c =
@@ -80,12 +64,12 @@ pick-seeds-spec =
     (tie.spec
     Inv-loop
     μ-loop
-    array-copy-out-waste
-    array-copy-out-waste-2
+    (λ c. search needs)
+    (λ c. search needs)
     waste-requires
     loop-holds
     pairs-of-requires
-    add-i
-    loop-less
+    (λ c. search needs)
+    (λ c. search needs)
     loop-again
     returns)

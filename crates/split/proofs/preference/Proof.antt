@@ -4,19 +4,6 @@ use Rattle.split.proofs.Nexts.{abs-minus}
 use borrow.Author.Needs.{needs}
 use Rattle.split.proofs.preference.Statement.{statement}
 use Rattle.split.proofs.preference.Tie as tie
-use Rattle.split.proofs.preference.Reads as reads
-use Rattle.split.proofs.preference.Lts as lts
-use Rattle.geometry.proofs.enlargement.Reads as enlargement-reads
-use Rattle.split.proofs.apart.Reads as apart-reads
-
-enlargement-requires : tie.Need-enlargement-requires
-enlargement-requires c κs = search needs
-
-enlargement-requires-2 : tie.Need-enlargement-requires-2
-enlargement-requires-2 c κs = search needs
-
-apart-requires : tie.Need-apart-requires
-apart-requires c κs = search needs
 
 returns : tie.Need-returns
 returns c =
@@ -28,4 +15,4 @@ returns c =
 
 pub preference-spec : {M : Type 1} → statement M
 preference-spec =
-    tie.close (tie.spec enlargement-requires enlargement-requires-2 apart-requires returns)
+    tie.close (tie.spec (λ c κs. search needs) (λ c κs. search needs) (λ c κs. search needs) returns)

@@ -4,29 +4,6 @@ use Rattle.geometry.proofs.Rules.{by-rule}
 use borrow.Author.Needs.{needs}
 use Rattle.split.proofs.second_first.Statement.{statement}
 use Rattle.split.proofs.second_first.Tie as tie
-use Rattle.split.proofs.second_first.Reads as reads
-use Rattle.split.proofs.second_first.Lts as lts
-use Rattle.geometry.proofs.area.Reads as area-reads
-use Rattle.geometry.proofs.enlargement.Reads as enlargement-reads
-use Rattle.geometry.proofs.less_then.Reads as less-then-reads
-
-enlargement-requires : tie.Need-enlargement-requires
-enlargement-requires c κs = search needs
-
-enlargement-requires-2 : tie.Need-enlargement-requires-2
-enlargement-requires-2 c κs = search needs
-
-area-requires : tie.Need-area-requires
-area-requires c κs = search needs
-
-area-requires-2 : tie.Need-area-requires-2
-area-requires-2 c κs = search needs
-
-less-then-requires : tie.Need-less-then-requires
-less-then-requires c κs = search needs
-
-less-then-requires-2 : tie.Need-less-then-requires-2
-less-then-requires-2 c κs = search needs
 
 returns : tie.Need-returns
 unfolding secondFirst
@@ -42,10 +19,10 @@ pub second-first-spec : {M : Type 1} → statement M
 second-first-spec =
     tie.close
     (tie.spec
-    enlargement-requires
-    enlargement-requires-2
-    area-requires
-    area-requires-2
-    less-then-requires
-    less-then-requires-2
+    (λ c κs. search needs)
+    (λ c κs. search needs)
+    (λ c κs. search needs)
+    (λ c κs. search needs)
+    (λ c κs. search needs)
+    (λ c κs. search needs)
     returns)

@@ -11,11 +11,6 @@ use Rattle.split.specs.State.{Fill, Ok, groupsOf, ends}
 use Rattle.split.proofs.Starts.{starts-same, ends-same, whole}
 use Rattle.split.proofs.split_nine.Statement.{statement}
 use Rattle.split.proofs.split_nine.Tie as tie
-use Rattle.split.proofs.split_nine.Reads as reads
-use Rattle.split.proofs.split_nine.Lts as lts
-use Rattle.split.proofs.assign.Reads as assign-reads
-use Rattle.split.proofs.begun.Reads as begun-reads
-use Rattle.split.proofs.pick_seeds.Reads as pick-seeds-reads
 
 -- n places have joined, and what the groups come to is what the definition says
 record Turn (nine : List Rect) (t : Grouping) (n : ℕ) : Type 0 where
@@ -58,12 +53,6 @@ assign-requires c κs =
     let l = c .before .loop .inv in
     (start .pre, (l .ok, (omega (arith, l .count, c .loop-test .taken), l .fill)))
 
-add-n : tie.Need-add-n Inv-loop μ-loop
-add-n c = search needs
-
-loop-less : tie.Need-loop-less Inv-loop μ-loop
-loop-less c = search needs
-
 loop-again : tie.Need-loop-again Inv-loop μ-loop
 loop-again c =
     let l = c .before .before .loop .inv in
@@ -91,7 +80,7 @@ split-nine-spec =
     begun-requires
     loop-holds
     assign-requires
-    add-n
-    loop-less
+    (λ c. search needs)
+    (λ c. search needs)
     loop-again
     returns)

@@ -1,8 +1,6 @@
 use borrow.Author.Tests.{lt-ltb, le-ltb}
 use Rattle.split.proofs.wider.Statement.{statement}
 use Rattle.split.proofs.wider.Tie as tie
-use Rattle.split.proofs.wider.Reads as reads
-use Rattle.split.proofs.wider.Lts as lts
 
 returns : tie.Need-returns
 returns c = rw (lt-ltb _ _ (c .if1 .taken))

@@ -9,16 +9,6 @@ use Rattle.pool.proofs.Blanks.{mark, blank-valid, blank-wrong}
 use borrow.Author.Needs.{needs}
 use Rattle.pool.proofs.blank.blank.Statement.{statement}
 use Rattle.pool.proofs.blank.blank.Tie as tie
-use Rattle.pool.proofs.blank.blank.Reads as reads
-use Rattle.pool.proofs.blank.blank.Lts as lts
-use Rattle.pool.proofs.valid_length.Reads as valid-length-reads
-use Rattle.pool.proofs.blank.zero_all.Reads as zero-all-reads
-
-valid-length-requires : tie.Need-valid-length-requires
-valid-length-requires c κs = search needs
-
-zero-all-requires : tie.Need-zero-all-requires
-zero-all-requires c κs = search needs
 
 slice-set-of-pool : tie.Need-slice-set-of-pool
 slice-set-of-pool c =
@@ -60,9 +50,6 @@ slice-set-of-pool-4 c =
     let kept = c .before .zero-all .kept .0 in
     simp length-set (omega arith)
 
-same-length : tie.Need-same-length
-same-length c = search needs
-
 returns : tie.Need-returns
 returns c =
     let start = c .before .before .before .before .before .before in
@@ -71,9 +58,6 @@ returns c =
     let valid = sym (valid-length .ensures) ∙ if1 .taken in
     let q = sym (blank-valid (start .args .pool .now) valid) in
     (ap (λ (b : Blanked). pos (b .number)) q, ap mark (c .before .zero-all .ensures) ∙ ap (λ (b : Blanked). b .pool) q)
-
-same-length-2 : tie.Need-same-length-2
-same-length-2 c = search needs
 
 returns-2 : tie.Need-returns-2
 returns-2 c =
@@ -85,13 +69,13 @@ pub blank-spec : {M : Type 1} → statement M
 blank-spec =
     tie.close
     (tie.spec
-    valid-length-requires
-    zero-all-requires
+    (λ c κs. search needs)
+    (λ c κs. search needs)
     slice-set-of-pool
     slice-set-of-pool-2
     slice-set-of-pool-3
     slice-set-of-pool-4
-    same-length
+    (λ c. search needs)
     returns
-    same-length-2
+    (λ c. search needs)
     returns-2)

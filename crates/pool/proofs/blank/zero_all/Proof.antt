@@ -11,8 +11,6 @@ use Rattle.pool.proofs.Runs.{zeros}
 use Rattle.pool.proofs.Blanks.{zeros-stored, zeros-all}
 use Rattle.pool.proofs.blank.zero_all.Statement.{statement}
 use Rattle.pool.proofs.blank.zero_all.Tie as tie
-use Rattle.pool.proofs.blank.zero_all.Reads as reads
-use Rattle.pool.proofs.blank.zero_all.Lts as lts
 
 -- the first i words are zero
 record Turn (pool₀ pool : List ℤ) (i : ℕ) : Type 0 where
@@ -28,18 +26,6 @@ abbrev μ-loop : tie.MeasureT-loop
 
 loop-holds : tie.Need-loop-holds Inv-loop μ-loop
 loop-holds c = record { most = omega arith; size = refl; is = refl }
-
-mul-pool : tie.Need-mul-pool Inv-loop μ-loop
-mul-pool c = search needs
-
-slice-set-of-pool : tie.Need-slice-set-of-pool Inv-loop μ-loop
-slice-set-of-pool c = search needs
-
-add-i : tie.Need-add-i Inv-loop μ-loop
-add-i c = search needs
-
-loop-less : tie.Need-loop-less Inv-loop μ-loop
-loop-less c = search needs
 
 loop-again : tie.Need-loop-again Inv-loop μ-loop
 loop-again c = let w = c .before .before .args .pool .now in let l = c .before .loop in let t = l .inv in
@@ -64,10 +50,10 @@ zero-all-spec =
     Inv-loop
     μ-loop
     loop-holds
-    mul-pool
-    slice-set-of-pool
-    add-i
-    loop-less
+    (λ c. search needs)
+    (λ c. search needs)
+    (λ c. search needs)
+    (λ c. search needs)
     loop-again
     same-length
     returns)

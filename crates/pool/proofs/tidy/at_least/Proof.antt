@@ -3,16 +3,6 @@ use mir.Facts.{toZ-ofZ}
 use Rattle.pool.proofs.Naturals.{word-read}
 use Rattle.pool.proofs.tidy.at_least.Statement.{statement}
 use Rattle.pool.proofs.tidy.at_least.Tie as tie
-use Rattle.pool.proofs.tidy.at_least.Reads as reads
-use Rattle.pool.proofs.tidy.at_least.Lts as lts
-use Rattle.pool.proofs.word.Reads as word-reads
-use Rattle.geometry.proofs.le.Reads as le-reads
-
-word-requires : tie.Need-word-requires
-word-requires c κs = search needs
-
-le-requires : tie.Need-le-requires
-le-requires c κs = search needs
 
 returns : tie.Need-returns
 returns c =
@@ -20,4 +10,4 @@ returns c =
     rw (toZ-ofZ (c .before .before .fits .x), word-read (sfits-of (w .ok)) (w .ensures)) at (c .le .ensures)
 
 pub at-least-spec : {M : Type 1} → statement M
-at-least-spec = tie.close (tie.spec word-requires le-requires returns)
+at-least-spec = tie.close (tie.spec (λ c κs. search needs) (λ c κs. search needs) returns)

@@ -16,10 +16,6 @@ use Rattle.pool.proofs.Stand.{parts-on, parts-stop, parts-end}
 use Rattle.pool.proofs.Written.{entry-size}
 use Rattle.pool.proofs.tidy.tidy_entries.Statement.{statement}
 use Rattle.pool.proofs.tidy.tidy_entries.Tie as tie
-use Rattle.pool.proofs.tidy.tidy_entries.Reads as reads
-use Rattle.pool.proofs.tidy.tidy_entries.Lts as lts
-use Rattle.pool.proofs.count_of.Reads as count-of-reads
-use Rattle.pool.proofs.tidy.tidy_entry.Reads as tidy-entry-reads
 
 -- the entries from i on are asked as all are
 record Turn (w : List ℤ) (at : ℕ) (es : List Entry) (n i : ℕ) : Type 0 where
@@ -58,12 +54,6 @@ returns c =
     sym (parts-stop entrySize entryWords entry-size w (slotStart (s .args .s) + slotHead) noEntry es (l .i) here fits
     (sym (c .before .tidy-entry .ensures) ∙ not-true _ (c .if1 .taken)))
     ∙ l .inv .rest
-
-add-i : tie.Need-add-i Inv-loop μ-loop
-add-i c = search needs
-
-loop-less : tie.Need-loop-less Inv-loop μ-loop
-loop-less c = search needs
 
 loop-again : tie.Need-loop-again Inv-loop μ-loop
 unfolding entryAt entryFrom
@@ -104,7 +94,7 @@ tidy-entries-spec =
     loop-holds
     tidy-entry-requires
     returns
-    add-i
-    loop-less
+    (λ c. search needs)
+    (λ c. search needs)
     loop-again
     returns-2)

@@ -8,14 +8,6 @@ use Rattle.pool.proofs.Tidied.{leaf-entry, child-entry}
 use borrow.Author.Needs.{needs}
 use Rattle.pool.proofs.tidy.tidy_entry.Statement.{statement}
 use Rattle.pool.proofs.tidy.tidy_entry.Tie as tie
-use Rattle.pool.proofs.tidy.tidy_entry.Reads as reads
-use Rattle.pool.proofs.tidy.tidy_entry.Lts as lts
-use Rattle.pool.proofs.level_of.Reads as level-of-reads
-use Rattle.pool.proofs.tidy.at_least.Reads as at-least-reads
-use Rattle.pool.proofs.pointer_place.Reads as pointer-place-reads
-
-level-of-requires : tie.Need-level-of-requires
-level-of-requires c κs = search needs
 
 returns : tie.Need-returns
 returns c =
@@ -42,7 +34,7 @@ pub tidy-entry-spec : {M : Type 1} → statement M
 tidy-entry-spec =
     tie.close
     (tie.spec
-    level-of-requires
+    (λ c κs. search needs)
     returns
     pointer-place-requires
     at-least-requires

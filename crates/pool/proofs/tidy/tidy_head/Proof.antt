@@ -6,12 +6,6 @@ use Rattle.pool.proofs.Tidied.{head-stands}
 use borrow.Author.Needs.{needs}
 use Rattle.pool.proofs.tidy.tidy_head.Statement.{statement}
 use Rattle.pool.proofs.tidy.tidy_head.Tie as tie
-use Rattle.pool.proofs.tidy.tidy_head.Reads as reads
-use Rattle.pool.proofs.tidy.tidy_head.Lts as lts
-use Rattle.geometry.proofs.and.Reads as and-reads
-use Rattle.pool.proofs.tidy.is_word.Reads as is-word-reads
-use Rattle.pool.proofs.tidy.tidy_numbers.Reads as tidy-numbers-reads
-use Rattle.pool.proofs.tidy.zeros.Reads as zeros-reads
 
 is-word-requires : tie.Need-is-word-requires
 is-word-requires c κs = omega (arith, right-size (c .args .pool .now) (c .pre))
@@ -21,12 +15,6 @@ tidy-numbers-requires c κs = omega (arith, right-size (c .before .args .pool .n
 
 zeros-requires : tie.Need-zeros-requires
 zeros-requires c κs = (omega arith, omega (arith, right-size (c .before .before .args .pool .now) (c .before .before .pre)))
-
-and-requires : tie.Need-and-requires
-and-requires c κs = search needs
-
-and-requires-2 : tie.Need-and-requires-2
-and-requires-2 c κs = search needs
 
 returns : tie.Need-returns
 returns c =
@@ -46,6 +34,6 @@ tidy-head-spec =
     is-word-requires
     tidy-numbers-requires
     zeros-requires
-    and-requires
-    and-requires-2
+    (λ c κs. search needs)
+    (λ c κs. search needs)
     returns)

@@ -6,28 +6,9 @@ use Rattle.pool.proofs.Tidied.{slot-places}
 use borrow.Author.Needs.{needs}
 use Rattle.pool.proofs.tidy.tidy_places.Statement.{statement}
 use Rattle.pool.proofs.tidy.tidy_places.Tie as tie
-use Rattle.pool.proofs.tidy.tidy_places.Reads as reads
-use Rattle.pool.proofs.tidy.tidy_places.Lts as lts
-use Rattle.pool.proofs.count_of.Reads as count-of-reads
-use Rattle.geometry.proofs.and.Reads as and-reads
-use Rattle.pool.proofs.slot_start.Reads as slot-start-reads
-use Rattle.pool.proofs.tidy.tidy_entries.Reads as tidy-entries-reads
-use Rattle.pool.proofs.tidy.zeros.Reads as zeros-reads
 
 slot-start-requires : tie.Need-slot-start-requires
 slot-start-requires c κs = (c .pre .low, few (c .pre))
-
-count-of-requires : tie.Need-count-of-requires
-count-of-requires c κs = search needs
-
-tidy-entries-requires : tie.Need-tidy-entries-requires
-tidy-entries-requires c κs = search needs
-
-add-zeros : tie.Need-add-zeros
-add-zeros c = search needs
-
-mul-zeros : tie.Need-mul-zeros
-mul-zeros c = search needs
 
 add-zeros-2 : tie.Need-add-zeros-2
 add-zeros-2 c = omega (arith, room (c .before .before .before .pre), c .before .before .slot-start .ensures, c .before .count-of .ensures .1)
@@ -41,9 +22,6 @@ zeros-requires c κs =
     let b = c .before .before .slot-start .ensures in
     let n = c .before .count-of .ensures .1 in
     (omega arith, omega arith)
-
-and-requires : tie.Need-and-requires
-and-requires c κs = search needs
 
 returns : tie.Need-returns
 returns c =
@@ -59,12 +37,12 @@ tidy-places-spec =
     tie.close
     (tie.spec
     slot-start-requires
-    count-of-requires
-    tidy-entries-requires
-    add-zeros
-    mul-zeros
+    (λ c κs. search needs)
+    (λ c κs. search needs)
+    (λ c. search needs)
+    (λ c. search needs)
     add-zeros-2
     add-zeros-3
     zeros-requires
-    and-requires
+    (λ c κs. search needs)
     returns)

@@ -6,14 +6,6 @@ use Rattle.pool.proofs.Tidied.{slot-stands}
 use borrow.Author.Needs.{needs}
 use Rattle.pool.proofs.tidy.tidy_slot.Statement.{statement}
 use Rattle.pool.proofs.tidy.tidy_slot.Tie as tie
-use Rattle.pool.proofs.tidy.tidy_slot.Reads as reads
-use Rattle.pool.proofs.tidy.tidy_slot.Lts as lts
-use Rattle.geometry.proofs.and.Reads as and-reads
-use Rattle.pool.proofs.tidy.at_least.Reads as at-least-reads
-use Rattle.pool.proofs.slot_start.Reads as slot-start-reads
-use Rattle.pool.proofs.count_place.Reads as count-place-reads
-use Rattle.pool.proofs.tidy.tidy_count.Reads as tidy-count-reads
-use Rattle.pool.proofs.tidy.tidy_places.Reads as tidy-places-reads
 
 slot-start-requires : tie.Need-slot-start-requires
 slot-start-requires c κs = (c .pre .low, few (c .pre))
@@ -27,15 +19,6 @@ count-place-requires c κs = let i = c .before .before .pre in (i .low, few i)
 tidy-count-requires : tie.Need-tidy-count-requires
 tidy-count-requires c κs =
     omega (arith, room (c .before .before .before .pre), c .count-place .ensures)
-
-tidy-places-requires : tie.Need-tidy-places-requires
-tidy-places-requires c κs = search needs
-
-and-requires : tie.Need-and-requires
-and-requires c κs = search needs
-
-and-requires-2 : tie.Need-and-requires-2
-and-requires-2 c κs = search needs
 
 returns : tie.Need-returns
 returns c =
@@ -57,7 +40,7 @@ tidy-slot-spec =
     at-least-requires
     count-place-requires
     tidy-count-requires
-    tidy-places-requires
-    and-requires
-    and-requires-2
+    (λ c κs. search needs)
+    (λ c κs. search needs)
+    (λ c κs. search needs)
     returns)

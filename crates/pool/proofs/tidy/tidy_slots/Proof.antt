@@ -14,10 +14,6 @@ use Rattle.pool.specs.Standing.{stand}
 use Rattle.pool.proofs.Stand.{parts-on, parts-stop, parts-end}
 use Rattle.pool.proofs.tidy.tidy_slots.Statement.{statement}
 use Rattle.pool.proofs.tidy.tidy_slots.Tie as tie
-use Rattle.pool.proofs.tidy.tidy_slots.Reads as reads
-use Rattle.pool.proofs.tidy.tidy_slots.Lts as lts
-use Rattle.pool.proofs.slot_count.Reads as slot-count-reads
-use Rattle.pool.proofs.tidy.tidy_slot.Reads as tidy-slot-reads
 
 -- the slots from s on are asked as all are
 record Turn (w : List ℤ) (n s : ℕ) : Type 0 where

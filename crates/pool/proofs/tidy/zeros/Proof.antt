@@ -10,9 +10,6 @@ use Rattle.pool.specs.Standing.{stand}
 use Rattle.pool.proofs.Stand.{zeros-on, zeros-stop, zeros-end}
 use Rattle.pool.proofs.tidy.zeros.Statement.{statement}
 use Rattle.pool.proofs.tidy.zeros.Tie as tie
-use Rattle.pool.proofs.tidy.zeros.Reads as reads
-use Rattle.pool.proofs.tidy.zeros.Lts as lts
-use Rattle.pool.proofs.tidy.is_word.Reads as is-word-reads
 
 -- the words from i on are asked as those from the first are
 record Turn (w : List ℤ) (from to i : ℕ) : Type 0 where
@@ -39,12 +36,6 @@ returns c =
     let t = c .before .before .loop-test .taken in
     sym (zeros-stop w (l .i) (s .args .to) t (s .pre .1) (sym (c .before .is-word .ensures) ∙ not-true _ (c .if1 .taken))) ∙ l .inv .rest
 
-add-i : tie.Need-add-i Inv-loop μ-loop
-add-i c = search needs
-
-loop-less : tie.Need-loop-less Inv-loop μ-loop
-loop-less c = search needs
-
 loop-again : tie.Need-loop-again Inv-loop μ-loop
 loop-again c =
     let s = c .before .before .before .before in
@@ -69,7 +60,7 @@ zeros-spec =
     loop-holds
     is-word-requires
     returns
-    add-i
-    loop-less
+    (λ c. search needs)
+    (λ c. search needs)
     loop-again
     returns-2)
