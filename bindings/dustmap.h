@@ -44,7 +44,7 @@ enum dustmap_number {
      * N slots, N from 1 to 4,096, and a workspace of the same length; a file of another length is cut, or is no pool. */
     DUSTMAP_BAD_LENGTH = 1,
     /* Call refused: pool not sound. What to do: do not use this pool; it is damaged, or is no pool. Take the last good copy and
-     * make the later changes again, or insert all into a blank one. */
+     * make the later changes again, or insert every record into a blank one. */
     DUSTMAP_NOT_SOUND = 2,
     /* Call refused: a request is of none of the four kinds. What to do: give each request the kind 1 insert, 2 delete, 3 update
      * or 4 search. */

@@ -95,7 +95,7 @@ NUMBERS: dict[int, Meaning] = {
         "not sound",
         "call refused",
         "pool not sound",
-        "do not use this pool; it is damaged, or is no pool. Take the last good copy and make the later changes again, or insert all into a blank one",
+        "do not use this pool; it is damaged, or is no pool. Take the last good copy and make the later changes again, or insert every record into a blank one",
     ),
     NO_REQUEST: Meaning(
         NO_REQUEST,

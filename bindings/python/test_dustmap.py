@@ -255,7 +255,8 @@ class Growing(Case):
     def test_a_batch_that_also_changes_the_map(self) -> None:
         """The batch is done again when its list has grown: each change is still made once, and each search sees the map of its moment."""
         whole = Request.search(dustmap.WHOLE_SITE)
-        requests = [whole, Request.delete(1, (0, 0, 5, 5)), whole, Request.insert(1, (0, 0, 5, 5)), Request.insert(1, (0, 0, 5, 5)), whole]
+        new = Request.insert(301, (7, 7, 8, 8))
+        requests = [whole, Request.delete(1, (0, 0, 5, 5)), whole, new, new, whole]
         m, one_by_one = row_of(300, 128), row_of(300, 128)
         answers = m.batch(requests)
         self.assertEqual([a.number for a in answers], [0, 0, 0, 0, 6, 0])
@@ -296,6 +297,7 @@ class Pools(Case):
     def test_slots(self) -> None:
         for slots in (1, 128, 4096):
             self.assertEqual((Map(slots).slots, len(Map(slots).words())), (slots, 8 + 42 * slots))
+        self.assertEqual(repr(Map(3)), "<Map: 0 records, height 1, 2 of 3 slots free>")
         for slots in (0, -1, 4097, 2**40):
             self.assertRaisesRegex(ValueError, "slots", Map, slots)
 

@@ -75,7 +75,7 @@ pub const NUMBERS: [Meaning; 11] = [
         name: "not sound",
         effect: "call refused",
         when: "pool not sound",
-        what_to_do: "do not use this pool; it is damaged, or is no pool. Take the last good copy and make the later changes again, or insert all into a blank one",
+        what_to_do: "do not use this pool; it is damaged, or is no pool. Take the last good copy and make the later changes again, or insert every record into a blank one",
     },
     Meaning {
         number: NO_REQUEST,
