@@ -11,8 +11,8 @@ Rectangles are low x, low y, high x, high y in whole millimetres, and touching c
 and its words; in a batch each request has its own answer, and a refused one does not stop the others. What cannot be asked at all, as a float or a
 number beyond 32 bits, is a TypeError or a ValueError before anything is done.
 
-It needs Python 3.10 or later, and nothing but the standard library. The map itself is target/sharedlib/libdustmap.so, which `tools/library` proves and writes; the environment
-variable DUSTMAP_LIBRARY names another place for it. docs/NUMBERS.md has the numbers with their words.
+It needs Python 3.10 or later, and nothing but the standard library. The map itself is target/sharedlib/libdustmap.so, which `tools/library` proves
+and writes; the environment variable DUSTMAP_LIBRARY names another place for it. docs/NUMBERS.md has the numbers with their words.
 """
 
 from __future__ import annotations
