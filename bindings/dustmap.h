@@ -1,4 +1,4 @@
-/* The map of dust sensors, haul roads and stockpiles, for C and C++: link libmap.a, which `rt staticlib map` writes.
+/* The map of dust sensors, haul roads and stockpiles, for C and C++: link libmap.a or libdustmap.so, which `tools/library` writes.
  *
  * A pool is 8 + 42N words for N slots, N from 1 to 4,096. The caller lends every list and keeps it: nothing is allocated, and
  * the pool is all that one call leaves to the next.
@@ -32,20 +32,42 @@ struct dustmap_request {
     struct dustmap_rect second; /* an update's new rectangle */
 };
 
-/* What comes back, from a call or in an answer. */
+/* What comes back, from a call or in an answer, in the order of checks. */
+/* Written by `tools/numbers` from bindings/numbers.txt: do not edit by hand. */
 enum dustmap_number {
+    /* Accepted: as defined. What to do: nothing; the change is made, or the search is answered. */
     DUSTMAP_ACCEPTED = 0,
-    DUSTMAP_BAD_LISTS = 9,     /* call: more than 1,024 requests, or answer list of another length than the request list */
-    DUSTMAP_BAD_LENGTH = 1,    /* call: pool length wrong, or workspace length differs from the pool's */
-    DUSTMAP_NOT_SOUND = 2,     /* call: pool not sound */
-    DUSTMAP_NO_REQUEST = -1,   /* call: a request is of none of the four kinds */
-    DUSTMAP_BAD_RECTANGLE = 3, /* window, old or new rectangle: a coordinate out of range, or low above high */
-    DUSTMAP_BAD_NUMBER = 4,    /* record number below 1 */
-    DUSTMAP_NOT_HELD = 5,      /* delete or update: old pair not held */
-    DUSTMAP_HELD = 6,          /* insert: pair held; update: new pair held and not the old pair */
-    DUSTMAP_NO_SLOT = 7,       /* the rules call for a slot at a moment when none is free */
-    DUSTMAP_NO_ROOM = 8        /* search: more found than places left in the found list */
+    /* Call refused: more than 1,024 requests, or answer list of another length than the request list. What to do: hand over at
+     * most 1,024 requests in one call, and an answer list with one place for each; where there are more, make several calls. */
+    DUSTMAP_BAD_LISTS = 9,
+    /* Call refused: pool length wrong, or workspace length differs from the pool's. What to do: lend a pool of 8 + 42N words for
+     * N slots, N from 1 to 4,096, and a workspace of the same length; a file of another length is cut, or is no pool. */
+    DUSTMAP_BAD_LENGTH = 1,
+    /* Call refused: pool not sound. What to do: do not use this pool; it is damaged, or is no pool. Take the last good copy and
+     * make the later changes again, or insert every record into a blank one. */
+    DUSTMAP_NOT_SOUND = 2,
+    /* Call refused: a request is of none of the four kinds. What to do: give each request the kind 1 insert, 2 delete, 3 update
+     * or 4 search. */
+    DUSTMAP_NO_REQUEST = -1,
+    /* Request refused: window, old or new rectangle: a coordinate out of range, or low above high. What to do: give low x, low y,
+     * high x, high y, in this order, in whole millimetres from -1,000,000,000 to 1,000,000,000, no low above its high. */
+    DUSTMAP_BAD_RECTANGLE = 3,
+    /* Request refused: record number below 1. What to do: give a record number from 1 to 2,147,483,647. */
+    DUSTMAP_BAD_NUMBER = 4,
+    /* Request refused: delete or update: old pair not held. What to do: give the record number with the rectangle exactly as it
+     * is held; a search of that place lists what is there. */
+    DUSTMAP_NOT_HELD = 5,
+    /* Request refused: insert: pair held; update: new pair held and not the old pair. What to do: insert: nothing, if this pair
+     * is meant; it is in force already. Update: both pairs are in force; delete the old one if it is to go. */
+    DUSTMAP_HELD = 6,
+    /* Request refused: the rules call for a slot at a moment when none is free. What to do: delete what is no longer needed and
+     * ask again, or blank a pool with more slots (4,096 at most) and insert every record there. */
+    DUSTMAP_NO_SLOT = 7,
+    /* Request refused: search: more found than places left in the found list. What to do: ask again with a longer found list (the
+     * answer says how many records this search finds), or with a smaller window. */
+    DUSTMAP_NO_ROOM = 8
 };
+/* End of what `tools/numbers` writes. */
 
 /* Four words. The number is 0 or one of 3 to 8, which are checked in that order; a request that is refused changes neither pool
  * nor found list. The other three are zero for all but a search; 8 reports found and opened as they would have been. */

@@ -1,6 +1,8 @@
 //! The proved map, for Rust: the functions of `bindings/dustmap.h` as safe ones.
 //!
-//! The numbers that come back are those of the header, which says what each means.
+//! The numbers that come back are those of the header; `numbers` has a name and the words for each.
+
+pub mod numbers;
 
 /// The words of a pool before its first slot, and of a slot.
 pub const HEAD_WORDS: usize = 8;

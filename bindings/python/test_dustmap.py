@@ -1,0 +1,547 @@
+#!/usr/bin/env python3
+"""Tests of the Python module. `tools/python` builds the library and runs them; the last line counts."""
+
+from __future__ import annotations
+
+import array
+import copy
+import os
+import pickle
+import random
+import struct
+import subprocess
+import sys
+import threading
+import unittest
+from pathlib import Path
+from typing import Any, Callable, Optional, TextIO
+from unittest import mock
+
+sys.dont_write_bytecode = True
+ROOT = Path(__file__).resolve().parents[2]
+sys.path.insert(0, str(ROOT / "bindings" / "python"))
+
+import dustmap  # noqa: E402
+from dustmap import Answer, LibraryMissing, Map, Record, Rect, Refused, Request  # noqa: E402
+
+ZONE = (0, 0, 10, 10)
+MOST = 1_000_000_000
+
+# Document 01's table, copied from it and not from bindings/numbers.txt, so that a slip there is seen.
+DOCUMENT = {
+    0: ("accepted", "as defined"),
+    9: ("more than 1,024 requests, or answer list of another length than the request list", "call refused"),
+    1: ("pool length wrong, or workspace length differs from the pool's", "call refused"),
+    2: ("pool not sound", "call refused"),
+    3: ("window, old or new rectangle: a coordinate out of range, or low above high", "request refused"),
+    4: ("record number below 1", "request refused"),
+    5: ("delete or update: old pair not held", "request refused"),
+    6: ("insert: pair held; update: new pair held and not the old pair", "request refused"),
+    7: ("the rules call for a slot at a moment when none is free", "request refused"),
+    8: ("search: more found than places left in the found list", "request refused"),
+}
+
+
+def nine() -> list[Request]:
+    """The entries of site example 7 as records 1 to 9."""
+    return [Request.insert(k + 1, (10 * k, 0, 10 * k + 10, 10)) for k in range(8)] + [Request.insert(9, (1000, 0, 1010, 10))]
+
+
+def row_of(count: int, slots: int) -> Map:
+    """A map of so many records, each its own square in a row."""
+    m = Map(slots)
+    for first in range(0, count, dustmap.MOST_REQUESTS):
+        last = min(count, first + dustmap.MOST_REQUESTS)
+        for answer in m.batch(Request.insert(k + 1, (10 * k, 0, 10 * k + 5, 5)) for k in range(first, last)):
+            answer.or_raise()
+    return m
+
+
+class Case(unittest.TestCase):
+    """What several of the tests ask."""
+
+    def refused(self, number: int, ask: Callable[[], Any]) -> Refused:
+        """That it is refused with that number and with its words; the refusal."""
+        with self.assertRaises(Refused) as caught:
+            ask()
+        refusal = caught.exception
+        self.assertEqual(refusal.number, number)
+        self.assertEqual(refusal.meaning, dustmap.NUMBERS[number])
+        for words in (str(number), refusal.meaning.name, refusal.meaning.when, refusal.meaning.what_to_do):
+            self.assertIn(words, str(refusal))
+        return refusal
+
+    def refused_request(self, number: int, m: Map, request: Request, places: Optional[int] = None) -> Answer:
+        """That the request is answered with that number in a batch, is raised by itself, and changes nothing; its answer."""
+        before = m.words()
+        answer, after = m.batch([request, Request.search((MOST, MOST, MOST, MOST))], places)
+        self.assertEqual((answer.number, answer.accepted, answer.records), (number, False, ()))
+        self.assertEqual(answer.meaning, dustmap.NUMBERS[number])
+        self.assertTrue(after.accepted, "a refused request does not stop those after it")
+        self.assertEqual(self.refused(number, answer.or_raise).request, request)
+        self.assertEqual(m.words(), before, "a refused request changes nothing")
+        return answer
+
+
+class Examples(Case):
+    """Document 01's own."""
+
+    def test_as_a_user_writes_it(self) -> None:
+        m = Map(slots=128)
+        m.insert(7, (0, 0, 10, 10))
+        found = m.search((10, 10, 20, 20))
+        self.assertEqual(found.records, (Record(7, Rect(0, 0, 10, 10)),))
+        self.assertEqual((len(found), found.opened, found[0].number, found[0].rect.high_x), (1, 1, 7, 10))
+        self.assertEqual([(number, tuple(rect)) for number, rect in found], [(7, ZONE)])
+        self.assertEqual(repr(m), "<Map: 1 record, height 1, 127 of 128 slots free>")
+        self.assertFalse(m.search((11, 0, 20, 10)), "nothing found is an empty sequence")
+
+    def test_the_document(self) -> None:
+        script = ROOT / "bindings" / "python" / "document.py"
+        run = subprocess.run([sys.executable, "-B", script], stdout=subprocess.PIPE, check=True, text=True)
+        self.assertEqual(run.stdout, (ROOT / "examples" / "document.lines").read_text())
+
+    def test_the_frames_of_the_examples(self) -> None:
+        for frames in sorted((ROOT / "examples").glob("*.frames")):
+            with self.subTest(frames.name):
+                self.assertEqual(printed(frames.read_bytes()), frames.with_suffix(".lines").read_text())
+
+    def test_searches_of_nine(self) -> None:
+        m = Map(12)
+        m.batch(nine())
+        for window, numbers, opened in (((55, 0, 58, 10), [6], 2), ((60, 0, 60, 0), [6, 7], 3), ((2000, 0, 2000, 0), [], 1)):
+            found = m.search(window)
+            self.assertEqual(([r.number for r in found], found.opened), (numbers, opened))
+
+    def test_the_last_of_nine_goes(self) -> None:
+        m = Map(12)
+        m.batch(nine())
+        self.assertEqual((len(m), m.height, m.slots, m.free_slots), (9, 2, 12, 9))
+        m.delete(9, (1000, 0, 1010, 10))
+        self.assertEqual((len(m), m.height, m.free_slots), (8, 1, 11))
+        self.assertEqual([r.number for r in m.records()], [1, 2, 3, 4, 5, 6, 7, 8])
+
+    def test_update(self) -> None:
+        m = Map()
+        m.insert(7, ZONE)
+        m.update(7, ZONE, (20, 0, 30, 10))
+        self.assertEqual(m.records(), ((7, (20, 0, 30, 10)),))
+        m.update(7, (20, 0, 30, 10), (20, 0, 30, 10))
+        self.assertEqual(len(m), 1)
+
+
+def printed(frames: bytes) -> str:
+    """What `dustmap` prints for whole frames: a pool of 128 slots, and a found list of 64."""
+    m, at, lines = Map(128), 0, []
+    while at < len(frames):
+        length, kind = struct.unpack_from("<HH", frames, at)
+        words = struct.unpack_from(f"<{(length - 2) // 4}i", frames, at + 4)
+        at += 2 + length
+        number, rects = (0, words) if kind == dustmap.SEARCH else (words[0], words[1:])
+        answer = m.batch([Request(kind, number, Rect(*rects[:4]), Rect(*(rects[4:] or ZONE)))], places=64)[0]
+        lines.append((len([line for line in lines if len(line) == 4]) + 1, answer.number, answer.found, answer.opened))
+        lines += [(r.number, *r.rect) for r in answer.records]
+    return "".join(" ".join(map(str, line)) + "\n" for line in lines)
+
+
+class Refusals(Case):
+    """Every number, with its words."""
+
+    def test_the_words_are_the_documents(self) -> None:
+        self.assertEqual({n: (m.when, m.effect) for n, m in dustmap.NUMBERS.items() if n != -1}, DOCUMENT)
+        self.assertEqual(list(dustmap.NUMBERS), [0, 9, 1, 2, -1, 3, 4, 5, 6, 7, 8], "the order of checks")
+        for number, meaning in dustmap.NUMBERS.items():
+            self.assertEqual(meaning.number, number)
+            self.assertEqual(getattr(dustmap, meaning.name.upper().replace(" ", "_")), number)
+            self.assertTrue(meaning.what_to_do)
+
+    def test_1_pool_length_wrong(self) -> None:
+        sound = Map(2).words()
+        for words in ([], sound[:-1], [*sound, 0], sound[:8], [0] * (8 + 42 * 4097)):
+            self.assertIsNone(self.refused(1, lambda words=words: Map.of(words)).request)
+        self.refused(1, lambda: Map.of(Map(2).to_bytes()[:-4]))
+
+    def test_2_pool_not_sound(self) -> None:
+        m = Map(12)
+        m.batch(nine())
+        m.insert(10, (5, 0, 6, 1))
+        # edition, root, height, records, a zero of the head, a level, a count, a cover, a child, a free slot
+        for place in (0, 1, 2, 3, 7, 8, 9, 8 + 84 + 4, 8 + 84 + 6, 8 + 42 * 11 + 41):
+            with self.subTest(place=place):
+                words = m.words()
+                words[place] += 1
+                self.refused(2, lambda: Map.of(words))
+        self.refused(2, lambda: Map.of([3] * 50))
+
+    def test_9_too_many_requests(self) -> None:
+        m = Map()
+        before = m.words()
+        refusal = self.refused(9, lambda: m.batch([Request.insert(1, ZONE)] * 1025))
+        self.assertIsNone(refusal.request, "the call is refused as a whole")
+        self.assertEqual(m.words(), before)
+        self.assertEqual([a.number for a in m.batch([Request.insert(1, ZONE)] * 1024)], [0] + [6] * 1023)
+
+    def test_no_request(self) -> None:
+        m = Map()
+        before = m.words()
+        self.refused(-1, lambda: m.batch([Request.insert(1, ZONE), Request(5, 1, Rect(*ZONE))]))
+        self.assertEqual(m.words(), before, "not even the good request is done")
+
+    def test_3_bad_rectangle(self) -> None:
+        m = Map()
+        m.insert(1, (0, 0, MOST, 0))
+        for rect in ((0, 0, MOST + 1, 0), (-MOST - 1, 0, 0, 0), (1, 0, 0, 0), (0, 1, 0, 0), (0, 0, 2**31 - 1, 0)):
+            self.refused_request(3, m, Request.insert(1, rect))
+            self.refused_request(3, m, Request.delete(0, rect))
+            self.refused_request(3, m, Request.update(1, (0, 0, MOST, 0), rect))
+            self.refused_request(3, m, Request.search(rect))
+            self.refused(3, lambda rect=rect: m.insert(1, rect))
+
+    def test_4_bad_number(self) -> None:
+        m = Map()
+        for number in (0, -1, -(2**31)):
+            for request in (Request.insert(number, ZONE), Request.delete(number, ZONE), Request.update(number, ZONE, ZONE)):
+                self.refused_request(4, m, request)
+        self.refused(4, lambda: m.insert(0, ZONE))
+        m.insert(2**31 - 1, ZONE)
+
+    def test_5_not_held(self) -> None:
+        m = Map()
+        m.insert(7, ZONE)
+        for request in (Request.delete(7, (0, 0, 10, 11)), Request.delete(8, ZONE), Request.update(8, ZONE, ZONE)):
+            self.refused_request(5, m, request)
+        self.refused(5, lambda: m.delete(8, ZONE))
+        self.refused(5, lambda: m.update(8, ZONE, ZONE))
+
+    def test_6_held(self) -> None:
+        m = Map()
+        m.insert(7, ZONE)
+        m.insert(7, (1, 1, 2, 2))
+        self.refused_request(6, m, Request.insert(7, ZONE))
+        self.refused_request(6, m, Request.update(7, ZONE, (1, 1, 2, 2)))
+        self.refused(6, lambda: m.insert(7, ZONE))
+
+    def test_7_no_slot(self) -> None:
+        m = Map(2)
+        m.batch(nine()[:8])
+        self.refused_request(7, m, nine()[8])
+        self.refused(7, lambda: m.insert(9, (1000, 0, 1010, 10)))
+        self.assertEqual(len(m), 8)
+
+    def test_8_no_room(self) -> None:
+        m = row_of(100, 64)
+        answer = self.refused_request(8, m, Request.search((0, 0, 205, 0)), places=20)
+        self.assertEqual((answer.found, answer.opened), (21, m.search((0, 0, 205, 0)).opened))
+        refusal = self.refused(8, lambda: m.search((0, 0, 205, 0), places=20))
+        self.assertEqual((refusal.found, refusal.opened), (21, answer.opened))
+        self.assertIn("It finds 21.", str(refusal))
+        self.assertEqual(len(m.search((0, 0, 205, 0), places=21)), 21)
+
+    def test_places_are_for_all_the_searches_together(self) -> None:
+        m = Map(12)
+        m.batch(nine())
+        windows = [(55, 0, 58, 10), (60, 0, 60, 0), (60, 0, 60, 0), (2000, 0, 2000, 0), (55, 0, 58, 10)]
+        answers = m.batch(map(Request.search, windows), places=4)
+        self.assertEqual([(a.number, a.found, len(a.records)) for a in answers], [(0, 1, 1), (0, 2, 2), (8, 2, 0), (0, 0, 0), (0, 1, 1)])
+
+    def test_a_refusal_can_be_sent_on(self) -> None:
+        refusal = self.refused(5, lambda: Map().delete(8, ZONE))
+        self.assertEqual(str(pickle.loads(pickle.dumps(refusal))), str(refusal))
+
+
+class Growing(Case):
+    """A found list that grows."""
+
+    def test_a_search_of_everything(self) -> None:
+        m = row_of(300, 128)
+        self.assertEqual([r.number for r in m.records()], list(range(1, 301)))
+        self.assertEqual(len(m), 300)
+
+    def test_a_batch_that_also_changes_the_map(self) -> None:
+        """The batch is done again when its list has grown: each change is still made once, and each search sees the map of its moment."""
+        whole = Request.search(dustmap.WHOLE_SITE)
+        new = Request.insert(301, (7, 7, 8, 8))
+        requests = [whole, Request.delete(1, (0, 0, 5, 5)), whole, new, new, whole]
+        m, one_by_one = row_of(300, 128), row_of(300, 128)
+        answers = m.batch(requests)
+        self.assertEqual([a.number for a in answers], [0, 0, 0, 0, 6, 0])
+        self.assertEqual([len(a.records) for a in answers], [300, 0, 299, 0, 0, 300])
+        self.assertEqual(answers, [one_by_one.batch([request])[0] for request in requests])
+        self.assertEqual(m.words(), one_by_one.words())
+
+    def test_the_largest_map(self) -> None:
+        m = row_of(16_000, dustmap.MOST_SLOTS)
+        self.assertEqual([r.number for r in m.records()], list(range(1, 16_001)))
+        self.assertEqual(Map.of(m.words()).words(), m.words())
+
+
+class Pools(Case):
+    """Words that come from outside, and go there."""
+
+    def test_of_words_and_of_bytes(self) -> None:
+        m = row_of(50, 40)
+        words = m.words()
+        given = (words, tuple(words), array.array("i", words), m.to_bytes(), bytearray(m.to_bytes()), memoryview(array.array("i", words)))
+        for pool in given:
+            self.assertEqual(Map.of(pool).words(), words)
+            self.assertEqual(Map.of(pool).records(), m.records())
+        self.assertEqual(m.to_bytes()[:8], b"\1\0\0\0" + struct.pack("<i", words[1]))
+
+    def test_nothing_is_shared(self) -> None:
+        m = Map(3)
+        words = m.words()
+        words[0] = 9
+        other = Map.of(m.words())
+        other.insert(7, ZONE)
+        self.assertEqual((len(m), len(other), m.words()[0]), (0, 1, 1))
+        for copied in (copy.copy(other), copy.deepcopy(other), pickle.loads(pickle.dumps(other))):
+            self.assertEqual(copied.words(), other.words())
+            copied.delete(7, ZONE)
+        self.assertEqual(len(other), 1)
+
+    def test_slots(self) -> None:
+        for slots in (1, 128, 4096):
+            self.assertEqual((Map(slots).slots, len(Map(slots).words())), (slots, 8 + 42 * slots))
+        self.assertEqual(repr(Map(3)), "<Map: 0 records, height 1, 2 of 3 slots free>")
+        for slots in (0, -1, 4097, 2**40):
+            self.assertRaisesRegex(ValueError, "slots", Map, slots)
+
+    def test_an_exception_leaves_the_map_as_it_was(self) -> None:
+        m = Map()
+        before = m.words()
+        for error in (MemoryError, KeyboardInterrupt):
+            with mock.patch.object(Map, "_answer", side_effect=error), self.assertRaises(error):
+                m.insert(7, ZONE)
+            self.assertEqual(m.words(), before)
+        m.insert(7, ZONE)
+
+    def test_threads(self) -> None:
+        m = Map(512)
+
+        def work(first: int) -> None:
+            """Inserts of its own numbers, and searches between them."""
+            for k in range(100):
+                m.insert(first + k, (first, k, first + 1, k + 1))
+                m.search((first, k, first, k))
+
+        threads = [threading.Thread(target=work, args=(1000 * t,)) for t in range(1, 5)]
+        for thread in threads:
+            thread.start()
+        for thread in threads:
+            thread.join()
+        self.assertEqual([r.number for r in m.records()], [1000 * t + k for t in range(1, 5) for k in range(100)])
+
+
+class WrongTypes(Case):
+    """What cannot be asked is an error before anything is done."""
+
+    def test_numbers(self) -> None:
+        m = Map()
+        for number, error in ((1.0, TypeError), (True, TypeError), ("1", TypeError), (None, TypeError), (2**31, ValueError), (-(2**31) - 1, ValueError)):
+            for ask in (lambda n: m.insert(n, ZONE), lambda n: m.delete(n, ZONE), lambda n: m.update(n, ZONE, ZONE), Map):
+                self.assertRaises(error, ask, number)
+        self.assertRaisesRegex(ValueError, "record number: 4294967297 does not fit a signed 32-bit word", m.insert, 2**32 + 1, ZONE)
+        self.assertEqual(len(m), 0)
+
+    def test_rectangles(self) -> None:
+        m = Map()
+        wrong = [None, 7, "0011", b"abcd", {0, 1, 2, 3}, {0: 0, 1: 1, 2: 2, 3: 3}, (k for k in ZONE)]
+        wrong += [(0, 0, 1.0, 1), (0, False, 1, 1), (0, 0, "1", 1), ((0, 0), (1, 1), 2, 2), (0, None, 1, 1)]
+        for rect in wrong:
+            for ask in (lambda r: m.insert(1, r), lambda r: m.delete(1, r), lambda r: m.update(1, ZONE, r), lambda r: m.update(1, r, ZONE), m.search):
+                self.assertRaises(TypeError, ask, rect)
+        for rect in ((), (0, 0, 1), (0, 0, 1, 1, 2), (0, 0, 2**31, 0), (0, -(2**31) - 1, 0, 0), (2**32, 2**32, 2**32, 2**32)):
+            self.assertRaises(ValueError, m.insert, 1, rect)
+            self.assertRaises(ValueError, m.search, rect)
+        self.assertRaisesRegex(ValueError, "new rectangle, high x: 2147483648", m.update, 1, ZONE, (0, 0, 2**31, 0))
+        self.assertRaises(TypeError, Request, dustmap.INSERT, 1, Rect(0, 0, 1.5, 1))
+        m.insert(1, [0, 0, 1, 1])
+        m.insert(1, Rect(0, 0, 2, 2))
+
+    def test_batches(self) -> None:
+        m = Map()
+        before = m.words()
+        for requests in ([Request.insert(1, ZONE), ("insert", 1, ZONE)], [None], "insert", Request.insert(1, ZONE), 5):
+            self.assertRaises(TypeError, m.batch, requests)
+        for places, error in ((-1, ValueError), (1.0, TypeError), (True, TypeError), (2**31, ValueError)):
+            self.assertRaises(error, m.search, ZONE, places)
+        self.assertEqual(m.batch([]), [])
+        self.assertEqual(m.words(), before)
+
+    def test_pools(self) -> None:
+        words = Map(1).words()
+        for pool, error in ((None, TypeError), ("pool", TypeError), (set(words), TypeError), (iter(words), TypeError), (b"abc", ValueError)):
+            self.assertRaises(error, Map.of, pool)
+        for word, error in ((1.0, TypeError), (True, TypeError), (2**32 + 1, ValueError), (2**31, ValueError)):
+            self.assertRaisesRegex(error, "word 0 of the pool", Map.of, [word, *words[1:]])
+
+
+class Library(Case):
+    """The shared library."""
+
+    def test_it_shows_the_functions_of_the_header_alone(self) -> None:
+        run = subprocess.run(["nm", "-D", "--defined-only", dustmap.library_path()], stdout=subprocess.PIPE, check=True, text=True)
+        self.assertEqual({line.split()[-1] for line in run.stdout.splitlines()}, {"dustmap_blank", "dustmap_check", "dustmap_call"})
+
+    def test_a_library_that_is_not_there(self) -> None:
+        import _ctypes  # a shared object that is there and is not the map
+
+        for path in ("no-such-folder/libdustmap.so", _ctypes.__file__):
+            with mock.patch.dict(os.environ, DUSTMAP_LIBRARY=path):
+                self.assertRaisesRegex(LibraryMissing, "Run `tools/library`", Map)
+
+    def test_another_place_for_it(self) -> None:
+        with mock.patch.dict(os.environ, DUSTMAP_LIBRARY=os.path.relpath(ROOT / "target/sharedlib/libdustmap.so")):
+            self.assertEqual(len(Map()), 0)
+
+
+class Model:
+    """The map as a plain set of pairs. What it cannot know is when a slot is wanted and none is free (7), and how many nodes are opened."""
+
+    def __init__(self) -> None:
+        self.pairs: set[Record] = set()
+
+    def refusal(self, r: Request) -> int:
+        """The refusal that is due, 3 to 6, or 0."""
+        rects = [r.first, r.second] if r.kind == dustmap.UPDATE else [r.first]
+        if any(abs(c) > MOST for rect in rects for c in rect) or any(a > c or b > d for a, b, c, d in rects):
+            return 3
+        if r.kind == dustmap.SEARCH:
+            return 0
+        if r.number < 1:
+            return 4
+        old, new = Record(r.number, r.first), Record(r.number, r.first if r.kind == dustmap.INSERT else r.second)
+        if r.kind != dustmap.INSERT and old not in self.pairs:
+            return 5
+        held = r.kind == dustmap.INSERT or (r.kind == dustmap.UPDATE and new != old)
+        return 6 if held and new in self.pairs else 0
+
+    def found(self, window: Rect) -> tuple[Record, ...]:
+        """The pairs whose rectangles meet the window, touching too, in found order."""
+        return tuple(sorted(p for p in self.pairs if meet(p.rect, window)))
+
+    def do(self, r: Request) -> None:
+        """The change that an accepted request makes."""
+        if r.kind in (dustmap.DELETE, dustmap.UPDATE):
+            self.pairs.remove(Record(r.number, r.first))
+        if r.kind in (dustmap.INSERT, dustmap.UPDATE):
+            self.pairs.add(Record(r.number, r.first if r.kind == dustmap.INSERT else r.second))
+
+
+def meet(a: Rect, b: Rect) -> bool:
+    """On each axis each low is at most the other's high."""
+    return a.low_x <= b.high_x and b.low_x <= a.high_x and a.low_y <= b.high_y and b.low_y <= a.high_y
+
+
+def opened(words: list[int], window: Rect) -> int:
+    """The nodes that a search opens: the root, and one for each cover in the pool that meets the window."""
+    count = 1
+    for slot in range(8, len(words), 42):
+        level, entries = words[slot : slot + 2]
+        if level > 1:
+            count += sum(meet(Rect(*words[at : at + 4]), window) for at in range(slot + 2, slot + 2 + 5 * entries, 5))
+    return count
+
+
+class Dice:
+    """Random requests around few places and numbers, so that rectangles touch and pairs come again."""
+
+    def __init__(self, seed: int, model: Model, wide: int) -> None:
+        self.dice, self.model, self.wide = random.Random(seed), model, wide
+
+    def rect(self) -> Rect:
+        """Mostly a good one, small; sometimes with low above high, or out of range."""
+        x, y = (self.dice.randint(-self.wide, self.wide) for _ in range(2))
+        rect = Rect(x, y, x + self.dice.randint(0, self.wide // 4), y + self.dice.randint(0, self.wide // 4))
+        chance = self.dice.random()
+        if chance < 0.02:
+            return Rect(rect.high_x + 1, rect.low_y, rect.low_x, rect.high_y)
+        return rect._replace(high_y=MOST + self.dice.randint(0, 1)) if chance < 0.04 else rect
+
+    def draw(self) -> Request:
+        """A request; deletes and updates mostly of a pair that is held."""
+        kind = self.dice.choices([1, 2, 3, 4], [40, 22, 18, 20])[0]
+        if kind == dustmap.SEARCH:
+            return Request.search(self.rect())
+        number, rect = self.dice.randint(0, 60), self.rect()
+        if self.model.pairs and self.dice.random() < (0.1 if kind == dustmap.INSERT else 0.9):
+            number, rect = self.dice.choice(sorted(self.model.pairs))
+        if kind != dustmap.UPDATE:
+            return Request(kind, number, rect)
+        others = [p.rect for p in self.model.pairs if p.number == number]
+        return Request.update(number, rect, self.dice.choice(others) if others and self.dice.random() < 0.2 else self.rect())
+
+
+class Histories(Case):
+    """Thousands of requests, against the plain model; one by one, and again in batches."""
+
+    def history(self, seed: int, slots: int, wide: int, count: int) -> set[tuple[int, int]]:
+        """Requests one by one, each answer compared; then the same requests in batches, on another map. The kinds and answers met."""
+        m, model = Map(slots), Model()
+        dice = Dice(seed, model, wide)
+        requests, answers, met = [], [], set()
+        for _ in range(count):
+            requests.append(dice.draw())
+            answers.append(self.one(m, model, requests[-1]))
+            met.add((requests[-1].kind, answers[-1].number))
+        self.in_batches(slots, requests, answers, m.words())
+        return met
+
+    def one(self, m: Map, model: Model, request: Request) -> Answer:
+        """One request of both, compared; its answer."""
+        answer = m.batch([request])[0]
+        due = model.refusal(request)
+        no_slot = due == 0 and request.kind != dustmap.SEARCH and answer.number == 7
+        self.assertEqual(answer.number, 7 if no_slot else due, request)
+        if request.kind == dustmap.SEARCH and due == 0:
+            self.assertEqual(answer.records, model.found(request.first), request)
+            self.assertEqual((answer.found, answer.opened), (len(answer.records), opened(m.words(), request.first)), request)
+        else:
+            self.assertEqual((answer.found, answer.opened, answer.records), (0, 0, ()), request)
+        if answer.accepted:
+            model.do(request)
+        self.assertEqual(len(m), len(model.pairs), request)
+        return answer
+
+    def in_batches(self, slots: int, requests: list[Request], answers: list[Answer], left: list[int]) -> None:
+        """The same answers and the same pool come of batches of all sizes."""
+        m, dice, at, again = Map(slots), random.Random(slots), 0, []
+        while at < len(requests):
+            size = dice.choice([1, 2, 10, 100, 1024])
+            again += m.batch(requests[at : at + size])
+            at += size
+        self.assertEqual(again, answers)
+        self.assertEqual(m.words(), left)
+
+    def test_with_slots_enough(self) -> None:
+        met = self.history(1, 1000, 300, 4000)
+        wanted = {(1, 0), (1, 3), (1, 4), (1, 6), (2, 0), (2, 3), (2, 5), (3, 0), (3, 3), (3, 5), (3, 6), (4, 0), (4, 3)}
+        self.assertLessEqual(wanted, met, "a history that did not meet every answer")
+        self.assertNotIn(7, {number for _, number in met})
+
+    def test_with_few_slots(self) -> None:
+        met = self.history(2, 12, 60, 3000) | self.history(3, 1, 20, 500) | self.history(4, 40, 1000, 3000)
+        self.assertLessEqual({(1, 7), (3, 7)}, met, "a history that never ran out of slots")
+
+
+class Count(unittest.TextTestResult):
+    """Counts the tests that passed."""
+
+    passed = 0
+
+    def addSuccess(self, test: unittest.TestCase) -> None:
+        super().addSuccess(test)
+        self.passed += 1
+
+
+def main(stream: TextIO = sys.stdout) -> None:
+    """Runs every test; the last line counts."""
+    tests = unittest.defaultTestLoader.loadTestsFromModule(sys.modules["__main__"])
+    result = unittest.TextTestRunner(stream, resultclass=Count).run(tests)
+    failed = len(result.failures) + len(result.errors) + len(result.unexpectedSuccesses) + len(result.skipped)
+    print(f"{result.passed} passed, {failed} failed", file=stream)
+    sys.exit(failed > 0 or result.passed == 0)
+
+
+if __name__ == "__main__":
+    main()

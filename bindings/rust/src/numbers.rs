@@ -1,0 +1,130 @@
+//! The numbers that come back from a call or in an answer, by name, and the words for them.
+
+/// A number with its words: whether a call or a request is refused, when, and what to do about it.
+#[derive(Clone, Copy, Debug, PartialEq, Eq)]
+pub struct Meaning {
+    pub number: i32,
+    pub name: &'static str,
+    pub effect: &'static str,
+    pub when: &'static str,
+    pub what_to_do: &'static str,
+}
+
+/// The words for a number; none where no call gives it.
+pub fn meaning(number: i32) -> Option<&'static Meaning> {
+    NUMBERS.iter().find(|m| m.number == number)
+}
+
+/// As a log would have it: the number, its name, what is refused and when, and what to do.
+impl std::fmt::Display for Meaning {
+    fn fmt(&self, f: &mut std::fmt::Formatter<'_>) -> std::fmt::Result {
+        let Meaning { number, name, effect, when, what_to_do } = self;
+        write!(f, "{number} {name} ({effect}): {when}. What to do: {what_to_do}.")
+    }
+}
+
+// Written by `tools/numbers` from bindings/numbers.txt: do not edit by hand.
+/// Accepted: as defined.
+pub const ACCEPTED: i32 = 0;
+/// Call refused: more than 1,024 requests, or answer list of another length than the request list.
+pub const BAD_LISTS: i32 = 9;
+/// Call refused: pool length wrong, or workspace length differs from the pool's.
+pub const BAD_LENGTH: i32 = 1;
+/// Call refused: pool not sound.
+pub const NOT_SOUND: i32 = 2;
+/// Call refused: a request is of none of the four kinds.
+pub const NO_REQUEST: i32 = -1;
+/// Request refused: window, old or new rectangle: a coordinate out of range, or low above high.
+pub const BAD_RECTANGLE: i32 = 3;
+/// Request refused: record number below 1.
+pub const BAD_NUMBER: i32 = 4;
+/// Request refused: delete or update: old pair not held.
+pub const NOT_HELD: i32 = 5;
+/// Request refused: insert: pair held; update: new pair held and not the old pair.
+pub const HELD: i32 = 6;
+/// Request refused: the rules call for a slot at a moment when none is free.
+pub const NO_SLOT: i32 = 7;
+/// Request refused: search: more found than places left in the found list.
+pub const NO_ROOM: i32 = 8;
+
+/// Every number with its words, in the order of checks.
+pub const NUMBERS: [Meaning; 11] = [
+    Meaning {
+        number: ACCEPTED,
+        name: "accepted",
+        effect: "as defined",
+        when: "accepted",
+        what_to_do: "nothing; the change is made, or the search is answered",
+    },
+    Meaning {
+        number: BAD_LISTS,
+        name: "bad lists",
+        effect: "call refused",
+        when: "more than 1,024 requests, or answer list of another length than the request list",
+        what_to_do: "hand over at most 1,024 requests in one call, and an answer list with one place for each; where there are more, make several calls",
+    },
+    Meaning {
+        number: BAD_LENGTH,
+        name: "bad length",
+        effect: "call refused",
+        when: "pool length wrong, or workspace length differs from the pool's",
+        what_to_do: "lend a pool of 8 + 42N words for N slots, N from 1 to 4,096, and a workspace of the same length; a file of another length is cut, or is no pool",
+    },
+    Meaning {
+        number: NOT_SOUND,
+        name: "not sound",
+        effect: "call refused",
+        when: "pool not sound",
+        what_to_do: "do not use this pool; it is damaged, or is no pool. Take the last good copy and make the later changes again, or insert every record into a blank one",
+    },
+    Meaning {
+        number: NO_REQUEST,
+        name: "no request",
+        effect: "call refused",
+        when: "a request is of none of the four kinds",
+        what_to_do: "give each request the kind 1 insert, 2 delete, 3 update or 4 search",
+    },
+    Meaning {
+        number: BAD_RECTANGLE,
+        name: "bad rectangle",
+        effect: "request refused",
+        when: "window, old or new rectangle: a coordinate out of range, or low above high",
+        what_to_do: "give low x, low y, high x, high y, in this order, in whole millimetres from -1,000,000,000 to 1,000,000,000, no low above its high",
+    },
+    Meaning {
+        number: BAD_NUMBER,
+        name: "bad number",
+        effect: "request refused",
+        when: "record number below 1",
+        what_to_do: "give a record number from 1 to 2,147,483,647",
+    },
+    Meaning {
+        number: NOT_HELD,
+        name: "not held",
+        effect: "request refused",
+        when: "delete or update: old pair not held",
+        what_to_do: "give the record number with the rectangle exactly as it is held; a search of that place lists what is there",
+    },
+    Meaning {
+        number: HELD,
+        name: "held",
+        effect: "request refused",
+        when: "insert: pair held; update: new pair held and not the old pair",
+        what_to_do: "insert: nothing, if this pair is meant; it is in force already. Update: both pairs are in force; delete the old one if it is to go",
+    },
+    Meaning {
+        number: NO_SLOT,
+        name: "no slot",
+        effect: "request refused",
+        when: "the rules call for a slot at a moment when none is free",
+        what_to_do: "delete what is no longer needed and ask again, or blank a pool with more slots (4,096 at most) and insert every record there",
+    },
+    Meaning {
+        number: NO_ROOM,
+        name: "no room",
+        effect: "request refused",
+        when: "search: more found than places left in the found list",
+        what_to_do: "ask again with a longer found list (the answer says how many records this search finds), or with a smaller window",
+    },
+];
+// End of what `tools/numbers` writes.
