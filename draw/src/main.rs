@@ -7,6 +7,7 @@ mod frames;
 mod labels;
 mod legend;
 mod look;
+mod page;
 mod picture;
 mod svg;
 mod tree;

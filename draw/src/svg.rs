@@ -110,7 +110,12 @@ pub fn line((x, y): (f64, f64), (to_x, to_y): (f64, f64), attributes: &str) -> S
     format!("<line x1=\"{x:.2}\" y1=\"{y:.2}\" x2=\"{to_x:.2}\" y2=\"{to_y:.2}\" {attributes}/>\n")
 }
 
-/// A shape with words that a browser shows when the pointer rests on it.
+/// Shapes that are shown and hidden together, under one name. Whatever look they have in common is given once.
+pub fn layer(name: &str, attributes: &str, shapes: &str) -> String {
+    format!("<g data-layer=\"{name}\" {attributes}>\n{shapes}</g>\n")
+}
+
+/// A shape with words: a browser shows them when the pointer rests on it, and a reader of the screen says them.
 pub fn titled(words: &str, shape: &str) -> String {
     format!("<g><title>{words}</title>{shape}</g>\n")
 }
