@@ -66,14 +66,20 @@ pub fn legend(tree: &Tree, shown: Option<&Shown>, x: f64) -> (String, f64) {
     let mut legend = Legend { x, y: EDGE - 12.0, out: String::new() };
     legend.heading("The map");
     legend.line(
-        &format!("{}, height {}", counted(tree.records().len(), "record"), tree.height),
+        &format!("{}, height {}", counted(tree.records().len(), "record", "records"), tree.height),
         PLAIN,
         0.0,
     );
     legend.line(&format!("{} of {} slots in use", tree.nodes.len(), tree.slots), PLAIN, 0.0);
     let record = format!("fill=\"{RECORD}\" fill-opacity=\"0.22\" stroke=\"{RECORD}\"");
-    let words = if shown.is_some() { "records not found" } else { "records" };
-    legend.switch("records", &record, words);
+    let words = match shown {
+        Some(s) => {
+            let others = tree.records().len() - s.found.len();
+            format!("{} not found", counted(others, "record", "records"))
+        }
+        None => "the records".to_string(),
+    };
+    legend.switch("records", &record, &words);
     legend.heading("The nodes");
     for level in (1..=tree.height).rev() {
         let look =
@@ -110,7 +116,7 @@ fn level_line(tree: &Tree, shown: Option<&Shown>, level: i32) -> String {
         (true, 1) => "the root, a leaf".to_string(),
         (true, _) => format!("level {level}, the root"),
         (false, 1) => format!("level 1, {} leaves", nodes.len()),
-        (false, _) => format!("level {level}, {}", counted(nodes.len(), "node")),
+        (false, _) => format!("level {level}, {}", counted(nodes.len(), "node", "nodes")),
     };
     let opened = nodes.iter().filter(|node| is_opened(node, shown)).count();
     if shown.is_some() {
@@ -131,9 +137,13 @@ fn window_lines(legend: &mut Legend, shown: &Shown) {
         "rx=\"3\" fill=\"{0}\" fill-opacity=\"0.15\" stroke=\"{0}\" stroke-width=\"2.2\"",
         colour(1)
     );
-    legend.sample(&opened, &format!("{} opened", counted(shown.opened.len(), "node")));
+    legend.sample(&opened, &format!("{} opened", counted(shown.opened.len(), "node", "nodes")));
     let found = format!("fill=\"{FOUND}\" fill-opacity=\"0.38\" stroke=\"{FOUND}\"");
-    legend.switch("found", &found, &format!("{} found", counted(shown.found.len(), "record")));
+    legend.switch(
+        "found",
+        &found,
+        &format!("{} found", counted(shown.found.len(), "record", "records")),
+    );
     for numbers in number_lines(shown) {
         legend.line(&numbers, SMALL, INDENT);
         legend.y -= 6.0;
@@ -152,15 +162,12 @@ fn number_lines(shown: &Shown) -> Vec<String> {
     }
     if lines.len() > MOST_LINES {
         lines.truncate(MOST_LINES);
-        lines.push("and more".to_string());
+        let written: usize = lines.iter().map(|line| line.split_whitespace().count()).sum();
+        lines.push(format!("and {} more", shown.found.len() - written));
     }
     lines
 }
 
-fn counted(count: usize, what: &str) -> String {
-    if count == 1 {
-        format!("1 {what}")
-    } else {
-        format!("{count} {what}s")
-    }
+pub fn counted(count: usize, one: &str, many: &str) -> String {
+    format!("{count} {}", if count == 1 { one } else { many })
 }

@@ -7,7 +7,7 @@
   const part = (id) => document.getElementById(id);
   const [glass, ring, answer, paper, said] = ['glass', 'ring', 'answer', 'paper', 'said'].map(part);
   const MOST_SAID = 3;
-  const NEAR = 7; // pixels: how far from a small record a finger or a pointer may be
+  const NEAR = Number(glass.dataset.near); // how far from a dot a finger or a pointer may be
   let current = null; // the record or node that the ring is around
 
   const show = (element, yes) => (yes ? element.removeAttribute('display') : element.setAttribute('display', 'none'));
@@ -16,8 +16,7 @@
 
   // The records, or the nodes, whose shapes lie under a point of the browser's window, those on top first.
   function under(holds, x, y) {
-    return document.elementsFromPoint(x, y).map((shape) => shape.parentNode)
-      .filter((group) => group.parentNode.dataset && group.parentNode.dataset.holds === holds);
+    return document.elementsFromPoint(x, y).map((shape) => shape.closest(`[data-holds="${holds}"] > g`)).filter((group) => group);
   }
 
   // The records under the pointer; else those close to it; else the nodes.
@@ -43,14 +42,18 @@
     if (groups.length > MOST_SAID) lines.push(`and ${groups.length - MOST_SAID} more here`);
     if (lines.join('\n') === said.dataset.lines) return; // so that a reader of the screen is not told twice
     said.dataset.lines = lines.join('\n');
-    said.replaceChildren(...lines.map((words) => {
-      const line = document.createElementNS(root.namespaceURI, 'tspan');
-      line.setAttribute('x', 10);
-      line.setAttribute('dy', 17);
-      if (/^(record|slot) /.test(words)) line.setAttribute('font-weight', 'bold');
-      line.textContent = words;
-      return line;
-    }));
+    said.replaceChildren(...lines.map(lineOf));
+  }
+
+  // The first line on a record or node is bold, with a gap above it.
+  function lineOf(words, place) {
+    const line = document.createElementNS(root.namespaceURI, 'tspan');
+    const first = /^(record|slot) /.test(words);
+    line.setAttribute('x', 10);
+    line.setAttribute('dy', first && place > 0 ? 24 : 17);
+    if (first) line.setAttribute('font-weight', 'bold');
+    line.textContent = words;
+    return line;
   }
 
   // The answer stands to the right of a place on the sheet and below it, or to the left and above, and never beyond the map.

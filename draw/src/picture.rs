@@ -1,7 +1,7 @@
 //! The picture: covers by level, records with their numbers, the window, a scale bar and the legend.
 
 use crate::labels::Labels;
-use crate::legend::legend;
+use crate::legend::{counted, legend};
 use crate::look::{colour, EDGE, FOUND, RECORD};
 use crate::page;
 use crate::svg::{circle, layer, line, rect, text, titled, Place, Scale};
@@ -18,12 +18,16 @@ const GUTTER: f64 = 36.0;
 /// With more records than this, a window's numbers would be lost among all the others.
 const CROWD: usize = 200;
 
-/// With more nodes than this, covers drawn wider would lie on those beside them.
-const MANY_NODES: usize = 100;
+/// And with more found in such a crowd, their numbers would cover them.
+const MANY_FOUND: usize = 60;
+
+/// With more nodes than this, the pen is a finer one: they would lie on those beside them.
+const MANY_NODES: f64 = 100.0;
 
 pub fn draw(tree: &Tree, shown: Option<&Shown>) -> String {
     let most_wide = SHEET.0 - LEGEND - GUTTER - 2.0 * EDGE;
-    let scale = Scale::fit(extent(tree, shown), EDGE, EDGE, most_wide, SHEET.1 - 2.0 * EDGE);
+    let mut scale = Scale::fit(extent(tree, shown), EDGE, EDGE, most_wide, SHEET.1 - 2.0 * EDGE);
+    scale.pen = pen(tree);
     let sheet = Place { x: EDGE, y: EDGE, width: scale.width, height: scale.height };
     let width = sheet.width + LEGEND + GUTTER + 2.0 * EDGE;
     let (legend, legend_ends) = legend(tree, shown, sheet.x + sheet.width + GUTTER);
@@ -40,9 +44,14 @@ pub fn draw(tree: &Tree, shown: Option<&Shown>) -> String {
     out += &records(tree, shown, &scale, sheet);
     out += &window(shown, &scale);
     out += &bar(&scale);
-    out += &page::glass(sheet);
+    out += &page::glass(sheet, scale.pen);
     out += &legend;
     out + &page::script() + "</svg>\n"
+}
+
+/// Half as thick where there are sixteen times as many nodes.
+fn pen(tree: &Tree) -> f64 {
+    (MANY_NODES / tree.nodes.len() as f64).powf(0.25).min(1.0)
 }
 
 /// All records and the window; where there is neither, a square metre around the origin.
@@ -57,11 +66,8 @@ fn covers(tree: &Tree, shown: Option<&Shown>, scale: &Scale) -> String {
     let of_level = |level: i32| {
         let mut nodes: Vec<&Node> = tree.nodes.iter().filter(|node| node.level == level).collect();
         nodes.sort_by_key(|node| is_opened(node, shown));
-        let step = if tree.nodes.len() > MANY_NODES { 1.0 } else { 3.5 };
-        let shapes: String = nodes
-            .iter()
-            .filter_map(|node| Some(cover(node, node.cover?, shown, scale, step)))
-            .collect();
+        let shapes: String =
+            nodes.iter().filter_map(|node| Some(cover(node, node.cover?, shown, scale))).collect();
         let look = format!(
             "data-holds=\"nodes\" fill=\"{0}\" fill-opacity=\"0\" stroke=\"{0}\"",
             colour(level)
@@ -71,25 +77,22 @@ fn covers(tree: &Tree, shown: Option<&Shown>, scale: &Scale) -> String {
     (1..=tree.height).rev().map(of_level).collect()
 }
 
-/// Each level is drawn a little wider than the one below, by a step, since tight covers share edges.
-fn cover(node: &Node, tight: Rect, shown: Option<&Shown>, scale: &Scale, step: f64) -> String {
+/// Each level is drawn a little wider than the one below, since tight covers share edges.
+fn cover(node: &Node, tight: Rect, shown: Option<&Shown>, scale: &Scale) -> String {
     // Only leaves are tinted: all that lies below a higher node would take its colour too.
-    let look = match (shown.is_some(), is_opened(node, shown), node.level) {
-        (true, true, 1) => "fill-opacity=\"0.12\" stroke-width=\"2.2\"",
-        (true, true, _) => "stroke-width=\"2.2\"",
-        (true, false, _) => "stroke-opacity=\"0.6\" stroke-width=\"1.1\"",
-        (false, _, _) => "stroke-opacity=\"0.9\" stroke-width=\"1.5\"",
+    let (look, thick) = match (shown.is_some(), is_opened(node, shown), node.level) {
+        (true, true, 1) => ("fill-opacity=\"0.12\"", 2.2),
+        (true, true, _) => ("", 2.2),
+        (true, false, _) => ("stroke-opacity=\"0.6\"", 1.1),
+        (false, _, _) => ("stroke-opacity=\"0.9\"", 1.5),
     };
-    let place = scale.place(&tight).wider_by(1.5 + step * f64::from(node.level));
-    let entries = node.entries.len();
+    let (wider, thick) = (1.5 + 3.5 * f64::from(node.level), thick * scale.pen);
+    let place = scale.place(&tight).wider_by(wider * scale.pen * scale.pen);
+    let entries = counted(node.entries.len(), "entry", "entries");
     let opened = if is_opened(node, shown) { ", opened" } else { "" };
-    let words = format!(
-        "slot {}, level {}{opened}: {}; {entries} entries",
-        node.slot,
-        node.level,
-        sides(&tight)
-    );
-    titled(&words, &rect(place, &format!("rx=\"3\" {look}")))
+    let words =
+        format!("slot {}, level {}{opened}: {}; {entries}", node.slot, node.level, sides(&tight));
+    titled(&words, &rect(place, &format!("rx=\"3\" stroke-width=\"{thick:.2}\" {look}")))
 }
 
 fn sides(rect: &Rect) -> String {
@@ -108,17 +111,22 @@ fn records(tree: &Tree, shown: Option<&Shown>, scale: &Scale, sheet: Place) -> S
     };
     let look = |colour: &str, tint: f64| {
         format!(
-            "data-holds=\"records\" fill=\"{colour}\" fill-opacity=\"{tint}\" stroke=\"{colour}\" stroke-width=\"1\""
+            "data-holds=\"records\" fill=\"{colour}\" fill-opacity=\"{tint}\" stroke=\"{colour}\" stroke-width=\"{:.2}\"",
+            scale.pen
         )
     };
     let mut out = layer("records", &look(RECORD, 0.22), &shapes(&others, ""));
     if shown.is_some() {
         out += &layer("found", &look(FOUND, 0.38), &shapes(&found, ", found"));
     }
-    // A crowded map has only the numbers of those found.
-    let numbered =
-        if shown.is_some() && found.len() + others.len() > CROWD { &[] } else { &others[..] };
-    out + &numbers(numbered, &found, scale, sheet)
+    // A crowded map has only the numbers of those found, if they are few.
+    let crowded = shown.is_some() && found.len() + others.len() > CROWD;
+    let numbered = match (crowded, found.len() > MANY_FOUND) {
+        (false, _) => (&others[..], &found[..]),
+        (true, false) => (&[][..], &found[..]),
+        (true, true) => (&[][..], &[][..]),
+    };
+    out + &numbers(numbered.0, numbered.1, scale, sheet)
 }
 
 /// A point is a dot, a line a line, all else a box.
@@ -128,13 +136,14 @@ fn record(held: &Held, found: &str, scale: &Scale) -> String {
     let shape = match (place.width < 1.5, place.height < 1.5) {
         (true, true) => circle(
             place.middle(),
-            3.2,
+            3.2 * scale.pen,
             "fill-opacity=\"1\" stroke=\"#ffffff\" stroke-width=\"0.8\"",
         ),
         (false, false) => rect(place, ""),
         _ => {
             let to = (place.x + place.width, place.y + place.height);
-            line((place.x, place.y), to, "stroke-width=\"3\" stroke-linecap=\"round\"")
+            let look = format!("stroke-width=\"{:.2}\" stroke-linecap=\"round\"", 3.0 * scale.pen);
+            line((place.x, place.y), to, &look)
         }
     };
     let words =
@@ -157,7 +166,8 @@ fn numbers(others: &[Held], found: &[Held], scale: &Scale, sheet: Place) -> Stri
     };
     let (of_found, of_others) = (of(found, true), of(others, false));
     let class = "class=\"number\" aria-hidden=\"true\"";
-    layer("records", class, &of_others) + &layer("found", class, &of_found)
+    let of_found = if found.is_empty() { of_found } else { layer("found", class, &of_found) };
+    layer("records", class, &of_others) + &of_found
 }
 
 /// A pale rim keeps a number readable where lines cross it.

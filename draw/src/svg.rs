@@ -8,6 +8,8 @@ pub struct Scale {
     pub top: f64,
     pub width: f64,
     pub height: f64,
+    /// How thick lines and dots are: 1 where there is room, less where there is not.
+    pub pen: f64,
     low_x: f64,
     high_y: f64,
     unit: f64,
@@ -34,6 +36,7 @@ impl Scale {
             top,
             width: unit * (wide + 2.0 * margin),
             height: unit * (high + 2.0 * margin),
+            pen: 1.0,
             low_x: f64::from(rect.low_x) - margin,
             high_y: f64::from(rect.high_y) + margin,
             unit,
@@ -103,7 +106,7 @@ pub fn rect(place: Place, attributes: &str) -> String {
 }
 
 pub fn circle((x, y): (f64, f64), radius: f64, attributes: &str) -> String {
-    format!("<circle cx=\"{x:.2}\" cy=\"{y:.2}\" r=\"{radius}\" {attributes}/>\n")
+    format!("<circle cx=\"{x:.2}\" cy=\"{y:.2}\" r=\"{radius:.1}\" {attributes}/>\n")
 }
 
 pub fn line((x, y): (f64, f64), (to_x, to_y): (f64, f64), attributes: &str) -> String {
