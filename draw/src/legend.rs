@@ -131,7 +131,8 @@ fn window_lines(legend: &mut Legend, shown: &Shown) {
     let window =
         format!("fill=\"none\" stroke=\"{FOUND}\" stroke-width=\"2\" stroke-dasharray=\"6 4\"");
     let Rect { low_x, low_y, high_x, high_y } = shown.window;
-    legend.switch("window", &window, &format!("from {low_x}, {low_y}"));
+    legend.switch("window", &window, "the window");
+    legend.line(&format!("from {low_x}, {low_y}"), PLAIN, INDENT);
     legend.line(&format!("to {high_x}, {high_y}"), PLAIN, INDENT);
     let opened = format!(
         "rx=\"3\" fill=\"{0}\" fill-opacity=\"0.15\" stroke=\"{0}\" stroke-width=\"2.2\"",
