@@ -8,6 +8,7 @@ import os
 import select
 import shutil
 import subprocess
+import tempfile
 import time
 from typing import Any
 
@@ -32,9 +33,10 @@ class Browser:
         flags = ["--headless", "--remote-debugging-pipe", "--disable-gpu", "--no-first-run", f"--user-data-dir={folder}"]
         if os.geteuid() == 0:
             flags.append("--no-sandbox")  # the browser's own sandbox refuses to run for root
+        self.errors = tempfile.TemporaryFile()
         self.run = subprocess.Popen(
             ["bash", "-c", AT_3_AND_4, "browser", str(reads), str(writes), command, *flags, "about:blank"],
-            pass_fds=(reads, writes), stdin=subprocess.DEVNULL, stdout=subprocess.DEVNULL, stderr=subprocess.DEVNULL,
+            pass_fds=(reads, writes), stdin=subprocess.DEVNULL, stdout=subprocess.DEVNULL, stderr=self.errors,
         )
         os.close(reads)
         os.close(writes)
@@ -51,7 +53,7 @@ class Browser:
         message = {"id": self.count, "method": method, "params": parameters}
         if self.session:
             message["sessionId"] = self.session
-        os.write(self.commands, json.dumps(message).encode() + b"\0")
+        self.send(json.dumps(message).encode() + b"\0", method)
         ends = time.monotonic() + PATIENCE
         while True:
             heard = self.hear(ends, method)
@@ -62,6 +64,12 @@ class Browser:
             else:
                 return heard["result"]
 
+    def send(self, message: bytes, method: str) -> None:
+        try:
+            os.write(self.commands, message)
+        except BrokenPipeError:
+            raise RuntimeError(f"the browser ended (status {self.run.wait()}) before {method}: {self.last_words()}") from None
+
     def hear(self, ends: float, waits_for: str) -> dict[str, Any]:
         """The next message of the browser."""
         while b"\0" not in self.waiting:
@@ -69,18 +77,22 @@ class Browser:
                 raise TimeoutError(f"the browser did not answer within {PATIENCE:.0f} s: {waits_for}")
             part = os.read(self.answers, 1 << 16)
             if not part:
-                raise RuntimeError(f"the browser ended (status {self.run.wait()}) before it answered {waits_for}")
+                raise RuntimeError(f"the browser ended (status {self.run.wait()}) before it answered {waits_for}: {self.last_words()}")
             self.waiting += part
         message, _, self.waiting = self.waiting.partition(b"\0")
         return json.loads(message)
 
+    def last_words(self) -> str:
+        """The end of what the browser wrote to standard error."""
+        self.errors.seek(0)
+        return self.errors.read()[-300:].decode(errors="replace").strip()
+
     def open(self, url: str) -> None:
         """Opens a page, and waits until all of it is there. Only its own events are kept."""
-        self.call("Page.navigate", url="about:blank")
-        self.wait("Page.loadEventFired")
-        self.events.clear()
-        self.call("Page.navigate", url=url)
-        self.wait("Page.loadEventFired")
+        for address in ("about:blank", url):
+            self.events.clear()
+            self.call("Page.navigate", url=address)
+            self.wait("Page.loadEventFired")
 
     def wait(self, event: str) -> None:
         ends = time.monotonic() + PATIENCE
@@ -130,3 +142,4 @@ class Browser:
             self.run.wait()
         os.close(self.commands)
         os.close(self.answers)
+        self.errors.close()
