@@ -1,12 +1,32 @@
-//! One request to the proved library.
+//! Requests to the proved library.
 
-use dustmap::{Answer, Found, Request};
+use dustmap::{Answer, Found, Request, MOST_REQUESTS, SEARCH};
+
+/// "a found list of 64": as `dustmap` has it.
+const PLACES: usize = 64;
 
 /// A batch of one over the pool.
 pub fn one(pool: &mut [i32], request: Request, found: &mut [Found]) -> Answer {
+    call(pool, &[request], found)[0]
+}
+
+/// The numbers that come back for the requests, in turn, as if each were a batch of one with a found list of 64. Changes are put
+/// together in batches, since each call looks through the whole pool first; a search needs a found list of its own.
+pub fn all(pool: &mut [i32], requests: &[Request]) -> Vec<u32> {
+    let alike = |a: &Request, b: &Request| a.kind != SEARCH && b.kind != SEARCH;
+    let batches = requests.chunk_by(alike).flat_map(|run| run.chunks(MOST_REQUESTS));
+    let mut numbers = Vec::new();
+    for batch in batches {
+        let answers = call(pool, batch, &mut [Found::default(); PLACES]);
+        numbers.extend(answers.iter().map(|answer| answer.number));
+    }
+    numbers
+}
+
+fn call(pool: &mut [i32], batch: &[Request], found: &mut [Found]) -> Vec<Answer> {
     let mut work = vec![0; pool.len()];
-    let mut answers = [Answer::default()];
-    let number = dustmap::call(pool, &mut work, &[request], &mut answers, found);
+    let mut answers = vec![Answer::default(); batch.len()];
+    let number = dustmap::call(pool, &mut work, batch, &mut answers, found);
     assert_eq!(number, 0, "a pool made by requests is sound");
-    answers[0]
+    answers
 }

@@ -7,8 +7,11 @@ use crate::window::{is_opened, Shown};
 use dustmap::Rect;
 
 const PLAIN: &str = "font-size=\"13\" fill=\"#333333\"";
-const SMALL: &str = "font-size=\"11\" fill=\"#777777\"";
+const SMALL: &str = "font-size=\"11\" fill=\"#595959\"";
 const INDENT: f64 = 34.0;
+
+/// How wide a line with a box to tick is.
+const WIDE: f64 = 318.0;
 
 /// How many characters of small numbers fit on a line, and how many lines of them are written at most.
 const LINE: usize = 34;
@@ -32,37 +35,78 @@ impl Legend {
         self.y += 22.0;
     }
 
+    /// A sample of a layer and what it stands for, with a box to tick: the script makes it a switch for the layer.
+    fn switch(&mut self, layer: &str, look: &str, words: &str) {
+        let (x, y) = (self.x - 20.0, self.y);
+        let whole = Place { x: x - 4.0, y: y - 3.0, width: WIDE, height: 20.0 };
+        let tick = format!("{} {} l3.5 4 l6 -8", x + 2.5, y + 7.0);
+        self.out += &format!("<g class=\"switch\" data-shows=\"{layer}\">\n");
+        self.out += &rect(whole, "class=\"edge\" rx=\"3\" fill=\"#ffffff\" fill-opacity=\"0\"");
+        self.out += "<g class=\"needs-script\" display=\"none\">\n";
+        self.out += &rect(
+            Place { x, y, width: 14.0, height: 14.0 },
+            "rx=\"2\" fill=\"#ffffff\" stroke=\"#333333\" stroke-width=\"1.2\"",
+        );
+        self.out += &format!(
+            "<path class=\"tick\" d=\"M{tick}\" fill=\"none\" stroke=\"#222222\" stroke-width=\"2\"/>\n</g>\n"
+        );
+        self.sample(look, words);
+        self.out += "</g>\n";
+    }
+
     /// A sample box and what it stands for.
     fn sample(&mut self, look: &str, words: &str) {
         self.out += &rect(Place { x: self.x, y: self.y, width: 24.0, height: 14.0 }, look);
-        self.line(words, PLAIN, INDENT);
+        self.line(words, &format!("class=\"words\" {PLAIN}"), INDENT);
     }
 }
 
-pub fn legend(tree: &Tree, shown: Option<&Shown>, x: f64) -> String {
+/// The legend, and where it ends on the sheet.
+pub fn legend(tree: &Tree, shown: Option<&Shown>, x: f64) -> (String, f64) {
     let mut legend = Legend { x, y: EDGE - 12.0, out: String::new() };
     legend.heading("The map");
     legend.line(
-        &format!("{}, height {}", counted(tree.records().len(), "record"), tree.height),
+        &format!("{}, height {}", counted(tree.records().len(), "record", "records"), tree.height),
         PLAIN,
         0.0,
     );
     legend.line(&format!("{} of {} slots in use", tree.nodes.len(), tree.slots), PLAIN, 0.0);
-    legend.sample(
-        &format!("fill=\"{RECORD}\" fill-opacity=\"0.22\" stroke=\"{RECORD}\""),
-        "a record and its number",
-    );
-    legend.heading("Covers");
+    let record = format!("fill=\"{RECORD}\" fill-opacity=\"0.22\" stroke=\"{RECORD}\"");
+    let words = match shown {
+        Some(s) => {
+            let others = tree.records().len() - s.found.len();
+            format!("{} not found", counted(others, "record", "records"))
+        }
+        None => "the records".to_string(),
+    };
+    legend.switch("records", &record, &words);
+    legend.heading("The nodes");
     for level in (1..=tree.height).rev() {
         let look =
             format!("rx=\"3\" fill=\"none\" stroke=\"{}\" stroke-width=\"2\"", colour(level));
-        legend.sample(&look, &level_line(tree, shown, level));
+        legend.switch(&format!("level-{level}"), &look, &level_line(tree, shown, level));
     }
     legend.line("each level is drawn a little wider", SMALL, 0.0);
     if let Some(shown) = shown {
         window_lines(&mut legend, shown);
     }
-    legend.out
+    help(&mut legend);
+    (legend.out, legend.y)
+}
+
+/// What one can do with the page; only where the script runs.
+fn help(legend: &mut Legend) {
+    legend.out += "<g class=\"needs-script\" display=\"none\">\n";
+    legend.heading("To look closer");
+    for words in [
+        "Point at a record or tap it: its number and sides.",
+        "Tab to the map, then arrow keys: from record to record.",
+        "Tick a box: show or hide what stands beside it.",
+    ] {
+        legend.line(words, SMALL, 0.0);
+        legend.y -= 5.0;
+    }
+    legend.out += "</g>\n";
 }
 
 /// How many nodes a level has, and how many of them the search opens.
@@ -72,7 +116,7 @@ fn level_line(tree: &Tree, shown: Option<&Shown>, level: i32) -> String {
         (true, 1) => "the root, a leaf".to_string(),
         (true, _) => format!("level {level}, the root"),
         (false, 1) => format!("level 1, {} leaves", nodes.len()),
-        (false, _) => format!("level {level}, {}", counted(nodes.len(), "node")),
+        (false, _) => format!("level {level}, {}", counted(nodes.len(), "node", "nodes")),
     };
     let opened = nodes.iter().filter(|node| is_opened(node, shown)).count();
     if shown.is_some() {
@@ -87,15 +131,20 @@ fn window_lines(legend: &mut Legend, shown: &Shown) {
     let window =
         format!("fill=\"none\" stroke=\"{FOUND}\" stroke-width=\"2\" stroke-dasharray=\"6 4\"");
     let Rect { low_x, low_y, high_x, high_y } = shown.window;
-    legend.sample(&window, &format!("from {low_x}, {low_y}"));
+    legend.switch("window", &window, "the window");
+    legend.line(&format!("from {low_x}, {low_y}"), PLAIN, INDENT);
     legend.line(&format!("to {high_x}, {high_y}"), PLAIN, INDENT);
     let opened = format!(
         "rx=\"3\" fill=\"{0}\" fill-opacity=\"0.15\" stroke=\"{0}\" stroke-width=\"2.2\"",
         colour(1)
     );
-    legend.sample(&opened, &format!("{} opened", counted(shown.opened.len(), "node")));
+    legend.sample(&opened, &format!("{} opened", counted(shown.opened.len(), "node", "nodes")));
     let found = format!("fill=\"{FOUND}\" fill-opacity=\"0.38\" stroke=\"{FOUND}\"");
-    legend.sample(&found, &format!("{} found", counted(shown.found.len(), "record")));
+    legend.switch(
+        "found",
+        &found,
+        &format!("{} found", counted(shown.found.len(), "record", "records")),
+    );
     for numbers in number_lines(shown) {
         legend.line(&numbers, SMALL, INDENT);
         legend.y -= 6.0;
@@ -114,15 +163,12 @@ fn number_lines(shown: &Shown) -> Vec<String> {
     }
     if lines.len() > MOST_LINES {
         lines.truncate(MOST_LINES);
-        lines.push("and more".to_string());
+        let written: usize = lines.iter().map(|line| line.split_whitespace().count()).sum();
+        lines.push(format!("and {} more", shown.found.len() - written));
     }
     lines
 }
 
-fn counted(count: usize, what: &str) -> String {
-    if count == 1 {
-        format!("1 {what}")
-    } else {
-        format!("{count} {what}s")
-    }
+pub fn counted(count: usize, one: &str, many: &str) -> String {
+    format!("{count} {}", if count == 1 { one } else { many })
 }

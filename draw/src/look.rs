@@ -4,9 +4,10 @@ pub const EDGE: f64 = 24.0;
 pub const RECORD: &str = "#6d7b8a";
 pub const FOUND: &str = "#d1480a";
 
-/// The outlines of nodes, by level from 1 up. Few trees in 128 slots have more than four levels.
-const LEVELS: [&str; 5] = ["#0a8f6a", "#0b6fb3", "#8e44ad", "#8c6d31", "#444444"];
+/// The outlines of nodes, by level from 1 up: "Height is 8 at most".
+const LEVELS: [&str; 8] =
+    ["#0a8f6a", "#0b6fb3", "#8e44ad", "#8c6d31", "#444444", "#b5337f", "#1f2f7a", "#5f7a0a"];
 
 pub fn colour(level: i32) -> &'static str {
-    LEVELS[(level as usize - 1).min(LEVELS.len() - 1)]
+    LEVELS[level as usize - 1]
 }

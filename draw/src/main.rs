@@ -1,36 +1,32 @@
 //! Draws the map that a file of frames leaves, as SVG on standard output.
 //!
-//! usage: draw FRAMES [LOW-X LOW-Y HIGH-X HIGH-Y]
+//! usage: draw [--slots N] FRAMES [LOW-X LOW-Y HIGH-X HIGH-Y]
 
 mod batch;
 mod frames;
 mod labels;
 mod legend;
 mod look;
+mod page;
 mod picture;
 mod svg;
 mod tree;
 mod window;
 
-use batch::one;
-use dustmap::{Found, Rect};
-use std::io::{Read, Write};
+use dustmap::Rect;
+use std::io::{ErrorKind, Read, Write};
 use std::process::ExitCode;
 
-/// "a 128-slot pool (5,384 words)", "a found list of 64": as `dustmap` has them.
+/// "a 128-slot pool (5,384 words)": as `dustmap` has it.
 const SLOTS: usize = 128;
-const PLACES: usize = 64;
 
-const USAGE: &str = "usage: tools/draw FRAMES [LOW-X LOW-Y HIGH-X HIGH-Y] > map.svg
-FRAMES is a file as dustmap reads it, or - for standard input; the four numbers are a window, in millimetres.";
+const USAGE: &str = "usage: tools/draw [--slots N] FRAMES [LOW-X LOW-Y HIGH-X HIGH-Y] > map.svg
+FRAMES is a file as dustmap reads it, or - for standard input; the four numbers are a window, in millimetres.
+The pool has 128 slots, as that of dustmap, unless --slots says another number, 1 to 4096.";
 
 fn main() -> ExitCode {
     match run() {
-        Ok(text) => {
-            // A reader that closes early is no fault of ours.
-            let _ = std::io::stdout().write_all(text.as_bytes());
-            ExitCode::SUCCESS
-        }
+        Ok(()) => ExitCode::SUCCESS,
         Err(why) => {
             eprintln!("{why}");
             ExitCode::from(2)
@@ -38,17 +34,30 @@ fn main() -> ExitCode {
     }
 }
 
-fn run() -> Result<String, String> {
+fn run() -> Result<(), String> {
     let arguments: Vec<String> = std::env::args().skip(1).collect();
-    let (file, window) = match arguments.as_slice() {
+    let (slots, rest) = match arguments.as_slice() {
+        [option, number, rest @ ..] if option == "--slots" => (slots_of(number)?, rest),
+        rest => (SLOTS, rest),
+    };
+    let (file, window) = match rest {
         [file] => (file, None),
         [file, sides @ ..] if sides.len() == 4 => (file, Some(rect_of(sides)?)),
         _ => return Err(USAGE.to_string()),
     };
-    let mut pool = after(&bytes_of(file)?);
+    let mut pool = after(&bytes_of(file)?, slots);
     let tree = tree::read(&pool);
     let shown = window.map(|w| window::look(&mut pool, &tree, w)).transpose()?;
-    Ok(picture::draw(&tree, shown.as_ref()))
+    write(&picture::draw(&tree, shown.as_ref()))
+}
+
+/// A reader that closes early is no fault of ours; a full disk is to be told.
+fn write(text: &str) -> Result<(), String> {
+    let mut out = std::io::stdout();
+    match out.write_all(text.as_bytes()).and_then(|()| out.flush()) {
+        Err(e) if e.kind() != ErrorKind::BrokenPipe => Err(format!("standard output: {e}")),
+        _ => Ok(()),
+    }
 }
 
 fn bytes_of(file: &str) -> Result<Vec<u8>, String> {
@@ -60,6 +69,13 @@ fn bytes_of(file: &str) -> Result<Vec<u8>, String> {
     Ok(bytes)
 }
 
+fn slots_of(text: &str) -> Result<usize, String> {
+    match text.parse() {
+        Ok(slots) if (1..=dustmap::MOST_SLOTS).contains(&slots) => Ok(slots),
+        _ => Err(format!("not a number of slots: {text}\n{USAGE}")),
+    }
+}
+
 fn rect_of(sides: &[String]) -> Result<Rect, String> {
     let number =
         |text: &String| text.parse::<i32>().map_err(|_| format!("not a number: {text}\n{USAGE}"));
@@ -67,12 +83,11 @@ fn rect_of(sides: &[String]) -> Result<Rect, String> {
     Ok(Rect::from_words([words[0], words[1], words[2], words[3]]))
 }
 
-/// The pool that the frames leave, each a batch of one. A refused request does not show in the drawing, so it is reported.
-fn after(bytes: &[u8]) -> Vec<i32> {
-    let mut pool = dustmap::blank_pool(SLOTS).expect("a valid number of slots");
+/// The pool that the frames leave. A refused request does not show in the drawing, so it is reported.
+fn after(bytes: &[u8], slots: usize) -> Vec<i32> {
+    let mut pool = dustmap::blank_pool(slots).expect("a valid number of slots");
     let (requests, bad) = frames::requests(bytes);
-    for (index, request) in requests.iter().enumerate() {
-        let number = one(&mut pool, *request, &mut [Found::default(); PLACES]).number;
+    for (index, number) in batch::all(&mut pool, &requests).into_iter().enumerate() {
         if number != 0 {
             eprintln!("frame {}: answered {number}", index + 1);
         }

@@ -1,38 +1,57 @@
 //! The picture: covers by level, records with their numbers, the window, a scale bar and the legend.
 
 use crate::labels::Labels;
-use crate::legend::legend;
+use crate::legend::{counted, legend};
 use crate::look::{colour, EDGE, FOUND, RECORD};
-use crate::svg::{circle, line, rect, text, titled, Place, Scale};
-use crate::tree::{joint, Node, Tree};
-use crate::window::{is_opened, Shown};
-use dustmap::{Found, Rect};
+use crate::page;
+use crate::svg::{circle, layer, line, rect, text, titled, Place, Scale};
+use crate::tree::{joint, Held, Node, Tree};
+use crate::window::{is_found, is_opened, Shown};
+use dustmap::Rect;
 
 const SHEET: (f64, f64) = (1280.0, 860.0);
-const LEGEND: f64 = 270.0;
-const LEAST_HIGH: f64 = 560.0;
+const LEGEND: f64 = 300.0;
+
+/// Between the map and its legend: room for the boxes to tick.
+const GUTTER: f64 = 36.0;
 
 /// With more records than this, a window's numbers would be lost among all the others.
 const CROWD: usize = 200;
 
+/// And with more found in such a crowd, their numbers would cover them.
+const MANY_FOUND: usize = 60;
+
+/// With more nodes than this, the pen is a finer one: they would lie on those beside them.
+const MANY_NODES: f64 = 100.0;
+
 pub fn draw(tree: &Tree, shown: Option<&Shown>) -> String {
-    let most_wide = SHEET.0 - LEGEND - 3.0 * EDGE;
-    let scale = Scale::fit(extent(tree, shown), EDGE, EDGE, most_wide, SHEET.1 - 2.0 * EDGE);
+    let most_wide = SHEET.0 - LEGEND - GUTTER - 2.0 * EDGE;
+    let mut scale = Scale::fit(extent(tree, shown), EDGE, EDGE, most_wide, SHEET.1 - 2.0 * EDGE);
+    scale.pen = pen(tree);
     let sheet = Place { x: EDGE, y: EDGE, width: scale.width, height: scale.height };
-    let width = sheet.width + LEGEND + 3.0 * EDGE;
-    let height = (sheet.height + 2.0 * EDGE).max(LEAST_HIGH);
+    let width = sheet.width + LEGEND + GUTTER + 2.0 * EDGE;
+    let (legend, legend_ends) = legend(tree, shown, sheet.x + sheet.width + GUTTER);
+    let height = (sheet.height + 2.0 * EDGE).max(legend_ends + EDGE);
     let mut out = format!(
         "<svg xmlns=\"http://www.w3.org/2000/svg\" viewBox=\"0 0 {width:.0} {height:.0}\" width=\"{width:.0}\" \
-         height=\"{height:.0}\" font-family=\"DejaVu Sans, Helvetica, Arial, sans-serif\">\n"
+         height=\"{height:.0}\" font-family=\"DejaVu Sans, Helvetica, Arial, sans-serif\" \
+         aria-labelledby=\"name\" aria-describedby=\"told\">\n"
     );
+    out += &page::head(tree, shown);
     out += &rect(Place { x: 0.0, y: 0.0, width, height }, "fill=\"#ffffff\"");
     out += &rect(sheet, "fill=\"#fbfaf6\" stroke=\"#d8d4c8\"");
     out += &covers(tree, shown, &scale);
     out += &records(tree, shown, &scale, sheet);
     out += &window(shown, &scale);
     out += &bar(&scale);
-    out += &legend(tree, shown, sheet.x + sheet.width + EDGE);
-    out + "</svg>\n"
+    out += &page::glass(sheet, scale.pen);
+    out += &legend;
+    out + &page::script() + "</svg>\n"
+}
+
+/// Half as thick where there are sixteen times as many nodes.
+fn pen(tree: &Tree) -> f64 {
+    (MANY_NODES / tree.nodes.len() as f64).powf(0.25).min(1.0)
 }
 
 /// All records and the window; where there is neither, a square metre around the origin.
@@ -42,36 +61,38 @@ fn extent(tree: &Tree, shown: Option<&Shown>) -> Rect {
     all.unwrap_or(Rect::from_words([-500, -500, 500, 500]))
 }
 
-/// The covers, highest level first.
+/// The covers, highest level first; in each level, those opened last, so that they lie on top.
 fn covers(tree: &Tree, shown: Option<&Shown>, scale: &Scale) -> String {
-    let mut nodes: Vec<&Node> = tree.nodes.iter().collect();
-    nodes.sort_by_key(|node| (std::cmp::Reverse(node.level), is_opened(node, shown)));
-    nodes.iter().filter_map(|node| Some(cover(node, node.cover?, shown, scale))).collect()
+    let of_level = |level: i32| {
+        let mut nodes: Vec<&Node> = tree.nodes.iter().filter(|node| node.level == level).collect();
+        nodes.sort_by_key(|node| is_opened(node, shown));
+        let shapes: String =
+            nodes.iter().filter_map(|node| Some(cover(node, node.cover?, shown, scale))).collect();
+        let look = format!(
+            "data-holds=\"nodes\" fill=\"{0}\" fill-opacity=\"0\" stroke=\"{0}\"",
+            colour(level)
+        );
+        layer(&format!("level-{level}"), &look, &shapes)
+    };
+    (1..=tree.height).rev().map(of_level).collect()
 }
 
 /// Each level is drawn a little wider than the one below, since tight covers share edges.
 fn cover(node: &Node, tight: Rect, shown: Option<&Shown>, scale: &Scale) -> String {
     // Only leaves are tinted: all that lies below a higher node would take its colour too.
-    let (tint, opacity, width) = match (shown.is_some(), is_opened(node, shown), node.level) {
-        (true, true, 1) => (0.12, 1.0, 2.2),
-        (true, true, _) => (0.0, 1.0, 2.2),
-        (true, false, _) => (0.0, 0.4, 1.1),
-        (false, _, _) => (0.0, 0.9, 1.5),
+    let (look, thick) = match (shown.is_some(), is_opened(node, shown), node.level) {
+        (true, true, 1) => ("fill-opacity=\"0.12\"", 2.2),
+        (true, true, _) => ("", 2.2),
+        (true, false, _) => ("stroke-opacity=\"0.6\"", 1.1),
+        (false, _, _) => ("stroke-opacity=\"0.9\"", 1.5),
     };
-    let place = scale.place(&tight).wider_by(1.5 + 3.5 * f64::from(node.level));
-    let colour = colour(node.level);
-    let look = format!(
-        "rx=\"3\" fill=\"{colour}\" fill-opacity=\"{tint}\" stroke=\"{colour}\" stroke-opacity=\"{opacity}\" \
-         stroke-width=\"{width}\""
-    );
-    let words = format!(
-        "slot {}, level {}, {} entries: {}",
-        node.slot,
-        node.level,
-        node.entries.len(),
-        sides(&tight)
-    );
-    titled(&words, &rect(place, &look))
+    let (wider, thick) = (1.5 + 3.5 * f64::from(node.level), thick * scale.pen);
+    let place = scale.place(&tight).wider_by(wider * scale.pen * scale.pen);
+    let entries = counted(node.entries.len(), "entry", "entries");
+    let opened = if is_opened(node, shown) { ", opened" } else { "" };
+    let words =
+        format!("slot {}, level {}{opened}: {}; {entries}", node.slot, node.level, sides(&tight));
+    titled(&words, &rect(place, &format!("rx=\"3\" stroke-width=\"{thick:.2}\" {look}")))
 }
 
 fn sides(rect: &Rect) -> String {
@@ -79,45 +100,74 @@ fn sides(rect: &Rect) -> String {
     format!("{low_x}, {low_y} to {high_x}, {high_y}")
 }
 
-/// The records, those found on top; then the numbers, those found first, since a number is left out where it has no room.
-/// A crowded map has only the numbers of those found.
+/// The records, those found on top; then the numbers.
 fn records(tree: &Tree, shown: Option<&Shown>, scale: &Scale, sheet: Place) -> String {
-    let is_found = |record: &Found| shown.is_some_and(|s| s.found.contains(record));
     let mut all = tree.records();
-    all.sort_by_key(|record| (is_found(record), *record));
-    let mut out: String = all.iter().map(|r| record(r, is_found(r), scale)).collect();
-    let mut labels = Labels::new(sheet);
-    let crowded = shown.is_some() && all.len() > CROWD;
-    for r in all.iter().rev().filter(|r| !crowded || is_found(r)) {
-        let words = r.number.to_string();
-        if let Some(at) = labels.put(scale.place(&r.rect), &words) {
-            out += &number(at, &words, is_found(r));
-        }
+    all.sort_by_key(|held| held.record);
+    let (found, others): (Vec<Held>, Vec<Held>) =
+        all.into_iter().partition(|held| is_found(&held.record, shown));
+    let shapes = |held: &[Held], words: &str| -> String {
+        held.iter().map(|h| record(h, words, scale)).collect()
+    };
+    let look = |colour: &str, tint: f64| {
+        format!(
+            "data-holds=\"records\" fill=\"{colour}\" fill-opacity=\"{tint}\" stroke=\"{colour}\" stroke-width=\"{:.2}\"",
+            scale.pen
+        )
+    };
+    let mut out = layer("records", &look(RECORD, 0.22), &shapes(&others, ""));
+    if shown.is_some() {
+        out += &layer("found", &look(FOUND, 0.38), &shapes(&found, ", found"));
     }
-    out
+    // A crowded map has only the numbers of those found, if they are few.
+    let crowded = shown.is_some() && found.len() + others.len() > CROWD;
+    let numbered = match (crowded, found.len() > MANY_FOUND) {
+        (false, _) => (&others[..], &found[..]),
+        (true, false) => (&[][..], &found[..]),
+        (true, true) => (&[][..], &[][..]),
+    };
+    out + &numbers(numbered.0, numbered.1, scale, sheet)
 }
 
 /// A point is a dot, a line a line, all else a box.
-fn record(record: &Found, found: bool, scale: &Scale) -> String {
-    let (colour, tint) = if found { (FOUND, 0.38) } else { (RECORD, 0.22) };
+fn record(held: &Held, found: &str, scale: &Scale) -> String {
+    let Held { record, slot } = held;
     let place = scale.place(&record.rect);
     let shape = match (place.width < 1.5, place.height < 1.5) {
         (true, true) => circle(
             place.middle(),
-            3.2,
-            &format!("fill=\"{colour}\" stroke=\"#ffffff\" stroke-width=\"0.8\""),
+            3.2 * scale.pen,
+            "fill-opacity=\"1\" stroke=\"#ffffff\" stroke-width=\"0.8\"",
         ),
-        (false, false) => {
-            let fill = format!("fill=\"{colour}\" fill-opacity=\"{tint}\"");
-            rect(place, &format!("{fill} stroke=\"{colour}\" stroke-width=\"1\""))
-        }
+        (false, false) => rect(place, ""),
         _ => {
             let to = (place.x + place.width, place.y + place.height);
-            let stroke = format!("stroke=\"{colour}\" stroke-width=\"3\" stroke-linecap=\"round\"");
-            line((place.x, place.y), to, &stroke)
+            let look = format!("stroke-width=\"{:.2}\" stroke-linecap=\"round\"", 3.0 * scale.pen);
+            line((place.x, place.y), to, &look)
         }
     };
-    titled(&format!("record {}: {}", record.number, sides(&record.rect)), &shape)
+    let words =
+        format!("record {}{found}: {}; leaf in slot {slot}", record.number, sides(&record.rect));
+    titled(&words, &shape)
+}
+
+/// The numbers, those found first, since a number is left out where it has no room; a layer of them goes with that of its records.
+fn numbers(others: &[Held], found: &[Held], scale: &Scale, sheet: Place) -> String {
+    let mut labels = Labels::new(sheet);
+    let mut of = |held: &[Held], found: bool| -> String {
+        let mut out = String::new();
+        for Held { record, .. } in held.iter().rev() {
+            let words = record.number.to_string();
+            if let Some(at) = labels.put(scale.place(&record.rect), &words) {
+                out += &number(at, &words, found);
+            }
+        }
+        out
+    };
+    let (of_found, of_others) = (of(found, true), of(others, false));
+    let class = "class=\"number\" aria-hidden=\"true\"";
+    let of_found = if found.is_empty() { of_found } else { layer("found", class, &of_found) };
+    layer("records", class, &of_others) + &of_found
 }
 
 /// A pale rim keeps a number readable where lines cross it.
@@ -134,7 +184,9 @@ fn number(at: (f64, f64), words: &str, found: bool) -> String {
 fn window(shown: Option<&Shown>, scale: &Scale) -> String {
     let look =
         format!("fill=\"none\" stroke=\"{FOUND}\" stroke-width=\"2\" stroke-dasharray=\"8 5\"");
-    shown.map(|s| rect(scale.place(&s.window).at_least(12.0), &look)).unwrap_or_default()
+    shown
+        .map(|s| layer("window", "", &rect(scale.place(&s.window).at_least(12.0), &look)))
+        .unwrap_or_default()
 }
 
 /// The scale bar, in the lower left corner.

@@ -8,6 +8,8 @@ pub struct Scale {
     pub top: f64,
     pub width: f64,
     pub height: f64,
+    /// How thick lines and dots are: 1 where there is room, less where there is not.
+    pub pen: f64,
     low_x: f64,
     high_y: f64,
     unit: f64,
@@ -34,6 +36,7 @@ impl Scale {
             top,
             width: unit * (wide + 2.0 * margin),
             height: unit * (high + 2.0 * margin),
+            pen: 1.0,
             low_x: f64::from(rect.low_x) - margin,
             high_y: f64::from(rect.high_y) + margin,
             unit,
@@ -103,14 +106,19 @@ pub fn rect(place: Place, attributes: &str) -> String {
 }
 
 pub fn circle((x, y): (f64, f64), radius: f64, attributes: &str) -> String {
-    format!("<circle cx=\"{x:.2}\" cy=\"{y:.2}\" r=\"{radius}\" {attributes}/>\n")
+    format!("<circle cx=\"{x:.2}\" cy=\"{y:.2}\" r=\"{radius:.1}\" {attributes}/>\n")
 }
 
 pub fn line((x, y): (f64, f64), (to_x, to_y): (f64, f64), attributes: &str) -> String {
     format!("<line x1=\"{x:.2}\" y1=\"{y:.2}\" x2=\"{to_x:.2}\" y2=\"{to_y:.2}\" {attributes}/>\n")
 }
 
-/// A shape with words that a browser shows when the pointer rests on it.
+/// Shapes that are shown and hidden together, under one name. Whatever look they have in common is given once.
+pub fn layer(name: &str, attributes: &str, shapes: &str) -> String {
+    format!("<g data-layer=\"{name}\" {attributes}>\n{shapes}</g>\n")
+}
+
+/// A shape with words: a browser shows them when the pointer rests on it, and a reader of the screen says them.
 pub fn titled(words: &str, shape: &str) -> String {
     format!("<g><title>{words}</title>{shape}</g>\n")
 }

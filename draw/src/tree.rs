@@ -17,10 +17,17 @@ pub struct Entry {
     pub pointer: i32,
 }
 
+/// A record, and the slot of the leaf that holds it.
+pub struct Held {
+    pub record: Found,
+    pub slot: usize,
+}
+
 pub struct Tree {
     pub slots: usize,
     pub root: usize,
     pub height: i32,
+    /// In the order of their slots.
     pub nodes: Vec<Node>,
 }
 
@@ -61,15 +68,17 @@ pub fn meets(a: &Rect, b: &Rect) -> bool {
 
 impl Tree {
     pub fn node(&self, slot: usize) -> &Node {
-        self.nodes.iter().find(|node| node.slot == slot).expect("a child of a sound pool is in use")
+        let at = self.nodes.binary_search_by_key(&slot, |node| node.slot);
+        &self.nodes[at.expect("a child of a sound pool is in use")]
     }
 
     /// The records of all leaves.
-    pub fn records(&self) -> Vec<Found> {
+    pub fn records(&self) -> Vec<Held> {
         let leaves = self.nodes.iter().filter(|node| node.level == 1);
-        leaves
-            .flat_map(|leaf| &leaf.entries)
-            .map(|e| Found { number: e.pointer, rect: e.rect })
-            .collect()
+        let held = |slot: usize, e: &Entry| Held {
+            record: Found { number: e.pointer, rect: e.rect },
+            slot,
+        };
+        leaves.flat_map(|leaf| leaf.entries.iter().map(move |e| held(leaf.slot, e))).collect()
     }
 }

@@ -6,8 +6,9 @@ use dustmap::{Found, Rect, Request};
 
 pub struct Shown {
     pub window: Rect,
+    /// In found order.
     pub found: Vec<Found>,
-    /// The slots of the nodes opened.
+    /// The slots of the nodes opened, the lowest first.
     pub opened: Vec<usize>,
 }
 
@@ -29,6 +30,7 @@ pub fn look(pool: &mut [i32], tree: &Tree, window: Rect) -> Result<Shown, String
         answer.opened as usize,
         "the covers that meet the window, and the root"
     );
+    opened.sort_unstable();
     Ok(Shown { window, found, opened })
 }
 
@@ -46,5 +48,10 @@ fn open(tree: &Tree, slot: usize, window: &Rect, opened: &mut Vec<usize>) {
 
 /// Whether the search of the window, if there is one, opens the node.
 pub fn is_opened(node: &Node, shown: Option<&Shown>) -> bool {
-    shown.is_some_and(|s| s.opened.contains(&node.slot))
+    shown.is_some_and(|s| s.opened.binary_search(&node.slot).is_ok())
+}
+
+/// Whether the search of the window, if there is one, finds the record.
+pub fn is_found(record: &Found, shown: Option<&Shown>) -> bool {
+    shown.is_some_and(|s| s.found.binary_search(record).is_ok())
 }

@@ -1,0 +1,60 @@
+//! What a browser adds to the picture: the parts that say what is pointed at, their style, and the script. All of it is hidden until
+//! the script runs, so that a viewer without scripts shows the picture and no control that does nothing.
+
+use crate::legend::counted;
+use crate::svg::{rect, Place};
+use crate::tree::Tree;
+use crate::window::Shown;
+
+const STYLE: &str = include_str!("page.css");
+const SCRIPT: &str = include_str!("page.js");
+
+/// What a reader of the screen says of the map when it gets the focus.
+const HELP: &str = "Map. Arrow keys go from record to record, Home to the first, End to the last.";
+
+/// The name of the page, what it shows in a sentence, and how its parts look.
+pub fn head(tree: &Tree, shown: Option<&Shown>) -> String {
+    let map = format!(
+        "Map of {}, height {}",
+        counted(tree.records().len(), "record", "records"),
+        tree.height
+    );
+    let window = shown.map(|s| {
+        let [low_x, low_y, high_x, high_y] = s.window.to_words();
+        format!(
+            ", and the window {low_x}, {low_y} to {high_x}, {high_y}: {} found, {} opened",
+            counted(s.found.len(), "record", "records"),
+            counted(s.opened.len(), "node", "nodes")
+        )
+    });
+    format!(
+        "<title id=\"name\">dustmap</title>\n<desc id=\"told\">{map}{}.</desc>\n<style>\n{STYLE}</style>\n",
+        window.unwrap_or_default()
+    )
+}
+
+/// The glass lies over the map and takes all that the pointer does; the ring is around what is pointed at, and the answer is
+/// a paper with the words.
+pub fn glass(sheet: Place, pen: f64) -> String {
+    // Two dots' radius: no gap is left between the places that the script looks at.
+    let near = 7.0 * pen;
+    let look = format!(
+        "id=\"glass\" class=\"needs-script\" display=\"none\" fill-opacity=\"0\" tabindex=\"0\" role=\"application\" \
+         aria-roledescription=\"map\" aria-label=\"{HELP}\" data-near=\"{near:.1}\""
+    );
+    let hidden = Place { x: 0.0, y: 0.0, width: 0.0, height: 0.0 };
+    let ring = "id=\"ring\" display=\"none\" rx=\"4\" fill=\"none\" stroke=\"#111111\" stroke-width=\"2.5\"";
+    let paper = "id=\"paper\" rx=\"4\" fill=\"#ffffff\" stroke=\"#111111\" stroke-width=\"1.5\"";
+    let words = "id=\"said\" y=\"4\" role=\"status\" aria-live=\"polite\" font-size=\"13\" fill=\"#222222\"";
+    format!(
+        "{}{}<g id=\"answer\" display=\"none\">\n{}<text {words}></text>\n</g>\n",
+        rect(hidden, ring),
+        rect(sheet, &look),
+        rect(hidden, paper)
+    )
+}
+
+/// The script, as text that XML does not take for markup.
+pub fn script() -> String {
+    format!("<script><![CDATA[\n{SCRIPT}]]></script>\n")
+}
