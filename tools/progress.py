@@ -18,8 +18,10 @@ from typing import BinaryIO, Optional, TextIO
 
 # `rt` says of each crate, when it is done with it: rt: NAME proved (12 s), rt: NAME proved (unchanged ..) or rt: NAME NOT PROVED ..
 OUTCOME = re.compile(r"rt: (\w+) (proved \(\d+ s\)|proved \(unchanged|NOT PROVED)")
-# Seconds: how long a command is silent before something is shown, and how often its log is looked at.
+# Seconds: how long a command is silent before something is shown; how long, where `rt` seems to see only whether a crate is unchanged, which
+# takes its time on a busy machine; and how often its log is looked at.
 PATIENCE = 1.0
+LONGER = 10.0
 TICK = 0.2
 # Where the command fails: how many lines of the log's end are shown, how many of the first errors, and how much of a line.
 END = 20
@@ -107,7 +109,9 @@ class Shown:
 class Progress:
     """Which crates are done, by what the command has said, and what has been shown of it."""
 
-    def __init__(self, crates: list[str], what: str, log: str, shown: Shown) -> None:
+    def __init__(self, command: list[str], folder: str, what: str, log: str, shown: Shown) -> None:
+        crates = crates_of(command, folder)
+        self.command, self.folder = command, folder
         self.left, self.total = list(crates), len(crates)
         self.what, self.log, self.shown = what, log, shown
         self.began = self.heard_at = time.monotonic()
@@ -127,9 +131,15 @@ class Progress:
             self.show("proved", crate)
         self.left.remove(crate)
 
-    def waiting(self, patience: float) -> None:
+    def patience(self) -> float:
+        """`rt` removes a crate's stamp before it proves the crate. A library is proved as it is written, whatever its stamp says."""
+        if not self.left or self.command[1:] == ["staticlib", self.left[0]]:
+            return PATIENCE
+        return LONGER if os.path.exists(os.path.join(self.folder, "target", "stamp", self.left[0])) else PATIENCE
+
+    def waiting(self) -> None:
         """The command still runs: shows what it does, unless it has only just said something."""
-        if time.monotonic() - self.heard_at < patience:
+        if time.monotonic() - self.heard_at < self.patience():
             return
         if self.left:
             self.show("proving", self.left[0])
@@ -156,7 +166,7 @@ class Progress:
             self.shown.line(f"{'done' if status == 0 else 'failed'} after {lasted(time.monotonic() - self.began)}")
 
 
-def followed(child: subprocess.Popen, log: BinaryIO, progress: Progress, patience: float) -> int:
+def followed(child: subprocess.Popen, log: BinaryIO, progress: Progress) -> int:
     """Waits for the command, and shows how far it is, by its log. Gives its status."""
     rest = b""
     while True:
@@ -170,13 +180,13 @@ def followed(child: subprocess.Popen, log: BinaryIO, progress: Progress, patienc
         if status is not None:
             # as a shell says it, where a signal has ended the command
             return status if status >= 0 else 128 - status
-        progress.waiting(patience)
+        progress.waiting()
 
 
-def run(command: list[str], log: str, what: str = "", folder: str = ".", patience: float = PATIENCE) -> int:
+def run(command: list[str], log: str, what: str = "", folder: str = ".") -> int:
     """Runs a command in a folder, with nothing to read. Gives its status."""
     os.makedirs(os.path.dirname(log) or ".", exist_ok=True)
-    progress = Progress(crates_of(command, folder), what, log, Shown(sys.stderr))
+    progress = Progress(command, folder, what, log, Shown(sys.stderr))
     with open(log, "wb") as kept, open(log, "rb") as said:
         try:
             child = subprocess.Popen(command, cwd=folder, stdin=subprocess.DEVNULL, stdout=kept, stderr=subprocess.STDOUT)
@@ -184,7 +194,7 @@ def run(command: list[str], log: str, what: str = "", folder: str = ".", patienc
             kept.write(f"{command[0]}: {error.strerror}; README says what is needed\n".encode())
             return 127
         try:
-            status = followed(child, said, progress, patience)
+            status = followed(child, said, progress)
         except KeyboardInterrupt:
             # the command is interrupted too, and is not to write to its log when this has ended
             child.wait()
