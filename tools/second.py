@@ -1,13 +1,17 @@
 """The second program (second/), built once and called by its subcommands."""
-import os, subprocess
+import os, subprocess, sys
+import progress
 
 ROOT = os.path.dirname(os.path.dirname(os.path.abspath(__file__)))
 TARGET = os.path.join(ROOT, "target", "second")
 
 
 def build():
-    env = dict(os.environ, CARGO_TARGET_DIR=TARGET)
-    subprocess.run(["cargo", "build", "--release", "--offline", "--quiet"], cwd=os.path.join(ROOT, "second"), env=env, check=True)
+    log = os.path.join(ROOT, "target", "second-build.log")
+    build = ["cargo", "build", "--release", "--offline", "--target-dir", TARGET]
+    if progress.run(build, log, what="building the second program", folder=os.path.join(ROOT, "second")) != 0:
+        progress.show_end(log)
+        sys.exit("the second program could not be built")
 
 
 def say(words, given=b""):
