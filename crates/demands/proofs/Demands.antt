@@ -43,6 +43,7 @@ use Rattle.in_force_laws.proofs.Batch.{noAnswer, answers-kept, answers-as-many,
 use Rattle.in_force_laws.proofs.Filled.{part-filled}
 use Rattle.in_force_laws.proofs.Call.{callBy-refused, callBy-served, no-fault, left-answers, left-found, left-beyond, answers-long, call-part, call-shows}
 use Rattle.request.proofs.Sounds.{sound-fit, sound-tree}
+use Rattle.request.proofs.Cases.{asks-something}
 use Rattle.demands.specs.Steps.{Step, Call, poolAfter, History, inForceAfter}
 use Rattle.map.specs.Asking.{Allowed}
 use Rattle.map.proofs.Calls.{once}
@@ -50,7 +51,7 @@ use Rattle.demands.specs.Demands.{after, turnAfter, answerAfter, withReq
 use Rattle.demands.specs.Demands.{Accepted, Lists, Does, Shows}
 use Rattle.demands.proofs.Holds.{history-holds}
 use Rattle.demands.proofs.Turns.{Either, either, same-pool}
-use Rattle.demands.proofs.Unasked.{two-after, bare, given, every-less, passed, first-fine, first-pool, less-fine, less-asked, less-end, less-answers}
+use Rattle.demands.proofs.Unasked.{two-after, bare, every-less, passed, first-fine, first-pool, less-fine, less-asked, less-end, less-answers}
 
 -- ---- one outcome
 
@@ -232,7 +233,7 @@ module _ (l : Lent) (o : Left) (k : Allowed l o) where
     one-still done q rest all = ⊎-elim refusal searched (h done q rest all)
       where
         refusal : answerAfter o done .number ≢ 0 → after l (done ++ q ∷ []) .pool ≡ after l done .pool
-        refusal n = let a = given q (every-less isRequest done q rest (rw all at (passed l (fine z) .3)) .0) in stays z done q rest all (a .0) (a .1) n
+        refusal n = let a = asks-something q (every-less isRequest done q rest (rw all at (passed l (fine z) .3)) .0) in stays z done q rest all (a .0) (a .1) n
 
         searched : (window : Rect) × (asked q ≡ some (Search window)) → after l (done ++ q ∷ []) .pool ≡ after l done .pool
         searched s =

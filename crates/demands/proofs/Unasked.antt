@@ -2,12 +2,12 @@
 -- neither on the answer list nor on its own place; a refused one leaves these three; and every place of the answer list is written once.
 use mathlib.Core.Path.{_≡_, refl, sym, ap, ap₂, subst, _∙_}
 use mathlib.Core.Bool.{Bool, true, false, not, _||_}
-use mathlib.Core.List.{List, [], _∷_, _++_, append-nil}
+use mathlib.Core.List.{List, [], _∷_, _++_}
 use mathlib.Core.Option.{Option, none, some}
 use Prim.Native.Nat.{ℕ, suc, _+_, _-_, _≤_}
 use native.Mathlib.Omega.{arith}
-use lib.ListN.{length, set, take, drop, length-append, drop-of-length-le}
-use lib.Seq.{sets, sets-eq, take-at}
+use lib.ListN.{length, set, take, drop, length-append}
+use lib.Seq.{sets, take-at}
 use lib.Dec.{ltb, eqb}
 use borrow.Author.Tests.{ltb-false, le-ltb, eq-eqb}
 use Rattle.rules.specs.declared.Request.{Request}
@@ -24,10 +24,11 @@ use Rattle.rules.specs.Answers.{answerOf, firstRow}
 use Rattle.rules.specs.Request.{asked, request}
 use Rattle.rules.specs.Call.{Lent, Batch, isRequest, callFault, call, afterTurn, doRequest, doRequests, starting}
 use Rattle.rules_laws.proofs.Bools.{and-both, both-and, not-false, or-neither}
-use Rattle.rules_laws.proofs.Orders.{never-both}
+use Rattle.pool.proofs.Runs.{sets-all}
 use Rattle.in_force_laws.proofs.Faults.{no-row, row-passed}
 use Rattle.in_force_laws.proofs.Batch.{noAnswer, two-parts}
 use Rattle.in_force_laws.proofs.Call.{left-answers, answers-long}
+use Rattle.request.proofs.Cases.{asks-something}
 use Rattle.demands.specs.Demands.{after, withRequests}
 
 -- ---- in two parts
@@ -105,24 +106,13 @@ answers-parts i (x ∷ xs) ys b =
 
 -- ---- they are what the batch leaves
 
-none-no : (q : Request) → asked q ≡ none → isRequest q ≡ false
-unfolding isRequest
-none-no q e = rw (e, isRequest)
-
-pub given : (q : Request) → isRequest q ≡ true → (a : Asked) × (asked q ≡ some a)
-given q h = go (asked q) refl
-  where
-    go : (o : Option Asked) → asked q ≡ o → (a : Asked) × (asked q ≡ some a)
-    go none e = never-both h (none-no q e)
-    go (some a) e = (a, e)
-
 some-written : (i : ℕ) (b : Batch) (a : Asked) → doRequest ours i b (some a) .answers ≡ set (b .answers) i (answerBy b (some a))
 unfolding doRequest afterTurn answerBy
 some-written i b a = refl
 
 one-written : (i : ℕ) (b : Batch) (q : Request) → isRequest q ≡ true → doRequest ours i b (asked q) .answers ≡ set (b .answers) i (answerBy b (asked q))
 one-written i b q h =
-    let g = given q h in
+    let g = asks-something q h in
     subst (λ (o : Option Asked). doRequest ours i b o .answers ≡ set (b .answers) i (answerBy b o)) (sym (g .1)) (some-written i b (g .0))
 
 all-written : (i : ℕ) (qs : List Request) (b : Batch) → every isRequest qs ≡ true → doRequests ours i qs b .answers ≡ sets (b .answers) i (allAnswers qs b)
@@ -135,11 +125,6 @@ all-written i (q ∷ qs) b h =
     ∙ ap₂ (λ (l : List Answer) (xs : List Answer). sets l (suc i) xs) (one-written i b q (g .0)) (place-free i 0 qs b (asked q))
 
 module _ {A : Type 0} where
-  sets-all : (vs l : List A) → length l ≡ length vs → sets l 0 vs ≡ vs
-  sets-all vs l e =
-      sets-eq vs l 0 (omega (arith, e))
-      ∙ ap (λ (r : List A). vs ++ r) (drop-of-length-le l {i = 0 + length vs} (omega (arith, e))) ∙ append-nil vs
-
   drop-past : (xs : List A) (y : A) (ys : List A) → drop (suc (length xs)) (xs ++ y ∷ ys) ≡ ys
   drop-past [] y ys = refl
   drop-past (x ∷ xs) y ys = drop-past xs y ys
@@ -186,7 +171,7 @@ module _ (l : Lent) (fine : callFault l ≡ none) where
   unfolding call starting
   call-answers =
       left-answers ours l fine ∙ all-written 0 (l .requests) (starting l) (passed .3)
-      ∙ sets-all (allAnswers (l .requests) (starting l)) (l .answers) (answers-long ours l fine ∙ sym (answers-many (l .requests) (starting l)))
+      ∙ sets-all (l .answers) (allAnswers (l .requests) (starting l)) (answers-many (l .requests) (starting l) ∙ sym (answers-long ours l fine))
 
 -- .. and so does one with fewer requests
 module _ (l : Lent) (fine : callFault l ≡ none) where
@@ -224,7 +209,7 @@ module _ (l : Lent) (fine : callFault l ≡ none) where
         (every-less isRequest done q rest (rw all at (passed l fine .3)) .1) long
 
     pub less-asked : (a : Asked) × (asked q ≡ some a)
-    less-asked = given q (every-less isRequest done q rest (rw all at (passed l fine .3)) .0)
+    less-asked = asks-something q (every-less isRequest done q rest (rw all at (passed l fine .3)) .0)
 
     less-start : bare (starting l) ≡ bare (starting less)
     unfolding starting

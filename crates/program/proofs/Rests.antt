@@ -5,8 +5,8 @@ use mathlib.Core.Bool.{Bool, true, false}
 use mathlib.Core.List.{List, [], _∷_, _++_, append-assoc, append-nil}
 use Prim.Native.Nat.{ℕ, zero, suc, _+_, _-_, _≤_, _<_}
 use native.Mathlib.Omega.{arith}
-use lib.ListN.{length, take, drop, length-drop}
-use lib.Seq.{length-take-le, take-nil}
+use lib.ListN.{length, take, drop, length-drop, take-append-drop}
+use lib.Seq.{length-take-le, take-take, take-add}
 use lib.IntN.{ℤ, pos}
 use mir.Syntax.{w32}
 use mir.Val.{SFits}
@@ -40,17 +40,7 @@ use Rattle.program.proofs.Steps.{said-as, wrote-front}
 -- ---- lists
 
 take-part : (n m : ℕ) (l : List ℕ) → n ≤ m → take m l ≡ take n l ++ drop n (take m l)
-take-part zero m l h = refl
-take-part (suc n) zero l h = absurd (omega arith)
-take-part (suc n) (suc m) [] h = refl
-take-part (suc n) (suc m) (x ∷ l) h = ap (λ (t : List ℕ). x ∷ t) (take-part n m l (omega arith))
-
-take-more : (n k : ℕ) (l : List ℕ) → take (n + k) l ≡ take n l ++ take k (drop n l)
-take-more zero k l = let e : zero + k ≡ k = omega arith in ap (λ (j : ℕ). take j l) e
-take-more (suc n) k [] = take-nil (suc n + k) ∙ sym (take-nil k)
-take-more (suc n) k (x ∷ l) =
-    let e : suc n + k ≡ suc (n + k) = omega arith in
-    ap (λ (j : ℕ). take j (x ∷ l)) e ∙ ap (λ (t : List ℕ). x ∷ t) (take-more n k l)
+take-part n m l h = sym (take-append-drop n (take m l)) ∙ ap (λ (t : List ℕ). t ++ drop n (take m l)) (take-take n m l h)
 
 -- ---- what was printed is a beginning
 
@@ -124,7 +114,7 @@ module _ {old input : List ℕ} {r : Run} (low : r .at ≤ r .end) (high : r .en
         filled = refl;
         low = omega arith;
         high = omega arith;
-        held = ap (λ (j : ℕ). take j input) whole ∙ take-more (r .end - r .at) n input ∙ ap (λ (l : List ℕ). l ++ take n (drop (r .end - r .at) input)) e;
+        held = ap (λ (j : ℕ). take j input) whole ∙ take-add (r .end - r .at) n input ∙ ap (λ (l : List ℕ). l ++ take n (drop (r .end - r .at) input)) e;
       })
 
   held-still : (s : Run) → take (r .end - r .at) input ≡ heldIn old r → heldUpTo r (r .end - r .at) ≡ s → Held old input r s []

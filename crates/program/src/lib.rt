@@ -10,7 +10,7 @@ ghost use Rattle.rules.specs.Pool.{number, noRecord};
 ghost use Rattle.rules.specs.Call.{isRequest};
 ghost use Rattle.found_items.specs.Items.{itemsFrom, Pointing};
 ghost use Rattle.request.specs.Serving.{Ready};
-ghost use Rattle.program.specs.Moving.{again, movedBy, heldUpTo, Sends, Flushes, Receives};
+ghost use Rattle.program.specs.Moving.{mostRounds, again, movedBy, heldUpTo, Sends, Flushes, Receives};
 ghost use Rattle.program.specs.Running.{poolSize, Stands, Onward, Replies, Drains, Closes, Ending, Waited, Rounds, Runs};
 use frames::Framed;
 use free_slots::FreeSlots;
@@ -115,7 +115,7 @@ fn answer(
     requires space { ⌜ length (now work) ≡ poolSize ⌝ }
     requires asks { ⌜ isRequest q ≡ true ⌝ }
     requires room { ⌜ at + 7124 ≤ length (now out) ⌝ }
-    requires counted { ⌜ before < 18446744073709551615 ⌝ }
+    requires counted { ⌜ before < mostRounds ⌝ }
     ensures { λ r. ⌜ Replies (now (pool .entry)) q before (now (out .entry)) at (now (pool .exit)) (now (out .exit)) (r .free) (r .filled) ⌝ }
 {
     let served = request::one_request(pool, work, q, 0, 64, free);
@@ -131,7 +131,7 @@ fn turn(pool: &mut [i32], work: &mut [i32], input: &[u8], run: Run, out: &mut [u
     requires stands { ⌜ Stands (now pool) (now input) (now out) run ⌝ }
     requires words { ⌜ length (now pool) ≡ poolSize ⌝ }
     requires space { ⌜ length (now work) ≡ poolSize ⌝ }
-    requires counted { ⌜ run .before < 18446744073709551615 ⌝ }
+    requires counted { ⌜ run .before < mostRounds ⌝ }
     ensures { λ r. ⌜ Onward (now (pool .entry)) (now (input .entry)) (now (out .entry)) run (now (pool .exit)) (now (out .exit)) r ⌝ }
 {
     let at = run.at;
@@ -342,7 +342,7 @@ fn close(out: &[u8], run: Run) -> i32
 
 // At the end of the input the bytes that are left are a cut frame.
 fn last_line(out: &mut [u8], run: Run) -> i32
-    requires counted { ⌜ run .before < 18446744073709551615 ⌝ }
+    requires counted { ⌜ run .before < mostRounds ⌝ }
     requires room { ⌜ 31 ≤ length (now out) ⌝ }
     ensures { λ r. ⌜ Ending (now (out .entry)) (now (out .exit)) run r ⌝ }
 {
@@ -369,7 +369,7 @@ fn wait(input: &mut [u8], out: &mut [u8], run: Run) -> Step
     requires bytes { ⌜ (run .at ≤ run .end) × (run .end ≤ length (now input)) ⌝ }
     requires room { ⌜ run .end - run .at < length (now input) ⌝ }
     requires lines { ⌜ (run .filled ≤ length (now out)) × (31 ≤ length (now out)) ⌝ }
-    requires counted { ⌜ run .before < 18446744073709551615 ⌝ }
+    requires counted { ⌜ run .before < mostRounds ⌝ }
     ensures { λ r. ⌜ Waited (now (input .entry)) (now (out .entry)) run (now (input .exit)) (now (out .exit)) r ⌝ }
 {
     let Flushed::All(next) = flush(out, run) else {
@@ -389,7 +389,7 @@ fn round(pool: &mut [i32], work: &mut [i32], input: &mut [u8], out: &mut [u8], r
     requires space { ⌜ length (now work) ≡ poolSize ⌝ }
     requires bytes { ⌜ 40 ≤ length (now input) ⌝ }
     requires room { ⌜ 7124 ≤ length (now out) ⌝ }
-    requires counted { ⌜ run .before < 18446744073709551615 ⌝ }
+    requires counted { ⌜ run .before < mostRounds ⌝ }
     ensures { λ r. ⌜ Rounds (now (pool .entry)) (now (input .entry)) (now (out .entry)) run (now (pool .exit)) (now (input .exit)) (now (out .exit)) r ⌝ }
 {
     match turn(pool, work, input, run, out) {
