@@ -267,7 +267,7 @@ module _ (pool : List ℤ) (input out : List ℕ) (r : Run) (st : Stands pool in
         piece = [];
         sent = take (r .filled) out;
         finished = λ a p c. notRead (r .before) pool (heldIn input r)
-            (subst (λ (l : List ℕ). Said l (written p) (r .before) pool (heldIn input r)) (sym (append-nil a)) c);
+            (subst (λ (l : List ℕ). Said l (written p) (r .before) pool (heldIn input r)) (sym (append-nil a)) c) waits;
       }
 
 -- not all that waited could be written
@@ -489,6 +489,6 @@ run-endless pool input out r arrived text c rounds all-used =
 pub finished-fits : {a p : List ℕ} {status : ℤ} → Finished a p status → SFits w32 status
 finished-fits (answered b q s) = record { sfits = omega arith }
 finished-fits (badFrame t b e d) = record { sfits = omega arith }
-finished-fits (notRead b q h s) = record { sfits = omega arith }
+finished-fits (notRead b q h s w) = record { sfits = omega arith }
 finished-fits (notWritten t d) = record { sfits = omega arith }
 finished-fits (endless t d n e) = record { sfits = omega arith }

@@ -69,8 +69,9 @@ pub data Finished (arrived printed : List ℕ) : ℤ → Type 0 where
   answered : (before : ℕ) (pool : List ℤ) → Said arrived printed before pool [] → Finished arrived printed (pos 0)
   -- 1: all is printed, and the last line is that of a bad frame
   badFrame : (text : List ℕ) (place : ℕ) → printed ≡ text ++ badLine place → dustmap arrived ≡ printed → Finished arrived printed (pos 1)
-  -- 2: the input cannot be read. Of all whole frames that came the lines are printed, and no bad frame is
-  notRead : (before : ℕ) (pool : List ℤ) (held : List ℕ) → Said arrived printed before pool held → Finished arrived printed (pos 2)
+  -- 2: the input cannot be read. Of all whole frames that came the lines are printed, and no bad frame is: what is left waits for its end
+  notRead : (before : ℕ) (pool : List ℤ) (held : List ℕ) → Said arrived printed before pool held → framed held ≡ F.Waits
+      → Finished arrived printed (pos 2)
   -- 3: the output cannot be written. What is printed is the beginning of what is to be
   notWritten : (rest : List ℕ) → dustmap arrived ≡ printed ++ rest → Finished arrived printed (pos 3)
   -- 4: the rounds are used up
