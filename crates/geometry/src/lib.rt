@@ -48,7 +48,7 @@ pub fn same(a: i32, b: i32) -> bool
 
 // ---- rectangles
 
-fn in_range(x: i32) -> bool
+pub fn in_range(x: i32) -> bool
     ensures { λ r. ⌜ r ≡ N.inRange x ⌝ }
 {
     and(le(-1000000000, x), le(x, 1000000000))

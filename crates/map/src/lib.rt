@@ -3,11 +3,15 @@ ghost use mathlib.Core.Path.{_≡_};
 ghost use lib.IntN.{pos};
 ghost use Rattle.rules.specs.Layout as L;
 ghost use Rattle.rules.specs.Call as C;
+ghost use Rattle.rules.specs.Survey as S;
 ghost use Rattle.batch.specs.Asking.{lent, nothingAsked};
-ghost use Rattle.map.specs.Asking.{left, Allowed};
+ghost use Rattle.map.specs.Asking.{left, Allowed, pointAsked, boxAsked, discAsked};
 use rules::Answer;
+use rules::Query;
 use rules::Record;
 use rules::Request;
+use rules::SurveyBox;
+use rules::Surveyed;
 
 // For any words: 0 and a blank pool; or 1 for a wrong length, and nothing is written.
 #[no_mangle]
@@ -48,4 +52,66 @@ pub extern "C" fn dustmap_call(
     // "On return 0 the workspace equals the pool."
     request::copy(pool, work);
     0
+}
+
+// What is written of a window, and its number: the rectangle beside 0; beside 12, nothing.
+fn told(w: Surveyed, rect: &mut [i32; 4]) -> i32
+    ensures number { λ n. ⌜ n ≡ S.surveyNumber w ⌝ }
+    ensures words { λ _. ⌜ now (rect .exit) ≡ S.surveyWords w (now (rect .entry)) ⌝ }
+{
+    match w {
+        Surveyed::Whole(r) => {
+            let lowX = r.lowX;
+            let lowY = r.lowY;
+            let highX = r.highX;
+            let highY = r.highY;
+            rect[0] = lowX;
+            rect[1] = lowY;
+            rect[2] = highX;
+            rect[3] = highY;
+            0
+        }
+        Surveyed::BadSurvey => 12,
+    }
+}
+
+// A survey box in doubles, as the rectangle of whole millimetres that holds it.
+#[no_mangle]
+pub extern "C" fn dustmap_box(
+    low_x: f64,
+    low_y: f64,
+    high_x: f64,
+    high_y: f64,
+    rect: &mut [i32; 4],
+) -> i32
+    ensures number { λ n. ⌜ n ≡ S.surveyNumber (S.queryWindow (boxAsked «low_x» «low_y» «high_x» «high_y»)) ⌝ }
+    ensures words { λ _. ⌜ now (rect .exit) ≡ S.surveyWords (S.queryWindow (boxAsked «low_x» «low_y» «high_x» «high_y»)) (now (rect .entry)) ⌝ }
+{
+    let b = SurveyBox {
+        lowX: low_x,
+        lowY: low_y,
+        highX: high_x,
+        highY: high_y,
+    };
+    let w = survey::query_window(Query::Area(b));
+    told(w, rect)
+}
+
+#[no_mangle]
+pub extern "C" fn dustmap_point(x: f64, y: f64, rect: &mut [i32; 4]) -> i32
+    ensures number { λ n. ⌜ n ≡ S.surveyNumber (S.queryWindow (pointAsked x y)) ⌝ }
+    ensures words { λ _. ⌜ now (rect .exit) ≡ S.surveyWords (S.queryWindow (pointAsked x y)) (now (rect .entry)) ⌝ }
+{
+    let w = survey::query_window(Query::Point { x, y });
+    told(w, rect)
+}
+
+// A disc by its centre and its radius, as a window that holds it.
+#[no_mangle]
+pub extern "C" fn dustmap_disc(x: f64, y: f64, radius: f64, rect: &mut [i32; 4]) -> i32
+    ensures number { λ n. ⌜ n ≡ S.surveyNumber (S.queryWindow (discAsked x y radius)) ⌝ }
+    ensures words { λ _. ⌜ now (rect .exit) ≡ S.surveyWords (S.queryWindow (discAsked x y radius)) (now (rect .entry)) ⌝ }
+{
+    let w = survey::query_window(Query::Disc { x, y, radius });
+    told(w, rect)
 }

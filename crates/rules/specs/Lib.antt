@@ -1,4 +1,5 @@
--- Document 01 as definitions, in the document's order. `call` in Call.antt is the top; everything else is a part of it.
+-- Document 01 as definitions, in the document's order. `call` in Call.antt is the top, and everything else is a part of it; of document 02,
+-- Doubles and Survey are Req 03.
 pub mod Lists
 pub mod Numbers
 pub mod Geometry
@@ -15,6 +16,8 @@ pub mod Answers
 pub mod Request
 pub mod Call
 pub mod Frames
+pub mod Doubles
+pub mod Survey
 pub mod Computed
 pub mod Histories
 pub mod Examples

@@ -1,4 +1,4 @@
-// The things document 01 speaks of, as types that the code and the definitions in specs/ share.
+// The things documents 01 and 02 speak of, as types that the code and the definitions in specs/ share.
 // There is no code here: specs/ says what is right, and the crates above cite it.
 
 // "M = 8 entries in a node at most, m = 3 at least (root excepted)."
@@ -105,4 +105,25 @@ pub enum Verdict {
     BadLength,
     NotSound,
     NoRequest,
+}
+
+// Req 03: "Survey boxes come as four doubles, in millimetres."
+pub struct SurveyBox {
+    pub lowX: f64,
+    pub lowY: f64,
+    pub highX: f64,
+    pub highY: f64,
+}
+
+// "a query that is a point, a box or a disc (centre and radius, as doubles)"
+pub enum Query {
+    Point { x: f64, y: f64 },
+    Area(SurveyBox),
+    Disc { x: f64, y: f64, radius: f64 },
+}
+
+// What becomes of a survey box or a query: a rectangle in whole millimetres, or the refusal 12.
+pub enum Surveyed {
+    Whole(Rect),
+    BadSurvey,
 }

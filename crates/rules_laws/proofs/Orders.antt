@@ -91,6 +91,15 @@ not-less (pos a) (negsuc b) p = sym p
 not-less (negsuc a) (pos b) p = refl
 not-less (negsuc a) (negsuc b) p = le-leb b a (ltb-false a b p)
 
+not-more : (a b : ℤ) → leZ a b ≡ true → ltZ b a ≡ false
+not-more (pos a) (pos b) p = le-ltb b a (leb-true a b p)
+not-more (pos a) (negsuc b) p = never-both p refl
+not-more (negsuc a) (pos b) p = refl
+not-more (negsuc a) (negsuc b) p = le-ltb a b (leb-true b a p)
+
+pub at-most-on : (a b c : ℤ) → leZ a b ≡ true → leZ b c ≡ true → leZ a c ≡ true
+at-most-on a b c p q = not-less a c (ltZ-onward c b a (not-more b c q) (not-more a b p))
+
 pub at-most-self : (a : ℤ) → leZ a a ≡ true
 at-most-self a = not-less a a (not-itself ltZ-strict a)
 

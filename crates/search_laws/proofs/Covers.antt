@@ -3,27 +3,17 @@
 use mathlib.Core.Path.{_≡_, refl, sym, subst}
 use mathlib.Core.Bool.{Bool, true, false, cond}
 use mathlib.Core.List.{List, [], _∷_, foldl, List·Memᴰ·head, List·Memᴰ·tail, Memᴰ·map}
-use lib.IntN.{ℤ, pos, negsuc}
+use lib.IntN.{ℤ}
 use lib.Signed.{ltZ, leZ}
-use borrow.Author.Tests.{leb-true, le-ltb}
 use Rattle.rules.specs.declared.Rect.{Rect}
 use Rattle.rules.specs.declared.Entry.{Entry}
 use Rattle.rules.specs.Geometry.{meets, smaller, larger, cover, coverAll}
 use Rattle.rules.specs.Pool.{rects, coverOf}
 use Rattle.rules_laws.proofs.Bools.{and-both}
-use Rattle.rules_laws.proofs.Orders.{never-both, ltZ-strict, not-less, at-most-self}
+use Rattle.rules_laws.proofs.Orders.{at-most-on, never-both, ltZ-strict, not-less, at-most-self}
 use Rattle.rules_laws.proofs.Places.{Among}
 
 -- ---- numbers
-
-not-more : (a b : ℤ) → leZ a b ≡ true → ltZ b a ≡ false
-not-more (pos a) (pos b) p = le-ltb b a (leb-true a b p)
-not-more (pos a) (negsuc b) p = never-both p refl
-not-more (negsuc a) (pos b) p = refl
-not-more (negsuc a) (negsuc b) p = le-ltb a b (leb-true b a p)
-
-at-most-on : (a b c : ℤ) → leZ a b ≡ true → leZ b c ≡ true → leZ a c ≡ true
-at-most-on a b c p q = not-less a c (ltZ-strict .onward c b a (not-more b c q) (not-more a b p))
 
 at-least : (a b : ℤ) → leZ a b ≡ false → leZ b a ≡ true
 at-least a b p = go (ltZ a b) refl
