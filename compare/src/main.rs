@@ -11,6 +11,8 @@ mod pools;
 mod scripts;
 mod seen;
 mod spoil;
+mod survey;
+mod survey_met;
 mod tally;
 mod twice;
 
@@ -31,6 +33,7 @@ fn main() {
         checks::pools(&mut dice, &mut tally, &mut seen);
         histories::all(seed.wrapping_add(round << 20), &mut tally, &mut seen);
         twice::all(&mut dice, &mut tally, &mut seen);
+        survey::all(seed.wrapping_add(round), &mut tally, &mut seen);
     }
     let full = largest::filled(&mut tally);
     for _ in 0..rounds {

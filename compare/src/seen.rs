@@ -1,6 +1,7 @@
 //! What the calls met, so that a run can say that it met every case.
 
 use crate::lent::Lent;
+use crate::survey_met::Met;
 use crate::tally::Tally;
 use second::call::{DELETE, INSERT, MOST_REQUESTS, SEARCH, UPDATE};
 use second::pool::slots_of;
@@ -11,7 +12,7 @@ use std::collections::BTreeMap;
 const CALL_REFUSALS: [i32; 4] = [9, 1, 2, -1];
 
 /// Everything that has to be met, by name.
-const WANTED: [&str; 55] = [
+const WANTED: [&str; 57] = [
     "check said 0",
     "check said 1",
     "check said 2",
@@ -67,12 +68,15 @@ const WANTED: [&str; 55] = [
     "pair held twice: one updated",
     "pair held twice: insert 6",
     "pair held twice: update 6",
+    "search by a survey window found records",
+    "search by a survey window found nothing",
 ];
 
 #[derive(Default)]
 pub struct Seen {
     counts: BTreeMap<String, u64>,
     events: Events,
+    pub survey: Met,
     requests: u64,
     tallest: i32,
 }
@@ -174,7 +178,7 @@ impl Seen {
         println!("{} requests done, the tallest tree {} levels", self.requests, self.tallest);
         let met = |name: &str| self.counts.get(name).copied().unwrap_or(0);
         let all = WANTED.iter().map(|&name| (name, met(name))).chain(self.events.named());
-        for (name, count) in all {
+        for (name, count) in all.chain(self.survey.named()) {
             println!("  {count:>9}  {}", name.replace('_', " "));
             tally.hold(count > 0, || format!("{name}: not met"));
         }

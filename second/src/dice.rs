@@ -19,6 +19,11 @@ impl Dice {
         z ^ (z >> 31)
     }
 
+    /// Sixty-four bits, all patterns alike.
+    pub fn bits(&mut self) -> u64 {
+        self.next()
+    }
+
     /// A number from 0 to one less than the bound.
     pub fn below(&mut self, bound: u64) -> u64 {
         self.next() % bound

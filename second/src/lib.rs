@@ -1,8 +1,8 @@
 //! A second, independent program for the dust map: an R-tree in a pool of 32-bit words.
 //!
-//! Written from document 01 and Guttman's 1984 paper alone, plainly and without care for
-//! speed, so that others can be compared with it. Sentences in quotes are the document's;
-//! names such as CL3 or CT6 are the paper's steps.
+//! Written from the documents (01, and of 02 the surveyor's boxes) and Guttman's 1984 paper
+//! alone, plainly and without care for speed, so that others can be compared with it. Sentences
+//! in quotes are the documents'; names such as CL3 or CT6 are the paper's steps.
 
 #![forbid(unsafe_code)]
 
@@ -12,18 +12,23 @@ pub mod damage;
 pub mod dice;
 pub mod dustmap;
 pub mod events;
+pub mod exact;
 pub mod generate;
 pub mod geometry;
 pub mod pool;
+pub mod queries;
 pub mod script;
 pub mod selftest;
 pub mod sound;
 pub mod style;
+pub mod survey;
 pub mod tree;
 
 pub use call::{call, call_counting, Answer, Found, Request};
 pub use choose::{choose_child, pick_seeds, split_nine};
 pub use events::Events;
+pub use exact::Exact;
 pub use geometry::{area, cover, enlargement, joint_cover, meets, waste, Rect};
 pub use pool::{blank, pairs_in_leaves, Pair, RecordNumber, Slot};
 pub use sound::sound;
+pub use survey::{box_window, disc_window, point_window, Query};

@@ -1,15 +1,17 @@
-//! `second dustmap | script | generate STYLE SEED N COUNT | damage SEED N | selftest`
+//! `second dustmap | script | generate STYLE SEED N COUNT | damage SEED N | survey SEED COUNT |
+//! selftest`
 
 use std::io::{Read, Write};
 use std::process::ExitCode;
 
 use second::style::Style;
-use second::{damage, dustmap, generate, script, selftest};
+use second::{damage, dustmap, generate, queries, script, selftest};
 
 const USAGE: &str = "usage: second dustmap
        second script
        second generate STYLE SEED N COUNT
        second damage SEED N
+       second survey SEED COUNT
        second selftest
 styles: random clustered grid points lines duplicates limits churn";
 
@@ -39,6 +41,7 @@ fn run(arguments: &[&str]) -> Result<(Vec<u8>, ExitCode), String> {
             generate::script(style, number(seed)?, slot_count(slots)?, number(count)? as usize)
         }
         ["damage", seed, slots] => damage::script(number(seed)?, slot_count(slots)?),
+        ["survey", seed, count] => queries::cases(number(seed)?, number(count)? as usize),
         ["selftest"] => return Ok(tested()),
         _ => return Err(USAGE.to_string()),
     };
