@@ -60,6 +60,7 @@ BAD_LISTS = 9
 BAD_LENGTH = 1
 NOT_SOUND = 2
 NO_REQUEST = -1
+BAD_SURVEY = 12
 BAD_RECTANGLE = 3
 BAD_NUMBER = 4
 NOT_HELD = 5
@@ -103,6 +104,13 @@ NUMBERS: dict[int, Meaning] = {
         "call refused",
         "a request is of none of the four kinds",
         "give each request the kind 1 insert, 2 delete, 3 update or 4 search",
+    ),
+    BAD_SURVEY: Meaning(
+        BAD_SURVEY,
+        "bad survey",
+        "call refused",
+        "a NaN, an infinity, low above high, a negative radius, or a centre, radius or finished coordinate beyond 1,000,000,000 in size",
+        "give finite numbers in millimetres: a box as low x, low y, high x, high y, no low above its high; a disc as x, y and a radius of 0 or more. The rectangle that comes of them, with a disc's one millimetre more, has to lie from -1,000,000,000 to 1,000,000,000",
     ),
     BAD_RECTANGLE: Meaning(
         BAD_RECTANGLE,

@@ -26,13 +26,19 @@ from dustmap import Answer, LibraryMissing, Map, Record, Rect, Refused, Request 
 
 ZONE = (0, 0, 10, 10)
 MOST = 1_000_000_000
+# the functions of dustmap.h
+FUNCTIONS = {"dustmap_blank", "dustmap_check", "dustmap_call", "dustmap_box", "dustmap_point", "dustmap_disc"}
 
-# Document 01's table, copied from it and not from bindings/numbers.txt, so that a slip there is seen.
+# Document 01's table and document 02's refusal of doubles, copied from them and not from bindings/numbers.txt, so that a slip there is seen.
 DOCUMENT = {
     0: ("accepted", "as defined"),
     9: ("more than 1,024 requests, or answer list of another length than the request list", "call refused"),
     1: ("pool length wrong, or workspace length differs from the pool's", "call refused"),
     2: ("pool not sound", "call refused"),
+    12: (
+        "a NaN, an infinity, low above high, a negative radius, or a centre, radius or finished coordinate beyond 1,000,000,000 in size",
+        "call refused",
+    ),
     3: ("window, old or new rectangle: a coordinate out of range, or low above high", "request refused"),
     4: ("record number below 1", "request refused"),
     5: ("delete or update: old pair not held", "request refused"),
@@ -147,9 +153,9 @@ def printed(frames: bytes) -> str:
 class Refusals(Case):
     """Every number, with its words."""
 
-    def test_the_words_are_the_documents(self) -> None:
+    def test_the_words_are_those_of_the_documents(self) -> None:
         self.assertEqual({n: (m.when, m.effect) for n, m in dustmap.NUMBERS.items() if n != -1}, DOCUMENT)
-        self.assertEqual(list(dustmap.NUMBERS), [0, 9, 1, 2, -1, 3, 4, 5, 6, 7, 8], "the order of checks")
+        self.assertEqual(list(dustmap.NUMBERS), [0, 9, 1, 2, -1, 12, 3, 4, 5, 6, 7, 8], "the order of checks")
         for number, meaning in dustmap.NUMBERS.items():
             self.assertEqual(meaning.number, number)
             self.assertEqual(getattr(dustmap, meaning.name.upper().replace(" ", "_")), number)
@@ -381,7 +387,7 @@ class Library(Case):
 
     def test_it_shows_the_functions_of_the_header_alone(self) -> None:
         run = subprocess.run(["nm", "-D", "--defined-only", dustmap.library_path()], stdout=subprocess.PIPE, check=True, text=True)
-        self.assertEqual({line.split()[-1] for line in run.stdout.splitlines()}, {"dustmap_blank", "dustmap_check", "dustmap_call"})
+        self.assertEqual({line.split()[-1] for line in run.stdout.splitlines()}, FUNCTIONS)
 
     def test_a_library_that_is_not_there(self) -> None:
         import _ctypes  # a shared object that is there and is not the map
