@@ -50,9 +50,8 @@ enum dustmap_number {
      * or 4 search. */
     DUSTMAP_NO_REQUEST = -1,
     /* Call refused: a NaN, an infinity, low above high, a negative radius, or a centre, radius or finished coordinate beyond
-     * 1,000,000,000 in size. What to do: give finite numbers in millimetres: a box as low x, low y, high x, high y, no low above
-     * its high; a disc as x, y and a radius of 0 or more. The rectangle that comes of them, with a disc's one millimetre more,
-     * has to lie from -1,000,000,000 to 1,000,000,000. */
+     * 1,000,000,000 in size. What to do: give finite numbers in millimetres, no low above its high and no radius below 0; the
+     * rectangle that comes of them, with a disc's one millimetre more, has to lie from -1,000,000,000 to 1,000,000,000. */
     DUSTMAP_BAD_SURVEY = 12,
     /* Request refused: window, old or new rectangle: a coordinate out of range, or low above high. What to do: give low x, low y,
      * high x, high y, in this order, in whole millimetres from -1,000,000,000 to 1,000,000,000, no low above its high. */

@@ -91,7 +91,7 @@ pub const NUMBERS: [Meaning; 12] = [
         name: "bad survey",
         effect: "call refused",
         when: "a NaN, an infinity, low above high, a negative radius, or a centre, radius or finished coordinate beyond 1,000,000,000 in size",
-        what_to_do: "give finite numbers in millimetres: a box as low x, low y, high x, high y, no low above its high; a disc as x, y and a radius of 0 or more. The rectangle that comes of them, with a disc's one millimetre more, has to lie from -1,000,000,000 to 1,000,000,000",
+        what_to_do: "give finite numbers in millimetres, no low above its high and no radius below 0; the rectangle that comes of them, with a disc's one millimetre more, has to lie from -1,000,000,000 to 1,000,000,000",
     },
     Meaning {
         number: BAD_RECTANGLE,
