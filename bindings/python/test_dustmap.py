@@ -94,7 +94,7 @@ class Case(unittest.TestCase):
 
 
 class Examples(Case):
-    """Document 01's own."""
+    """Document 01's own, and what dispatch does with doubles."""
 
     def test_as_a_user_writes_it(self) -> None:
         m = Map(slots=128)
@@ -106,10 +106,11 @@ class Examples(Case):
         self.assertEqual(repr(m), "<Map: 1 record, height 1, 127 of 128 slots free>")
         self.assertFalse(m.search((11, 0, 20, 10)), "nothing found is an empty sequence")
 
-    def test_the_document(self) -> None:
-        script = ROOT / "bindings" / "python" / "document.py"
-        run = subprocess.run([sys.executable, "-B", script], stdout=subprocess.PIPE, check=True, text=True)
-        self.assertEqual(run.stdout, (ROOT / "examples" / "document.lines").read_text())
+    def test_the_scripts(self) -> None:
+        for name in ("document", "survey"):
+            script = ROOT / "bindings" / "python" / f"{name}.py"
+            run = subprocess.run([sys.executable, "-B", script], stdout=subprocess.PIPE, check=True, text=True)
+            self.assertEqual(run.stdout, (ROOT / "examples" / f"{name}.lines").read_text())
 
     def test_the_frames_of_the_examples(self) -> None:
         for frames in sorted((ROOT / "examples").glob("*.frames")):
