@@ -304,7 +304,8 @@ class Survey(Case):
                 self.assertIsNone(refusal.request, "there is no request yet")
 
     def test_a_refusal_writes_nothing(self) -> None:
-        library, before = dustmap._library(str(dustmap.library_path())), [1, -2, 3, -4]
+        library = dustmap._library(str(dustmap.library_path()))
+        before = [2**31 - 1, -(2**31), MOST + 1, -MOST - 1]  # no coordinates of any rectangle
         for name, given in self.bad():
             words = (ctypes.c_int32 * 4)(*before)
             self.assertEqual(getattr(library, f"dustmap_{name}")(*given, words), 12)
