@@ -4,8 +4,8 @@
  * the pool is all that one call leaves to the next.
  *
  * The lists may hold any words: every input has an answer. The caller has to see to what C cannot check: each pointer is
- * valid for its length, even where that is 0; no list that is written overlaps another; and nothing else writes to a list, or
- * reads one that is written, during a call.
+ * valid for its length, even where that is 0, and `rect[4]` for four words; no list that is written overlaps another; and nothing
+ * else writes to a list, or reads one that is written, during a call.
  */
 #ifndef DUSTMAP_H
 #define DUSTMAP_H
@@ -49,6 +49,10 @@ enum dustmap_number {
     /* Call refused: a request is of none of the four kinds. What to do: give each request the kind 1 insert, 2 delete, 3 update
      * or 4 search. */
     DUSTMAP_NO_REQUEST = -1,
+    /* Call refused: a NaN, an infinity, low above high, a negative radius, or a centre, radius or finished coordinate beyond
+     * 1,000,000,000 in size. What to do: give finite numbers in millimetres, no low above its high and no radius below 0; the
+     * rectangle that comes of them, with a disc's one millimetre more, has to lie from -1,000,000,000 to 1,000,000,000. */
+    DUSTMAP_BAD_SURVEY = 12,
     /* Request refused: window, old or new rectangle: a coordinate out of range, or low above high. What to do: give low x, low y,
      * high x, high y, in this order, in whole millimetres from -1,000,000,000 to 1,000,000,000, no low above its high. */
     DUSTMAP_BAD_RECTANGLE = 3,
@@ -102,7 +106,24 @@ int32_t dustmap_call(int32_t *pool, size_t pool_len, int32_t *work, size_t work_
                      struct dustmap_answer *answers, size_t n_answers,
                      struct dustmap_found *found, size_t n_found);
 
+/* The next three make a rectangle of doubles, in millimetres: a surveyor's box, or the window of a query. Each writes low x, low y,
+ * high x, high y to `rect` and returns 0, and no request is refused 3 for that rectangle; or it returns 12, and then nothing is
+ * written. The four words lie as in struct dustmap_rect, so that a request's own can be written:
+ *
+ *     number = dustmap_box(low_x, low_y, high_x, high_y, (int32_t *)&request.first);
+ *
+ * A box: a low becomes the largest whole number not above it, a high the smallest not below. */
+int32_t dustmap_box(double low_x, double low_y, double high_x, double high_y, int32_t rect[4]);
+
+/* A point: a box with low equal to high. */
+int32_t dustmap_point(double x, double y, int32_t rect[4]);
+
+/* A disc: the centre less and plus the radius in doubles, rounded outward, then one millimetre further. The window holds the exact
+ * box of the disc and is less than 3 mm beyond it on each side. */
+int32_t dustmap_disc(double x, double y, double radius, int32_t rect[4]);
+
 #if defined(__STDC_VERSION__) && __STDC_VERSION__ >= 201112L
+_Static_assert(sizeof(struct dustmap_rect) == 16, "a rectangle is four words");
 _Static_assert(sizeof(struct dustmap_request) == 40, "a request is ten words");
 _Static_assert(sizeof(struct dustmap_answer) == 16, "an answer is four words");
 _Static_assert(sizeof(struct dustmap_found) == 20, "a place of the found list is five words");

@@ -1,15 +1,21 @@
 """The proved map of dust sensors, haul roads and stockpiles, for Python.
 
-    from dustmap import Map
+    from dustmap import Map, Rect
 
     m = Map(slots=128)
     m.insert(7, (0, 0, 10, 10))
     for number, rect in m.search((10, 10, 20, 20)):
         print(number, rect)
 
-Rectangles are low x, low y, high x, high y in whole millimetres, and touching counts. What the map refuses is raised as `Refused`, with the number
-and its words; in a batch each request has its own answer, and a refused one does not stop the others. What cannot be asked at all, as a float or a
-number beyond 32 bits, is a TypeError or a ValueError before anything is done.
+Rectangles are low x, low y, high x, high y in whole millimetres, and touching counts. What a surveyor or dispatch gives in floats becomes one by
+`Rect.from_box`, `Rect.from_point` and `Rect.from_disc`:
+
+    m.insert(8, Rect.from_box(-2.5, 0.25, 4.0, 8.75))
+    m.search(Rect.from_disc(12.5, 3.0, 7.5))
+
+What the map refuses is raised as `Refused`, with the number and its words; in a batch each request has its own answer, and a refused one does not
+stop the others. What cannot be asked at all, as a float for a whole number or a number beyond 32 bits, is a TypeError or a ValueError before
+anything is done.
 
 It needs Python 3.10 or later, and nothing but the standard library. The map itself is target/sharedlib/libdustmap.so, which `tools/library` proves
 and writes; the environment variable DUSTMAP_LIBRARY names another place for it. docs/NUMBERS.md has the numbers with their words.
@@ -60,6 +66,7 @@ BAD_LISTS = 9
 BAD_LENGTH = 1
 NOT_SOUND = 2
 NO_REQUEST = -1
+BAD_SURVEY = 12
 BAD_RECTANGLE = 3
 BAD_NUMBER = 4
 NOT_HELD = 5
@@ -103,6 +110,13 @@ NUMBERS: dict[int, Meaning] = {
         "call refused",
         "a request is of none of the four kinds",
         "give each request the kind 1 insert, 2 delete, 3 update or 4 search",
+    ),
+    BAD_SURVEY: Meaning(
+        BAD_SURVEY,
+        "bad survey",
+        "call refused",
+        "a NaN, an infinity, low above high, a negative radius, or a centre, radius or finished coordinate beyond 1,000,000,000 in size",
+        "give finite numbers in millimetres, no low above its high and no radius below 0; the rectangle that comes of them, with a disc's one millimetre more, has to lie from -1,000,000,000 to 1,000,000,000",
     ),
     BAD_RECTANGLE: Meaning(
         BAD_RECTANGLE,
@@ -158,6 +172,27 @@ class Rect(NamedTuple):
     high_x: int
     high_y: int
 
+    @staticmethod
+    def from_box(low_x: float, low_y: float, high_x: float, high_y: float) -> Rect:
+        """The rectangle of a box in millimetres: a low becomes the largest whole number not above it, a high the smallest not below.
+
+        Refused 12 for a NaN, an infinity, low above high, or a coordinate that is then beyond 1,000,000,000 in size; no request is refused 3 for it.
+        """
+        return _made("dustmap_box", low_x=low_x, low_y=low_y, high_x=high_x, high_y=high_y)
+
+    @staticmethod
+    def from_point(x: float, y: float) -> Rect:
+        """The rectangle of a point: a box with low equal to high."""
+        return _made("dustmap_point", x=x, y=y)
+
+    @staticmethod
+    def from_disc(x: float, y: float, radius: float) -> Rect:
+        """The window of a disc: the centre less and plus the radius as floats, rounded outward, then one millimetre further.
+
+        It holds the exact box of the disc and is less than 3 mm beyond it on each side. Refused 12 as a box is, and for a negative radius.
+        """
+        return _made("dustmap_disc", x=x, y=y, radius=radius)
+
 
 class Record(NamedTuple):
     """A record: its number and its rectangle. Their order is found order."""
@@ -181,6 +216,30 @@ def _word(value: Any, what: str) -> int:
     if not -(2**31) <= number < 2**31:
         raise ValueError(f"{what}: {number} does not fit a signed 32-bit word")
     return number
+
+
+def _double(value: Any, what: str) -> float:
+    """The value as a double: a float, or a whole number. A Decimal or a Fraction may lose something in a double, so its owner is to say `float`."""
+    if isinstance(value, bool):
+        raise TypeError(f"{what}: {value!r} is a bool, not a number")
+    if isinstance(value, float):
+        return float(value)
+    try:
+        return float(operator.index(value))
+    except TypeError:
+        raise TypeError(f"{what}: {value!r} is neither a float nor a whole number") from None
+    except OverflowError:
+        raise ValueError(f"{what}: the whole number does not fit a double") from None
+
+
+def _made(function: str, **given: Any) -> Rect:
+    """The rectangle that a function of the library makes of doubles."""
+    doubles = [_double(value, name.replace("_", " ")) for name, value in given.items()]
+    words = (ctypes.c_int32 * 4)()
+    number = getattr(_library(str(library_path())), function)(*doubles, words)
+    if number != ACCEPTED:
+        raise Refused(number)
+    return Rect(*words)
 
 
 def _rect(value: Any, what: str) -> Rect:
@@ -318,15 +377,27 @@ def library_path() -> Path:
     return Path(named).resolve() if named else Path(__file__).resolve().parents[2] / "target" / "sharedlib" / "libdustmap.so"
 
 
+# The functions of dustmap.h with their parameters: a list is a pointer and a count, a rectangle of four words is a pointer.
+_LIST, _DOUBLE, _WORDS = [ctypes.c_void_p, ctypes.c_size_t], [ctypes.c_double], [ctypes.c_void_p]
+_FUNCTIONS = {
+    "dustmap_blank": _LIST,
+    "dustmap_check": _LIST,
+    "dustmap_call": _LIST * 5,
+    "dustmap_box": _DOUBLE * 4 + _WORDS,
+    "dustmap_point": _DOUBLE * 2 + _WORDS,
+    "dustmap_disc": _DOUBLE * 3 + _WORDS,
+}
+
+
 @functools.lru_cache(maxsize=None)
 def _library(path: str) -> ctypes.CDLL:
-    """The shared library, its three functions declared as dustmap.h has them: each list is a pointer and a count."""
+    """The shared library, its functions declared as dustmap.h has them."""
     hint = "Run `tools/library` in the repository, which proves and writes target/sharedlib/libdustmap.so, or name it in DUSTMAP_LIBRARY."
     try:
         library = ctypes.CDLL(path)
-        for name, lists in (("dustmap_blank", 1), ("dustmap_check", 1), ("dustmap_call", 5)):
+        for name, parameters in _FUNCTIONS.items():
             function = getattr(library, name)
-            function.argtypes = [ctypes.c_void_p, ctypes.c_size_t] * lists
+            function.argtypes = parameters
             function.restype = ctypes.c_int32
     except (OSError, AttributeError) as error:
         raise LibraryMissing(f"the map's library cannot be loaded: {error}. {hint}") from None

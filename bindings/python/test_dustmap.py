@@ -5,6 +5,8 @@ from __future__ import annotations
 
 import array
 import copy
+import ctypes
+import math
 import os
 import pickle
 import random
@@ -13,6 +15,8 @@ import subprocess
 import sys
 import threading
 import unittest
+from decimal import Decimal
+from fractions import Fraction
 from pathlib import Path
 from typing import Any, Callable, Optional, TextIO
 from unittest import mock
@@ -26,13 +30,19 @@ from dustmap import Answer, LibraryMissing, Map, Record, Rect, Refused, Request 
 
 ZONE = (0, 0, 10, 10)
 MOST = 1_000_000_000
+# the functions of dustmap.h
+FUNCTIONS = {"dustmap_blank", "dustmap_check", "dustmap_call", "dustmap_box", "dustmap_point", "dustmap_disc"}
 
-# Document 01's table, copied from it and not from bindings/numbers.txt, so that a slip there is seen.
+# Document 01's table and document 02's refusal of doubles, copied from them and not from bindings/numbers.txt, so that a slip there is seen.
 DOCUMENT = {
     0: ("accepted", "as defined"),
     9: ("more than 1,024 requests, or answer list of another length than the request list", "call refused"),
     1: ("pool length wrong, or workspace length differs from the pool's", "call refused"),
     2: ("pool not sound", "call refused"),
+    12: (
+        "a NaN, an infinity, low above high, a negative radius, or a centre, radius or finished coordinate beyond 1,000,000,000 in size",
+        "call refused",
+    ),
     3: ("window, old or new rectangle: a coordinate out of range, or low above high", "request refused"),
     4: ("record number below 1", "request refused"),
     5: ("delete or update: old pair not held", "request refused"),
@@ -84,7 +94,7 @@ class Case(unittest.TestCase):
 
 
 class Examples(Case):
-    """Document 01's own."""
+    """Document 01's own, and what dispatch does with doubles."""
 
     def test_as_a_user_writes_it(self) -> None:
         m = Map(slots=128)
@@ -96,10 +106,11 @@ class Examples(Case):
         self.assertEqual(repr(m), "<Map: 1 record, height 1, 127 of 128 slots free>")
         self.assertFalse(m.search((11, 0, 20, 10)), "nothing found is an empty sequence")
 
-    def test_the_document(self) -> None:
-        script = ROOT / "bindings" / "python" / "document.py"
-        run = subprocess.run([sys.executable, "-B", script], stdout=subprocess.PIPE, check=True, text=True)
-        self.assertEqual(run.stdout, (ROOT / "examples" / "document.lines").read_text())
+    def test_the_scripts(self) -> None:
+        for name in ("document", "survey"):
+            script = ROOT / "bindings" / "python" / f"{name}.py"
+            run = subprocess.run([sys.executable, "-B", script], stdout=subprocess.PIPE, check=True, text=True)
+            self.assertEqual(run.stdout, (ROOT / "examples" / f"{name}.lines").read_text())
 
     def test_the_frames_of_the_examples(self) -> None:
         for frames in sorted((ROOT / "examples").glob("*.frames")):
@@ -147,9 +158,9 @@ def printed(frames: bytes) -> str:
 class Refusals(Case):
     """Every number, with its words."""
 
-    def test_the_words_are_the_documents(self) -> None:
+    def test_the_words_are_those_of_the_documents(self) -> None:
         self.assertEqual({n: (m.when, m.effect) for n, m in dustmap.NUMBERS.items() if n != -1}, DOCUMENT)
-        self.assertEqual(list(dustmap.NUMBERS), [0, 9, 1, 2, -1, 3, 4, 5, 6, 7, 8], "the order of checks")
+        self.assertEqual(list(dustmap.NUMBERS), [0, 9, 1, 2, -1, 12, 3, 4, 5, 6, 7, 8], "the order of checks")
         for number, meaning in dustmap.NUMBERS.items():
             self.assertEqual(meaning.number, number)
             self.assertEqual(getattr(dustmap, meaning.name.upper().replace(" ", "_")), number)
@@ -247,6 +258,122 @@ class Refusals(Case):
     def test_a_refusal_can_be_sent_on(self) -> None:
         refusal = self.refused(5, lambda: Map().delete(8, ZONE))
         self.assertEqual(str(pickle.loads(pickle.dumps(refusal))), str(refusal))
+
+
+NO_NUMBERS = (math.nan, math.inf, -math.inf)
+BEYOND = math.nextafter(MOST, math.inf)
+
+
+class Survey(Case):
+    """Rectangles that come as doubles."""
+
+    def test_what_they_become(self) -> None:
+        self.assertEqual(Rect.from_box(0.25, 1.75, 2.25, 3.75), Rect(0, 1, 3, 4))
+        self.assertEqual(Rect.from_box(-3.75, -2.25, -1.75, -0.25), (-4, -3, -1, 0))
+        self.assertEqual(Rect.from_box(-0.0, -0.0, 5e-324, -0.0), (0, 0, 1, 0), "minus zero is 0")
+        self.assertEqual(Rect.from_box(-MOST, -7, MOST, 8), (-MOST, -7, MOST, 8), "whole coordinates are unchanged")
+        self.assertEqual(Rect.from_point(5.5, -6.5), (5, -7, 6, -6))
+        self.assertEqual(Rect.from_point(5, -6), (5, -6, 5, -6))
+        self.assertEqual(Rect.from_disc(100, -50, 10), (89, -61, 111, -39))
+        self.assertEqual(Rect.from_disc(x=0.5, y=20.25, radius=1), (-2, 18, 3, 23))
+        self.assertEqual(Rect.from_disc(3, 4, -0.0), (2, 3, 4, 5), "a radius of minus zero is not negative")
+        self.assertEqual(Rect.from_disc(0, 0, MOST - 1), (-MOST, -MOST, MOST, MOST))
+        self.assertIsInstance(Rect.from_point(1, 2), Rect)
+
+    def test_as_dispatch_uses_them(self) -> None:
+        m = Map()
+        m.insert(7, Rect.from_box(10.5, -20.5, 30.5, -5.5))
+        held = ((7, (10, -21, 31, -5)),)
+        self.assertEqual(m.records(), held)
+        for window in (Rect.from_point(31.5, -5), Rect.from_box(-9, -40, 9.5, 40), Rect.from_disc(20, 5, 9)):
+            self.assertEqual(m.search(window).records, held)
+        for window in (Rect.from_point(32, -5), Rect.from_box(-9, -40, 9, 40), Rect.from_disc(20, 5, 8)):
+            self.assertFalse(m.search(window))
+
+    def bad(self) -> list[tuple[str, tuple[float, ...]]]:
+        """Calls that are refused, with what they are given: each cause of 12 in each place."""
+        calls = [("box", (0.75, 0, 0.25, 1)), ("box", (0, 0.75, 1, 0.25)), ("disc", (0, 0, -5e-324)), ("disc", (0, 0, MOST))]
+        for name, good in (("box", (1, 2, 3, 4)), ("point", (1, 2)), ("disc", (1, 2, 3))):
+            calls += [(name, (*good[:k], wrong, *good[k + 1 :])) for k in range(len(good)) for wrong in (*NO_NUMBERS, BEYOND, -BEYOND, 2**60)]
+        return calls + [("disc", centre) for centre in ((MOST, 0, 0), (-MOST, 0, 0), (0, MOST, 0), (0, -MOST, 0))]
+
+    def test_12_bad_survey(self) -> None:
+        for name, given in self.bad():
+            with self.subTest(name, given=given):
+                refusal = self.refused(12, lambda name=name, given=given: getattr(Rect, f"from_{name}")(*given))
+                self.assertIsNone(refusal.request, "there is no request yet")
+
+    def test_a_refusal_writes_nothing(self) -> None:
+        library = dustmap._library(str(dustmap.library_path()))
+        before = [2**31 - 1, -(2**31), MOST + 1, -MOST - 1]  # no coordinates of any rectangle
+        for name, given in self.bad():
+            words = (ctypes.c_int32 * 4)(*before)
+            self.assertEqual(getattr(library, f"dustmap_{name}")(*given, words), 12)
+            self.assertEqual(list(words), before, (name, given))
+
+    def test_what_is_no_double(self) -> None:
+        wrong = [True, "1", b"1", None, 1j, (1,), Decimal(1), Fraction(1, 2)]
+        for value, error in [*((value, TypeError) for value in wrong), (10**400, ValueError), (-(10**400), ValueError)]:
+            for ask in (lambda v: Rect.from_box(0, 0, 1, v), lambda v: Rect.from_box(v, 0, 1, 1), lambda v: Rect.from_point(0, v)):
+                self.assertRaises(error, ask, value)
+            self.assertRaisesRegex(error, "^radius: ", Rect.from_disc, 0, 0, value)
+        self.assertRaisesRegex(TypeError, "low y: 'a' is neither a float nor a whole number", Rect.from_box, 0, "a", 1, 1)
+
+    def test_against_exact_fractions(self) -> None:
+        dice, met = random.Random(5), set()
+        for _ in range(4000):
+            doubles = [double(dice) for _ in range(4)]
+            low_x, low_y, high_x, high_y = doubles if dice.random() < 0.3 else spread(doubles)
+            met.add(("box", self.made(Rect.from_box, (low_x, low_y, high_x, high_y), box_due(low_x, low_y, high_x, high_y))))
+            x, y, radius = low_x, low_y, high_x if dice.random() < 0.3 else abs(high_x)
+            met.add(("disc", self.made(Rect.from_disc, (x, y, radius), disc_due(x, y, radius))))
+            met.add(("point", self.made(Rect.from_point, (x, y), box_due(x, y, x, y))))
+        self.assertEqual(len(met), 6, "each is met accepted and refused")
+
+    def made(self, make: Callable[..., Rect], given: tuple[float, ...], due: Optional[Rect]) -> bool:
+        """That what is made of these doubles is what is due, or that they are refused where nothing is; whether they are accepted."""
+        if due is None:
+            self.refused(12, lambda: make(*given))
+        else:
+            self.assertEqual(make(*given), due, given)
+        return due is not None
+
+
+def double(dice: random.Random) -> float:
+    """Any double: beside a whole number, of any size, at the edge of the range, or no number at all."""
+    whole = dice.choice([dice.randint(-20, 20), dice.randint(-MOST, MOST)])
+    beside = [math.nextafter(whole, math.inf), math.nextafter(whole, -math.inf), whole + dice.choice([0.0, 0.25, 0.5, 0.75])]
+    sized = dice.choice([-1, 1]) * math.ldexp(1 + dice.random(), dice.randint(-1074, 40))
+    edge = dice.choice([0.0, -0.0, MOST, -MOST, BEYOND, -BEYOND, MOST - 1, 1 - MOST, *NO_NUMBERS])
+    return dice.choices([dice.choice(beside), dice.uniform(-MOST, MOST), sized, edge], [50, 30, 15, 5])[0]
+
+
+def spread(doubles: list[float]) -> tuple[float, ...]:
+    """The same numbers with the smaller of each axis first."""
+    a, b, c, d = doubles
+    return min(a, c), min(b, d), max(a, c), max(b, d)
+
+
+def in_range(rect: Rect) -> Optional[Rect]:
+    return rect if all(abs(side) <= MOST for side in rect) else None
+
+
+def box_due(low_x: float, low_y: float, high_x: float, high_y: float) -> Optional[Rect]:
+    """Document 02's rectangle for a box, or None for 12. A float's floor and ceiling are exact in Python."""
+    sides = (low_x, low_y, high_x, high_y)
+    if not all(map(math.isfinite, sides)) or low_x > high_x or low_y > high_y:
+        return None
+    return in_range(Rect(math.floor(low_x), math.floor(low_y), math.ceil(high_x), math.ceil(high_y)))
+
+
+def disc_due(x: float, y: float, radius: float) -> Optional[Rect]:
+    """Document 02's window for a disc, or None for 12; and that it holds the exact box of the disc and is less than 3 mm beyond it."""
+    if not all(math.isfinite(v) and abs(v) <= MOST for v in (x, y, radius)) or radius < 0:
+        return None
+    lows, highs = [math.floor(c - radius) - 1 for c in (x, y)], [math.ceil(c + radius) + 1 for c in (x, y)]
+    for centre, low, high in zip((x, y), lows, highs):
+        assert 0 <= Fraction(centre) - Fraction(radius) - low < 3 and 0 <= high - Fraction(centre) - Fraction(radius) < 3
+    return in_range(Rect(*lows, *highs))
 
 
 class Growing(Case):
@@ -381,7 +508,7 @@ class Library(Case):
 
     def test_it_shows_the_functions_of_the_header_alone(self) -> None:
         run = subprocess.run(["nm", "-D", "--defined-only", dustmap.library_path()], stdout=subprocess.PIPE, check=True, text=True)
-        self.assertEqual({line.split()[-1] for line in run.stdout.splitlines()}, {"dustmap_blank", "dustmap_check", "dustmap_call"})
+        self.assertEqual({line.split()[-1] for line in run.stdout.splitlines()}, FUNCTIONS)
 
     def test_a_library_that_is_not_there(self) -> None:
         import _ctypes  # a shared object that is there and is not the map

@@ -1,7 +1,8 @@
 //! The legend beside the map: what the colours stand for, and what the window found and opened.
 
+use crate::asked::{shortest, Disc};
 use crate::look::{colour, EDGE, FOUND, RECORD};
-use crate::svg::{rect, text, Place};
+use crate::svg::{circle, rect, text, Place};
 use crate::tree::{Node, Tree};
 use crate::window::{is_opened, Shown};
 use dustmap::Rect;
@@ -37,6 +38,11 @@ impl Legend {
 
     /// A sample of a layer and what it stands for, with a box to tick: the script makes it a switch for the layer.
     fn switch(&mut self, layer: &str, look: &str, words: &str) {
+        self.switch_with(layer, &self.boxed(look), words);
+    }
+
+    /// The same for a sample of any shape.
+    fn switch_with(&mut self, layer: &str, shape: &str, words: &str) {
         let (x, y) = (self.x - 20.0, self.y);
         let whole = Place { x: x - 4.0, y: y - 3.0, width: WIDE, height: 20.0 };
         let tick = format!("{} {} l3.5 4 l6 -8", x + 2.5, y + 7.0);
@@ -50,14 +56,24 @@ impl Legend {
         self.out += &format!(
             "<path class=\"tick\" d=\"M{tick}\" fill=\"none\" stroke=\"#222222\" stroke-width=\"2\"/>\n</g>\n"
         );
-        self.sample(look, words);
+        self.sample(shape, words);
         self.out += "</g>\n";
     }
 
-    /// A sample box and what it stands for.
-    fn sample(&mut self, look: &str, words: &str) {
-        self.out += &rect(Place { x: self.x, y: self.y, width: 24.0, height: 14.0 }, look);
+    /// A sample and what it stands for.
+    fn sample(&mut self, shape: &str, words: &str) {
+        self.out += shape;
         self.line(words, &format!("class=\"words\" {PLAIN}"), INDENT);
+    }
+
+    /// A box as a sample, on the line that is next.
+    fn boxed(&self, look: &str) -> String {
+        rect(Place { x: self.x, y: self.y, width: 24.0, height: 14.0 }, look)
+    }
+
+    /// A circle as a sample, likewise.
+    fn ring(&self, look: &str) -> String {
+        circle((self.x + 12.0, self.y + 7.0), 7.0, look)
     }
 }
 
@@ -134,11 +150,15 @@ fn window_lines(legend: &mut Legend, shown: &Shown) {
     legend.switch("window", &window, "the window");
     legend.line(&format!("from {low_x}, {low_y}"), PLAIN, INDENT);
     legend.line(&format!("to {high_x}, {high_y}"), PLAIN, INDENT);
+    if let Some(disc) = &shown.disc {
+        disc_lines(legend, disc);
+    }
     let opened = format!(
         "rx=\"3\" fill=\"{0}\" fill-opacity=\"0.15\" stroke=\"{0}\" stroke-width=\"2.2\"",
         colour(1)
     );
-    legend.sample(&opened, &format!("{} opened", counted(shown.opened.len(), "node", "nodes")));
+    let words = format!("{} opened", counted(shown.opened.len(), "node", "nodes"));
+    legend.sample(&legend.boxed(&opened), &words);
     let found = format!("fill=\"{FOUND}\" fill-opacity=\"0.38\" stroke=\"{FOUND}\"");
     legend.switch(
         "found",
@@ -149,6 +169,16 @@ fn window_lines(legend: &mut Legend, shown: &Shown) {
         legend.line(&numbers, SMALL, INDENT);
         legend.y -= 6.0;
     }
+}
+
+/// The disc that the window is around. A search is of the window, so what it finds may lie beside the disc.
+fn disc_lines(legend: &mut Legend, disc: &Disc) {
+    let ring = legend.ring(&format!("fill=\"none\" stroke=\"{FOUND}\" stroke-width=\"1.5\""));
+    legend.switch_with("disc", &ring, "the disc and its centre");
+    for (what, number) in [("x", disc.x), ("y", disc.y), ("radius", disc.radius)] {
+        legend.line(&format!("{what} {}", shortest(number)), PLAIN, INDENT);
+    }
+    legend.line("found is what meets the window", SMALL, INDENT);
 }
 
 /// The numbers found, in found order, as many as have room.

@@ -1,7 +1,8 @@
 //! Draws the map that a file of frames leaves, as SVG on standard output.
 //!
-//! usage: draw [--slots N] FRAMES [LOW-X LOW-Y HIGH-X HIGH-Y]
+//! usage: draw [--slots N] FRAMES [WINDOW]
 
+mod asked;
 mod batch;
 mod frames;
 mod labels;
@@ -13,15 +14,15 @@ mod svg;
 mod tree;
 mod window;
 
-use dustmap::Rect;
 use std::io::{ErrorKind, Read, Write};
 use std::process::ExitCode;
 
 /// "a 128-slot pool (5,384 words)": as `dustmap` has it.
 const SLOTS: usize = 128;
 
-const USAGE: &str = "usage: tools/draw [--slots N] FRAMES [LOW-X LOW-Y HIGH-X HIGH-Y] > map.svg
-FRAMES is a file as dustmap reads it, or - for standard input; the four numbers are a window, in millimetres.
+const USAGE: &str = "usage: tools/draw [--slots N] FRAMES [WINDOW] > map.svg
+FRAMES is a file as dustmap reads it, or - for standard input. WINDOW is in millimetres: LOW-X LOW-Y HIGH-X HIGH-Y, four whole numbers;
+or --box LOW-X LOW-Y HIGH-X HIGH-Y, --point X Y or --disc X Y RADIUS, whose numbers need not be whole.
 The pool has 128 slots, as that of dustmap, unless --slots says another number, 1 to 4096.";
 
 fn main() -> ExitCode {
@@ -40,14 +41,11 @@ fn run() -> Result<(), String> {
         [option, number, rest @ ..] if option == "--slots" => (slots_of(number)?, rest),
         rest => (SLOTS, rest),
     };
-    let (file, window) = match rest {
-        [file] => (file, None),
-        [file, sides @ ..] if sides.len() == 4 => (file, Some(rect_of(sides)?)),
-        _ => return Err(USAGE.to_string()),
-    };
+    let (file, window) = rest.split_first().ok_or(USAGE)?;
+    let asked = asked::asked(window)?;
     let mut pool = after(&bytes_of(file)?, slots);
     let tree = tree::read(&pool);
-    let shown = window.map(|w| window::look(&mut pool, &tree, w)).transpose()?;
+    let shown = asked.map(|asked| window::look(&mut pool, &tree, asked)).transpose()?;
     write(&picture::draw(&tree, shown.as_ref()))
 }
 
@@ -74,13 +72,6 @@ fn slots_of(text: &str) -> Result<usize, String> {
         Ok(slots) if (1..=dustmap::MOST_SLOTS).contains(&slots) => Ok(slots),
         _ => Err(format!("not a number of slots: {text}\n{USAGE}")),
     }
-}
-
-fn rect_of(sides: &[String]) -> Result<Rect, String> {
-    let number =
-        |text: &String| text.parse::<i32>().map_err(|_| format!("not a number: {text}\n{USAGE}"));
-    let words = sides.iter().map(number).collect::<Result<Vec<i32>, String>>()?;
-    Ok(Rect::from_words([words[0], words[1], words[2], words[3]]))
 }
 
 /// The pool that the frames leave. A refused request does not show in the drawing, so it is reported.

@@ -1,4 +1,4 @@
-//! The picture: covers by level, records with their numbers, the window, a scale bar and the legend.
+//! The picture: covers by level, records with their numbers, the window and its disc, a scale bar and the legend.
 
 use crate::labels::Labels;
 use crate::legend::{counted, legend};
@@ -20,6 +20,9 @@ const CROWD: usize = 200;
 
 /// And with more found in such a crowd, their numbers would cover them.
 const MANY_FOUND: usize = 60;
+
+/// How far the cross at the centre of a disc goes to each side.
+const CROSS: f64 = 5.0;
 
 /// With more nodes than this, the pen is a finer one: they would lie on those beside them.
 const MANY_NODES: f64 = 100.0;
@@ -43,6 +46,7 @@ pub fn draw(tree: &Tree, shown: Option<&Shown>) -> String {
     out += &covers(tree, shown, &scale);
     out += &records(tree, shown, &scale, sheet);
     out += &window(shown, &scale);
+    out += &disc(shown, &scale);
     out += &bar(&scale);
     out += &page::glass(sheet, scale.pen);
     out += &legend;
@@ -187,6 +191,19 @@ fn window(shown: Option<&Shown>, scale: &Scale) -> String {
     shown
         .map(|s| layer("window", "", &rect(scale.place(&s.window).at_least(12.0), &look)))
         .unwrap_or_default()
+}
+
+/// The disc that the window is around, and a cross at its centre: a dot there would look like a record.
+fn disc(shown: Option<&Shown>, scale: &Scale) -> String {
+    let Some(disc) = shown.and_then(|s| s.disc.as_ref()) else {
+        return String::new();
+    };
+    let (x, y) = scale.point(disc.x, disc.y);
+    let shapes = circle((x, y), scale.length(disc.radius), "")
+        + &line((x - CROSS, y), (x + CROSS, y), "")
+        + &line((x, y - CROSS), (x, y + CROSS), "");
+    let look = format!("fill=\"none\" stroke=\"{FOUND}\" stroke-width=\"1.5\"");
+    layer("disc", &look, &titled(&disc.to_string(), &shapes))
 }
 
 /// The scale bar, in the lower left corner.

@@ -44,12 +44,21 @@ impl Scale {
     }
 
     pub fn place(&self, rect: &Rect) -> Place {
+        let (x, y) = self.point(f64::from(rect.low_x), f64::from(rect.high_y));
         Place {
-            x: self.left + self.unit * (f64::from(rect.low_x) - self.low_x),
-            y: self.top + self.unit * (self.high_y - f64::from(rect.high_y)),
-            width: self.unit * (f64::from(rect.high_x) - f64::from(rect.low_x)),
-            height: self.unit * (f64::from(rect.high_y) - f64::from(rect.low_y)),
+            x,
+            y,
+            width: self.length(f64::from(rect.high_x) - f64::from(rect.low_x)),
+            height: self.length(f64::from(rect.high_y) - f64::from(rect.low_y)),
         }
+    }
+
+    pub fn point(&self, x: f64, y: f64) -> (f64, f64) {
+        (self.left + self.unit * (x - self.low_x), self.top + self.unit * (self.high_y - y))
+    }
+
+    pub fn length(&self, millimetres: f64) -> f64 {
+        self.unit * millimetres
     }
 
     /// A length for a scale bar: 1, 2 or 5 and zeros, the longest that takes at most a quarter of the width. In millimetres,

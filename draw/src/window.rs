@@ -1,11 +1,14 @@
 //! A window on the map: what the proved search finds in it, and the nodes that it opens on its way.
 
+use crate::asked::{refused, Asked, Disc};
 use crate::batch::one;
 use crate::tree::{meets, Node, Tree};
 use dustmap::{Found, Rect, Request};
 
 pub struct Shown {
     pub window: Rect,
+    /// What the window is around, where it was asked for by a disc.
+    pub disc: Option<Disc>,
     /// In found order.
     pub found: Vec<Found>,
     /// The slots of the nodes opened, the lowest first.
@@ -13,14 +16,12 @@ pub struct Shown {
 }
 
 /// Searches the pool. Which nodes are opened is read from the covers; the search says how many, and the two have to agree.
-pub fn look(pool: &mut [i32], tree: &Tree, window: Rect) -> Result<Shown, String> {
+pub fn look(pool: &mut [i32], tree: &Tree, asked: Asked) -> Result<Shown, String> {
+    let Asked { window, disc } = asked;
     let mut found = vec![Found::default(); tree.slots * 8];
     let answer = one(pool, Request::search(window), &mut found);
     if answer.number != 0 {
-        return Err(format!(
-            "the window was refused, {}: a side out of range, or low above high",
-            answer.number
-        ));
+        return Err(refused(answer.number as i32));
     }
     found.truncate(answer.found as usize);
     let mut opened = Vec::new();
@@ -31,7 +32,7 @@ pub fn look(pool: &mut [i32], tree: &Tree, window: Rect) -> Result<Shown, String
         "the covers that meet the window, and the root"
     );
     opened.sort_unstable();
-    Ok(Shown { window, found, opened })
+    Ok(Shown { window, disc, found, opened })
 }
 
 /// "Search descends from the root and opens every child whose entry rectangle meets the window."

@@ -1,6 +1,7 @@
 //! The proved map, for Rust: the functions of `bindings/dustmap.h` as safe ones.
 //!
-//! The numbers that come back are those of the header; `numbers` has a name and the words for each.
+//! The numbers that come back are those of the header; `numbers` has a name and the words for each. A rectangle that a surveyor or
+//! dispatch gives in doubles is made by `Rect::from_box`, `Rect::from_point` and `Rect::from_disc`.
 
 pub mod numbers;
 
@@ -68,6 +69,35 @@ impl Rect {
     pub fn to_words(self) -> [i32; 4] {
         [self.low_x, self.low_y, self.high_x, self.high_y]
     }
+
+    /// The rectangle of a box in doubles, in millimetres: a low becomes the largest whole number not above it, a high the
+    /// smallest not below. No request is refused 3 for it. The error is the number 12, `numbers::BAD_SURVEY`.
+    pub fn from_box(low_x: f64, low_y: f64, high_x: f64, high_y: f64) -> Result<Rect, i32> {
+        // SAFETY: as for `blank`, for an array of four words; the function is proved for every double.
+        written(|rect| unsafe { exported::dustmap_box(low_x, low_y, high_x, high_y, rect) })
+    }
+
+    /// The rectangle of a point: a box with low equal to high.
+    pub fn from_point(x: f64, y: f64) -> Result<Rect, i32> {
+        // SAFETY: as above.
+        written(|rect| unsafe { exported::dustmap_point(x, y, rect) })
+    }
+
+    /// The window of a disc: the centre less and plus the radius in doubles, rounded outward, then one millimetre further.
+    /// It holds the exact box of the disc and is less than 3 mm beyond it on each side. The error is as for a box.
+    pub fn from_disc(x: f64, y: f64, radius: f64) -> Result<Rect, i32> {
+        // SAFETY: as above.
+        written(|rect| unsafe { exported::dustmap_disc(x, y, radius, rect) })
+    }
+}
+
+/// The rectangle that a call has written, or the number by which it was refused.
+fn written(call: impl FnOnce(&mut [i32; 4]) -> i32) -> Result<Rect, i32> {
+    let mut rect = [0; 4];
+    match call(&mut rect) {
+        numbers::ACCEPTED => Ok(Rect::from_words(rect)),
+        number => Err(number),
+    }
 }
 
 impl Request {
@@ -105,7 +135,7 @@ pub fn blank_pool(slots: usize) -> Option<Vec<i32>> {
 mod exported {
     use super::{Answer, Found, Request};
 
-    // A slice is passed as two parameters, a pointer and a count.
+    // A slice is passed as two parameters, a pointer and a count; four words as one pointer.
     extern "C" {
         pub fn dustmap_blank(pool: *mut i32, pool_len: usize) -> i32;
         pub fn dustmap_check(pool: *const i32, pool_len: usize) -> i32;
@@ -121,6 +151,15 @@ mod exported {
             found: *mut Found,
             n_found: usize,
         ) -> i32;
+        pub fn dustmap_box(
+            low_x: f64,
+            low_y: f64,
+            high_x: f64,
+            high_y: f64,
+            rect: *mut [i32; 4],
+        ) -> i32;
+        pub fn dustmap_point(x: f64, y: f64, rect: *mut [i32; 4]) -> i32;
+        pub fn dustmap_disc(x: f64, y: f64, radius: f64, rect: *mut [i32; 4]) -> i32;
     }
 }
 

@@ -34,6 +34,8 @@ pub const BAD_LENGTH: i32 = 1;
 pub const NOT_SOUND: i32 = 2;
 /// Call refused: a request is of none of the four kinds.
 pub const NO_REQUEST: i32 = -1;
+/// Call refused: a NaN, an infinity, low above high, a negative radius, or a centre, radius or finished coordinate beyond 1,000,000,000 in size.
+pub const BAD_SURVEY: i32 = 12;
 /// Request refused: window, old or new rectangle: a coordinate out of range, or low above high.
 pub const BAD_RECTANGLE: i32 = 3;
 /// Request refused: record number below 1.
@@ -48,7 +50,7 @@ pub const NO_SLOT: i32 = 7;
 pub const NO_ROOM: i32 = 8;
 
 /// Every number with its words, in the order of checks.
-pub const NUMBERS: [Meaning; 11] = [
+pub const NUMBERS: [Meaning; 12] = [
     Meaning {
         number: ACCEPTED,
         name: "accepted",
@@ -83,6 +85,13 @@ pub const NUMBERS: [Meaning; 11] = [
         effect: "call refused",
         when: "a request is of none of the four kinds",
         what_to_do: "give each request the kind 1 insert, 2 delete, 3 update or 4 search",
+    },
+    Meaning {
+        number: BAD_SURVEY,
+        name: "bad survey",
+        effect: "call refused",
+        when: "a NaN, an infinity, low above high, a negative radius, or a centre, radius or finished coordinate beyond 1,000,000,000 in size",
+        what_to_do: "give finite numbers in millimetres, no low above its high and no radius below 0; the rectangle that comes of them, with a disc's one millimetre more, has to lie from -1,000,000,000 to 1,000,000,000",
     },
     Meaning {
         number: BAD_RECTANGLE,
