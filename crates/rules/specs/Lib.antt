@@ -21,3 +21,4 @@ pub mod Survey
 pub mod Computed
 pub mod Histories
 pub mod Examples
+pub mod SurveyExamples
