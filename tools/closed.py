@@ -25,6 +25,19 @@ use Rattle.rules.specs.Histories.{minus, asking, history}
 use Rattle.rules.specs.Layout.{blankWords}
 """
 
+# for statements about surveys, which share no name with the others but these
+SURVEY_HEAD = """-- Closed statements, written by tools/.
+use mathlib.Core.Path.{_≡_, refl}
+use lib.IntN.{pos}
+use lib.Ieee.{Float, binary64, ofBits}
+use Rattle.rules.specs.declared.Query.the-variants.{Point, Box, Disc}
+use Rattle.rules.specs.declared.Surveyed.the-variants.{Rounded, BadSurvey}
+use Rattle.rules.specs.Pool.{rectangle}
+use Rattle.rules.specs.Survey.{queryWindow}
+use Rattle.rules.specs.Computed.{document02}
+use Rattle.rules.specs.Histories.{minus}
+"""
+
 
 def integer(n):
     return f"pos {n}" if n >= 0 else f"minus {-n}"
@@ -118,6 +131,24 @@ def run_statement(name, frames, lines):
 
 {name} : dustmap {name}-input ≡ {name}-output
 unfolding document01 {name}-input {name}-output
+{name} = refl
+"""
+
+
+def survey_statement(name, line):
+    """That the definitions make of a query what the second program says: a line `KIND BITS .. -> A B C D`, or `-> 12`."""
+    asked, becomes = line.split(" -> ")
+    kind, *bits = asked.split()
+    doubles = [f"(ofBits binary64 {n})" for n in bits]
+    if kind == "box":
+        sides = "; ".join(f"{side} = {x}" for side, x in zip(("lowX", "lowY", "highX", "highY"), doubles, strict=True))
+        query = f"Box (record {{ {sides} }})"
+    else:
+        query = f"{kind.capitalize()} {' '.join(doubles)}"
+    rounded = "BadSurvey" if becomes == "12" else f"Rounded {rect([int(n) for n in becomes.split()])}"
+    return f"""
+{name} : queryWindow ({query}) ≡ {rounded}
+unfolding document02
 {name} = refl
 """
 

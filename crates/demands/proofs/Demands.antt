@@ -51,7 +51,8 @@ use Rattle.demands.specs.Demands.{after, turnAfter, answerAfter, withReq
 use Rattle.demands.specs.Demands.{Accepted, Lists, Does, Shows}
 use Rattle.demands.proofs.Holds.{history-holds}
 use Rattle.demands.proofs.Turns.{Either, either, same-pool}
-use Rattle.demands.proofs.Unasked.{two-after, bare, every-less, passed, first-fine, first-pool, less-fine, less-asked, less-end, less-answers}
+use Rattle.rules_laws.proofs.Everies.{every-less}
+use Rattle.demands.proofs.Unasked.{two-after, bare, passed, first-fine, first-pool, less-fine, less-asked, less-end, less-answers}
 
 -- ---- one outcome
 

@@ -1,7 +1,7 @@
 -- A request that is refused might as well not have been asked. What a request does depends on the pool, the found list and the places filled, and
 -- neither on the answer list nor on its own place; a refused one leaves these three; and every place of the answer list is written once.
 use mathlib.Core.Path.{_≡_, refl, sym, ap, ap₂, subst, _∙_}
-use mathlib.Core.Bool.{Bool, true, false, not, _||_}
+use mathlib.Core.Bool.{true, false, not, _||_}
 use mathlib.Core.List.{List, [], _∷_, _++_}
 use mathlib.Core.Option.{Option, none, some}
 use Prim.Native.Nat.{ℕ, suc, _+_, _-_, _≤_}
@@ -23,7 +23,8 @@ use Rattle.rules.specs.Insert.{ours}
 use Rattle.rules.specs.Answers.{answerOf, firstRow}
 use Rattle.rules.specs.Request.{asked, request}
 use Rattle.rules.specs.Call.{Lent, Batch, isRequest, callFault, call, afterTurn, doRequest, doRequests, starting}
-use Rattle.rules_laws.proofs.Bools.{and-both, both-and, not-false, or-neither}
+use Rattle.rules_laws.proofs.Everies.{every-less, every-first}
+use Rattle.rules_laws.proofs.Bools.{and-both, not-false, or-neither}
 use Rattle.pool.proofs.Runs.{sets-all}
 use Rattle.in_force_laws.proofs.Faults.{no-row, row-passed}
 use Rattle.in_force_laws.proofs.Batch.{noAnswer, two-parts}
@@ -134,23 +135,6 @@ module _ {A : Type 0} where
 no-rows : firstRow {A = Verdict} [] ≡ none
 unfolding firstRow
 no-rows = refl
-
--- all but one, and the first of them
-module _ {A : Type 0} (p : A → Bool) where
-  pub every-less : (xs : List A) (y : A) (ys : List A) → every p (xs ++ y ∷ ys) ≡ true → (p y ≡ true) × (every p (xs ++ ys) ≡ true)
-  unfolding every
-  every-less [] y ys h = and-both (p y) (every p ys) h
-  every-less (x ∷ xs) y ys h =
-      let a = and-both (p x) (every p (xs ++ y ∷ ys)) h in
-      let b = every-less xs y ys (a .1) in
-      (b .0, both-and (p x) (every p (xs ++ ys)) (a .0) (b .1))
-
-  every-first : (xs ys : List A) → every p (xs ++ ys) ≡ true → every p xs ≡ true
-  unfolding every
-  every-first [] ys h = refl
-  every-first (x ∷ xs) ys h =
-      let a = and-both (p x) (every p (xs ++ ys)) h in
-      both-and (p x) (every p xs) (a .0) (every-first xs ys (a .1))
 
 module _ (l : Lent) (fine : callFault l ≡ none) where
   abbrev rows : Type 0

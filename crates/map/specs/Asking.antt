@@ -6,7 +6,7 @@ use lib.Ieee.{Float}
 use Rattle.rules.specs.declared.Record.{Record}
 use Rattle.rules.specs.declared.Answer.{Answer}
 use Rattle.rules.specs.declared.Query.{Query}
-use Rattle.rules.specs.declared.Query.the-variants.{Point, Area, Disc}
+use Rattle.rules.specs.declared.Query.the-variants.{Point, Box, Disc}
 use Rattle.rules.specs.Call.{Lent, Left, call}
 
 -- what comes back
@@ -23,7 +23,7 @@ pub record Allowed (l : Lent) (o : Left) : Type 0 where
 
 -- what `dustmap_box`, `dustmap_point` and `dustmap_disc` are handed, as a query
 abbrev pub boxAsked : Float → Float → Float → Float → Query
-boxAsked lowX lowY highX highY = Area (record { lowX = lowX; lowY = lowY; highX = highX; highY = highY })
+boxAsked lowX lowY highX highY = Box (record { lowX = lowX; lowY = lowY; highX = highX; highY = highY })
 
 abbrev pub pointAsked : Float → Float → Query
 pointAsked x y = Point x y

@@ -60,7 +60,7 @@ fn told(w: Surveyed, rect: &mut [i32; 4]) -> i32
     ensures words { λ _. ⌜ now (rect .exit) ≡ S.surveyWords w (now (rect .entry)) ⌝ }
 {
     match w {
-        Surveyed::Whole(r) => {
+        Surveyed::Rounded(r) => {
             let lowX = r.lowX;
             let lowY = r.lowY;
             let highX = r.highX;
@@ -93,7 +93,7 @@ pub extern "C" fn dustmap_box(
         highX: high_x,
         highY: high_y,
     };
-    let w = survey::query_window(Query::Area(b));
+    let w = survey::query_window(Query::Box(b));
     told(w, rect)
 }
 

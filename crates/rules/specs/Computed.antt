@@ -22,12 +22,12 @@ use Rattle.rules.specs.Request.{asked, afterChange, insertFault, deleteF
 use Rattle.rules.specs.Call.{afterTurn, doRequest, doRequests, isRequest, callFault, refused, served, starting, callBy, call}
 use Rattle.rules.specs.Frames.{byteAt, pairValue, signed, wordValue, wordValues, frameOf, nextFrame, rectIn, requestIn, ofKind, frameRequest, digits, natShown, intShown, line, answerLine, recordLine, listedOf, replyLines, badLine, frameCall, callPrinted, printed, dustmap}
 use Rattle.rules.specs.Doubles.{unit, isNumber, exactOf, floorOf, ceilingOf}
-use Rattle.rules.specs.Survey.{outward, spread, further, inOrder, goodBox, moderate, notNegative, goodDisc, finished, boxWindow, discWindow, queryWindow, surveyNumber, surveyWords}
+use Rattle.rules.specs.Survey.{outward, spread, further, inOrder, goodBox, notNegative, moderate, goodDisc, finish, boxWindow, discWindow, queryWindow, surveyNumber, surveyWords}
 
 unfoldable pub document01 : List ℕ → List ℕ
 unfolding those every oneOf joined without earliestBest total upFrom same lessThen inRange goodNumber valid meets smaller larger cover coverAll area enlargement waste sameRect samePair sameSlot slotNumbers nodeAt entriesAt entryFrom entryAt childOf numberOf recordOf leafEntry rects coverOf entryFor isLeaf stored held freeFrom lowestFree freeCount putNode putEntries zeroSlot putRoot putRecords tighten blankPool slotCount validLength pointerWord entryWords padded nodeWords headWords words natural wordAt runs pointerOf rectOf entryOf nodeOf read sameWords blank isSlot inUse isRoot heightSound rootSound levelsSound fewest countSound innerEntries parents oneParent freeEmpty recordsSound leafEntrySound innerEntrySound nodeSound usedSound shapeSound soundPool nothingElse sound meeting foundIn openedIn before placed ordered found opened rectFrom takesBetter earliest chooseChild pairsFrom wasteOf pickSeeds coverGroup leaving opening joinOne joinTwo allJoinOne allJoinTwo needsAll distribute preference mostPreferring pickNext secondFirst joinsTwo quadraticGroups halves quadraticSplit splitInto newRoot growTree install adjust insertBelow insertAt insertRecord findEntry orLater findChild findLeaf takeOut asides relieve condense shorten shortened reinsert putBack deleteRecord updateRecord answerOf verdictNumber firstRow asked afterChange insertFault deleteFault updateFault searchFault request afterTurn doRequest doRequests isRequest callFault refused served starting callBy call byteAt pairValue signed wordValue wordValues frameOf nextFrame rectIn requestIn ofKind frameRequest digits natShown intShown line answerLine recordLine listedOf replyLines badLine frameCall callPrinted printed dustmap
 document01 bytes = dustmap bytes
 
 unfoldable pub document02 : Query → Surveyed
-unfolding unit isNumber exactOf floorOf ceilingOf outward spread further inOrder goodBox moderate notNegative goodDisc finished boxWindow discWindow queryWindow surveyNumber surveyWords inRange add sub neg div ofInt ofBits toBits
+unfolding unit isNumber exactOf floorOf ceilingOf outward spread further inOrder goodBox notNegative moderate goodDisc finish boxWindow discWindow queryWindow surveyNumber surveyWords inRange add sub neg div ofInt ofBits toBits
 document02 query = queryWindow query

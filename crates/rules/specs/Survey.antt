@@ -10,9 +10,9 @@ use lib.Ieee.{Float, binary64, add, sub, ofInt}
 use Rattle.rules.specs.declared.Rect.{Rect}
 use Rattle.rules.specs.declared.SurveyBox.{SurveyBox}
 use Rattle.rules.specs.declared.Query.{Query}
-use Rattle.rules.specs.declared.Query.the-variants.{Point, Area, Disc}
+use Rattle.rules.specs.declared.Query.the-variants.{Point, Box, Disc}
 use Rattle.rules.specs.declared.Surveyed.{Surveyed}
-use Rattle.rules.specs.declared.Surveyed.the-variants.{Whole, BadSurvey}
+use Rattle.rules.specs.declared.Surveyed.the-variants.{Rounded, BadSurvey}
 use Rattle.rules.specs.Numbers.{inRange}
 use Rattle.rules.specs.Doubles.{isNumber, exactOf, millimetres, floorOf, ceilingOf, LargestNotAbove, SmallestNotBelow}
 
@@ -48,44 +48,45 @@ inOrder low high = isNumber low && isNumber high && leZ (exactOf low) (exactOf h
 unfoldable pub goodBox : SurveyBox → Bool
 goodBox b = inOrder (b .lowX) (b .highX) && inOrder (b .lowY) (b .highY)
 
--- .. "a negative radius" (minus zero is none) "or a centre, radius .. beyond 1,000,000,000 in size"
-unfoldable pub moderate : Float → Bool
-moderate x = isNumber x && leZ (millimetres (negsuc 999999999)) (exactOf x) && leZ (exactOf x) (millimetres (pos 1000000000))
-
+-- .. "a negative radius". Minus zero is none
 unfoldable pub notNegative : Float → Bool
 notNegative radius = leZ (pos 0) (exactOf radius)
+
+-- .. "or a centre, radius .. beyond 1,000,000,000 in size"; nor is a NaN or an infinity moderate
+unfoldable pub moderate : Float → Bool
+moderate x = isNumber x && leZ (millimetres (negsuc 999999999)) (exactOf x) && leZ (exactOf x) (millimetres (pos 1000000000))
 
 unfoldable pub goodDisc : Float → Float → Float → Bool
 goodDisc x y radius = moderate x && moderate y && moderate radius && notNegative radius
 
 -- .. or a "finished coordinate beyond 1,000,000,000 in size."
-unfoldable pub finished : Bool → Rect → Surveyed
-finished good r =
-    cond (good && inRange (r .lowX) && inRange (r .lowY) && inRange (r .highX) && inRange (r .highY)) (Whole r) BadSurvey
+unfoldable pub finish : Bool → Rect → Surveyed
+finish good r =
+    cond (good && inRange (r .lowX) && inRange (r .lowY) && inRange (r .highX) && inRange (r .highY)) (Rounded r) BadSurvey
 
 -- ---- "Dispatch also sends a query that is a point, a box or a disc (centre and radius, as doubles)": its window, or the refusal
 
 unfoldable pub boxWindow : SurveyBox → Surveyed
-boxWindow b = finished (goodBox b) (outward b)
+boxWindow b = finish (goodBox b) (outward b)
 
 unfoldable pub discWindow : Float → Float → Float → Surveyed
-discWindow x y radius = finished (goodDisc x y radius) (further (outward (spread x y radius)))
+discWindow x y radius = finish (goodDisc x y radius) (further (outward (spread x y radius)))
 
 unfoldable pub queryWindow : Query → Surveyed
 queryWindow (Point x y) = boxWindow (pointBox x y)
-queryWindow (Area b) = boxWindow b
+queryWindow (Box b) = boxWindow b
 queryWindow (Disc x y radius) = discWindow x y radius
 
 -- ---- what comes back of a call, beside the four words lent for the rectangle
 
 -- 0, or "12, before 3"
 unfoldable pub surveyNumber : Surveyed → ℤ
-surveyNumber (Whole r) = pos 0
+surveyNumber (Rounded r) = pos 0
 surveyNumber BadSurvey = pos 12
 
 -- the rectangle over the four words; a refusal writes nothing
 unfoldable pub surveyWords : Surveyed → List ℤ → List ℤ
-surveyWords (Whole r) lent = sets lent 0 (r .lowX ∷ r .lowY ∷ r .highX ∷ r .highY ∷ [])
+surveyWords (Rounded r) lent = sets lent 0 (r .lowX ∷ r .lowY ∷ r .highX ∷ r .highY ∷ [])
 surveyWords BadSurvey lent = lent
 
 -- ---- what the request says about the rectangles, for its theorems
@@ -130,7 +131,7 @@ pub record LessThanBeyond (mm : ℕ) (e : ExactBox) (r : Rect) : Type 0 where
   pub highX : ltZ (millimetres (r .highX) -ℤ e .highX) (millimetres (pos mm)) ≡ true
   pub highY : ltZ (millimetres (r .highY) -ℤ e .highY) (millimetres (pos mm)) ≡ true
 
--- "Whole coordinates go to doubles": each as the double that it is
+-- "Rounded coordinates go to doubles": each as the double that it is
 abbrev pub inDoubles : Rect → SurveyBox
 inDoubles r =
     record {

@@ -1,14 +1,13 @@
 -- Req 03 on examples of our own, since the request gives none: in one table under one statement.
 use mathlib.Core.Path.{_≡_, refl}
 use mathlib.Core.List.{List, [], _∷_, map}
-use Prim.Native.Nat.{ℕ}
 use lib.IntN.{ℤ, pos}
 use lib.Ieee.{Float, nan, inf, binary64, ofBits, ofInt, neg, div}
 use mathlib.Core.Bool.{true}
 use Rattle.rules.specs.declared.Query.{Query}
-use Rattle.rules.specs.declared.Query.the-variants.{Point, Area, Disc}
+use Rattle.rules.specs.declared.Query.the-variants.{Point, Box, Disc}
 use Rattle.rules.specs.declared.Surveyed.{Surveyed}
-use Rattle.rules.specs.declared.Surveyed.the-variants.{Whole, BadSurvey}
+use Rattle.rules.specs.declared.Surveyed.the-variants.{Rounded, BadSurvey}
 use Rattle.rules.specs.Pool.{rectangle}
 use Rattle.rules.specs.Survey.{queryWindow}
 use Rattle.rules.specs.Computed.{document02}
@@ -36,30 +35,30 @@ smallest = ofBits binary64 1
 abbrev justBeyond : Float
 justBeyond = ofBits binary64 4741671816366391297
 
-abbrev area : Float → Float → Float → Float → Query
-area a b c d = Area (record { lowX = a; lowY = b; highX = c; highY = d })
+abbrev boxed : Float → Float → Float → Float → Query
+boxed a b c d = Box (record { lowX = a; lowY = b; highX = c; highY = d })
 
 abbrev whole : ℤ → ℤ → ℤ → ℤ → Surveyed
-whole a b c d = Whole (rectangle a b c d)
+whole a b c d = Rounded (rectangle a b c d)
 
 -- ---- the table
 
 abbrev pub surveyTable : List SurveyExample
 surveyTable =
     -- from (-0.5, 0.25) to (2, 2.5)
-    record { query = area (quarters (minus 2)) (quarters (pos 1)) (quarters (pos 8)) (quarters (pos 10)); becomes = whole (minus 1) (pos 0) (pos 2) (pos 3) }
+    record { query = boxed (quarters (minus 2)) (quarters (pos 1)) (quarters (pos 8)) (quarters (pos 10)); becomes = whole (minus 1) (pos 0) (pos 2) (pos 3) }
     -- the smallest doubles on both sides of zero, and minus zero
-    ∷ record { query = area (neg smallest) smallest smallest smallest; becomes = whole (minus 1) (pos 0) (pos 1) (pos 1) }
-    ∷ record { query = area minusZero (quarters (pos 0)) (quarters (pos 0)) minusZero; becomes = whole (pos 0) (pos 0) (pos 0) (pos 0) }
+    ∷ record { query = boxed (neg smallest) smallest smallest smallest; becomes = whole (minus 1) (pos 0) (pos 1) (pos 1) }
+    ∷ record { query = boxed minusZero (quarters (pos 0)) (quarters (pos 0)) minusZero; becomes = whole (pos 0) (pos 0) (pos 0) (pos 0) }
     -- the whole site, and a bound that is just beyond it
     ∷ record {
-      query = area (quarters (minus 4000000000)) (quarters (minus 4000000000)) (quarters (pos 4000000000)) (quarters (pos 4000000000));
+      query = boxed (quarters (minus 4000000000)) (quarters (minus 4000000000)) (quarters (pos 4000000000)) (quarters (pos 4000000000));
       becomes = whole (minus 1000000000) (minus 1000000000) (pos 1000000000) (pos 1000000000);
     }
-    ∷ record { query = area (quarters (pos 0)) (quarters (pos 0)) (quarters (pos 4)) justBeyond; becomes = BadSurvey }
-    ∷ record { query = area (neg justBeyond) (quarters (pos 0)) (quarters (pos 4)) (quarters (pos 4)); becomes = BadSurvey }
+    ∷ record { query = boxed (quarters (pos 0)) (quarters (pos 0)) (quarters (pos 4)) justBeyond; becomes = BadSurvey }
+    ∷ record { query = boxed (neg justBeyond) (quarters (pos 0)) (quarters (pos 4)) (quarters (pos 4)); becomes = BadSurvey }
     -- low above high, though 0 .. 1 would be none
-    ∷ record { query = area (quarters (pos 3)) (quarters (pos 0)) (quarters (pos 1)) (quarters (pos 4)); becomes = BadSurvey }
+    ∷ record { query = boxed (quarters (pos 3)) (quarters (pos 0)) (quarters (pos 1)) (quarters (pos 4)); becomes = BadSurvey }
     -- points: (1.5, -1.5), and what is no number
     ∷ record { query = Point (quarters (pos 6)) (quarters (minus 6)); becomes = whole (pos 1) (minus 2) (pos 2) (minus 1) }
     ∷ record { query = Point nan (quarters (pos 0)); becomes = BadSurvey }

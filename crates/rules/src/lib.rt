@@ -118,12 +118,12 @@ pub struct SurveyBox {
 // "a query that is a point, a box or a disc (centre and radius, as doubles)"
 pub enum Query {
     Point { x: f64, y: f64 },
-    Area(SurveyBox),
+    Box(SurveyBox),
     Disc { x: f64, y: f64, radius: f64 },
 }
 
 // What becomes of a survey box or a query: a rectangle in whole millimetres, or the refusal 12.
 pub enum Surveyed {
-    Whole(Rect),
+    Rounded(Rect),
     BadSurvey,
 }

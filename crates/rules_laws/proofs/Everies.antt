@@ -2,7 +2,7 @@
 use mathlib.Core.Path.{_≡_, refl, ap, _∙_}
 use mathlib.Core.Logic.{_↔_, ⊎-elim}
 use mathlib.Core.Bool.{Bool, true, false, _&&_}
-use mathlib.Core.List.{List, [], _∷_, List·Memᴰ·head, List·Memᴰ·tail, List·Memᴰ·not-nil, List·Memᴰ·cases-cons}
+use mathlib.Core.List.{List, [], _∷_, _++_, List·Memᴰ·head, List·Memᴰ·tail, List·Memᴰ·not-nil, List·Memᴰ·cases-cons}
 use Rattle.rules.specs.Lists.{every}
 use Rattle.rules_laws.proofs.Bools.{and-both, both-and}
 use Rattle.rules_laws.proofs.Places.{Among}
@@ -15,6 +15,22 @@ module _ {A : Type 0} (p : A → Bool) where
   pub every-cons : (x : A) (xs : List A) → every p (x ∷ xs) ≡ (p x && every p xs)
   unfolding every
   every-cons x xs = refl
+
+  -- all but one, and the first of them
+  pub every-less : (xs : List A) (y : A) (ys : List A) → every p (xs ++ y ∷ ys) ≡ true → (p y ≡ true) × (every p (xs ++ ys) ≡ true)
+  unfolding every
+  every-less [] y ys h = and-both (p y) (every p ys) h
+  every-less (x ∷ xs) y ys h =
+      let a = and-both (p x) (every p (xs ++ y ∷ ys)) h in
+      let b = every-less xs y ys (a .1) in
+      (b .0, both-and (p x) (every p (xs ++ ys)) (a .0) (b .1))
+
+  pub every-first : (xs ys : List A) → every p (xs ++ ys) ≡ true → every p xs ≡ true
+  unfolding every
+  every-first [] ys h = refl
+  every-first (x ∷ xs) ys h =
+      let a = and-both (p x) (every p (xs ++ ys)) h in
+      both-and (p x) (every p xs) (a .0) (every-first xs ys (a .1))
 
   every-to : (xs : List A) → every p xs ≡ true → (x : A) → Among x xs → p x ≡ true
   unfolding every

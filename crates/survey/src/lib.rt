@@ -15,7 +15,7 @@ use rules::Surveyed;
 
 // The largest whole number not above x.
 fn floor(x: f64) -> i32
-    requires { ⌜ Z.Within 2000000000 x ⌝ }
+    requires { ⌜ Z.NumberWithin 2000000000 x ⌝ }
     ensures { λ n. ⌜ n ≡ D.floorOf (D.exactOf x) ⌝ }
 {
     let cut = std::num::truncating_f64_to_i64(x);
@@ -30,7 +30,7 @@ fn floor(x: f64) -> i32
 
 // The smallest whole number not below x.
 fn ceiling(x: f64) -> i32
-    requires { ⌜ Z.Within 2000000000 x ⌝ }
+    requires { ⌜ Z.NumberWithin 2000000000 x ⌝ }
     ensures { λ n. ⌜ n ≡ D.ceilingOf (D.exactOf x) ⌝ }
 {
     0 - floor(-x)
@@ -68,7 +68,7 @@ pub fn box_window(b: SurveyBox) -> Surveyed
     let y = spans(b.lowY, b.highY);
     if and(x, y) {
         let r = outward(b);
-        Surveyed::Whole(r)
+        Surveyed::Rounded(r)
     } else {
         Surveyed::BadSurvey
     }
@@ -114,12 +114,12 @@ fn further(r: Rect) -> Rect
     }
 }
 
-fn finished(r: Rect) -> Surveyed
-    ensures { λ w. ⌜ w ≡ S.finished true r ⌝ }
+fn finish(r: Rect) -> Surveyed
+    ensures { λ w. ⌜ w ≡ S.finish true r ⌝ }
 {
     let low = and(in_range(r.lowX), in_range(r.lowY));
     if and(and(low, in_range(r.highX)), in_range(r.highY)) {
-        Surveyed::Whole(r)
+        Surveyed::Rounded(r)
     } else {
         Surveyed::BadSurvey
     }
@@ -132,7 +132,7 @@ pub fn disc_window(x: f64, y: f64, radius: f64) -> Surveyed
         let b = spread(x, y, radius);
         let r = outward(b);
         let s = further(r);
-        finished(s)
+        finish(s)
     } else {
         Surveyed::BadSurvey
     }
@@ -154,7 +154,7 @@ pub fn query_window(q: Query) -> Surveyed
             };
             box_window(b)
         }
-        Query::Area(b) => box_window(b),
+        Query::Box(b) => box_window(b),
         Query::Disc { x, y, radius } => disc_window(x, y, radius),
     }
 }

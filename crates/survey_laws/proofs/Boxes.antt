@@ -6,7 +6,7 @@ use lib.Signed.{leZ}
 use lib.Ieee.{binary64, ofInt}
 use Rattle.rules.specs.declared.Rect.{Rect}
 use Rattle.rules.specs.declared.SurveyBox.{SurveyBox}
-use Rattle.rules.specs.declared.Surveyed.the-variants.{Whole, BadSurvey}
+use Rattle.rules.specs.declared.Surveyed.the-variants.{Rounded, BadSurvey}
 use Rattle.rules.specs.Numbers.{inRange}
 use Rattle.rules.specs.Geometry.{valid}
 use Rattle.rules.specs.Doubles.{millimetres, floorOf, ceilingOf, exactOf}
@@ -17,20 +17,20 @@ use Rattle.geometry.proofs.Ints.{range-fits}
 use Rattle.geometry.proofs.Measures.{Valid, valid-parts}
 use Rattle.survey_laws.specs.Sizes.{spans, BoxWithin}
 use Rattle.survey_laws.proofs.Floors.{floor-is, ceiling-is}
-use Rattle.survey_laws.proofs.Finished.{Good, finished-good, finished-parts, not-finished}
+use Rattle.survey_laws.proofs.Finished.{GoodRect, finished-good, finished-parts, not-finished}
 use Rattle.survey_laws.proofs.Ranges.{spans-parts, spans-low, spans-high, spans-of, spans-order, wider, whole-mono}
 use Rattle.survey_laws.proofs.Wholes.{whole-exact, whole-number, floor-whole, ceil-whole}
 
 -- ---- the code asks axis by axis
 
 module _ (b : SurveyBox) where
-  good-spans : Good (goodBox b) (outward b) → (spans (b .lowX) (b .highX) ≡ true) × (spans (b .lowY) (b .highY) ≡ true)
+  good-spans : GoodRect (goodBox b) (outward b) → (spans (b .lowX) (b .highX) ≡ true) × (spans (b .lowY) (b .highY) ≡ true)
   unfolding outward goodBox
   good-spans g =
       let o = and-both (inOrder (b .lowX) (b .highX)) (inOrder (b .lowY) (b .highY)) (g .asked) in
       (spans-of (b .lowX) (b .highX) (o .0) (g .range .lowX) (g .range .highX), spans-of (b .lowY) (b .highY) (o .1) (g .range .lowY) (g .range .highY))
 
-  spans-good : spans (b .lowX) (b .highX) ≡ true → spans (b .lowY) (b .highY) ≡ true → Good (goodBox b) (outward b)
+  spans-good : spans (b .lowX) (b .highX) ≡ true → spans (b .lowY) (b .highY) ≡ true → GoodRect (goodBox b) (outward b)
   unfolding outward goodBox
   spans-good x y =
       let p = spans-parts (b .lowX) (b .highX) x in
@@ -43,7 +43,7 @@ module _ (b : SurveyBox) where
   abbrev spanned : Bool
   spanned = spans (b .lowX) (b .highX) && spans (b .lowY) (b .highY)
 
-  pub box-yes : (t : Bool) → t ≡ spanned → t ≡ true → Whole (outward b) ≡ boxWindow b
+  pub box-yes : (t : Bool) → t ≡ spanned → t ≡ true → Rounded (outward b) ≡ boxWindow b
   unfolding boxWindow
   box-yes t e k =
       let s = and-both (spans (b .lowX) (b .highX)) (spans (b .lowY) (b .highY)) (sym e ∙ k) in
@@ -80,16 +80,16 @@ outward-is b = record {
   highY = ceiling-is (exactOf (b .highY));
 }
 
-pub box-rounded : (b : SurveyBox) (r : Rect) → boxWindow b ≡ Whole r → RoundedOutward (exactBox b) r
+pub box-rounded : (b : SurveyBox) (r : Rect) → boxWindow b ≡ Rounded r → RoundedOutward (exactBox b) r
 unfolding boxWindow
 box-rounded b r e = subst (RoundedOutward (exactBox b)) (finished-parts (goodBox b) (outward b) r e .same) (outward-is b)
 
 -- the bounds were in order
-pub box-in-order : (b : SurveyBox) (r : Rect) → boxWindow b ≡ Whole r → Good (goodBox b) r
+pub box-in-order : (b : SurveyBox) (r : Rect) → boxWindow b ≡ Rounded r → GoodRect (goodBox b) r
 unfolding boxWindow
-box-in-order b r e = let f = finished-parts (goodBox b) (outward b) r e in subst (Good (goodBox b)) (f .same) (f .parts)
+box-in-order b r e = let f = finished-parts (goodBox b) (outward b) r e in subst (GoodRect (goodBox b)) (f .same) (f .parts)
 
--- ---- "Whole coordinates go to doubles and back unchanged."
+-- ---- "Rounded coordinates go to doubles and back unchanged."
 
 module _ (r : Rect) (v : valid r ≡ true) where
   ranges : Valid r
@@ -114,7 +114,7 @@ module _ (r : Rect) (v : valid r ≡ true) where
   kept-order low high h k o =
       rw (whole-number low (range-fits low h), whole-number high (range-fits high k), as-double low h, as-double high k) (whole-mono low high o)
 
-  pub whole-back : boxWindow (inDoubles r) ≡ Whole r
+  pub whole-back : boxWindow (inDoubles r) ≡ Rounded r
   unfolding boxWindow goodBox
   whole-back =
       let o = both-and (inOrder (ofInt binary64 (r .lowX)) (ofInt binary64 (r .highX))) (inOrder (ofInt binary64 (r .lowY)) (ofInt binary64 (r .highY)))

@@ -10,16 +10,16 @@ use lib.Ieee.Exact.{HasValue}
 use lib.Ieee.Fits.{add-fits}
 use Rattle.rules.specs.declared.Rect.{Rect}
 use Rattle.rules.specs.declared.SurveyBox.{SurveyBox}
-use Rattle.rules.specs.declared.Surveyed.the-variants.{Whole, BadSurvey}
+use Rattle.rules.specs.declared.Surveyed.the-variants.{Rounded, BadSurvey}
 use Rattle.rules.specs.Doubles.{Double, unit, minusSign, isNumber, exactOf}
-use Rattle.rules.specs.Survey.{outward, spread, further, moderate, notNegative, goodDisc, finished, discWindow, exactDisc, HoldsBox, LessThanBeyond}
+use Rattle.rules.specs.Survey.{outward, spread, further, moderate, notNegative, goodDisc, finish, discWindow, exactDisc, HoldsBox, LessThanBeyond}
 use Rattle.rules_laws.proofs.Bools.{and-both}
-use Rattle.survey_laws.specs.Sizes.{sizeOf, Within, BoxWithin, RectWithin}
+use Rattle.survey_laws.specs.Sizes.{sizeOf, NumberWithin, BoxWithin, RectWithin}
 use Rattle.survey_laws.proofs.Values.{own-value, le-value}
 use Rattle.survey_laws.proofs.Floors.{floor-mag, ceil-mag}
 use Rattle.survey_laws.proofs.Ranges.{moderate-within}
 use Rattle.survey_laws.proofs.Sums.{Close, added, subtracted, low-side, high-side}
-use Rattle.survey_laws.proofs.Finished.{Good, finished-parts}
+use Rattle.survey_laws.proofs.Finished.{GoodRect, finished-parts}
 
 -- ---- the test of a radius, which no double but a number passes
 
@@ -58,9 +58,9 @@ outward-small b hx hy w = record {
 -- ---- a disc
 
 record Parts (x y radius : Float) : Type 0 where
-  x-within : Within 1000000000 x
-  y-within : Within 1000000000 y
-  within : Within 1000000000 radius
+  x-within : NumberWithin 1000000000 x
+  y-within : NumberWithin 1000000000 y
+  within : NumberWithin 1000000000 radius
   not-negative : notNegative radius ≡ true
 
 disc-parts : (x y radius : Float) → goodDisc x y radius ≡ true → Parts x y radius
@@ -94,10 +94,10 @@ module _ (x y radius : Float) (hx : Double x) (hy : Double y) (hr : Double radiu
 
   -- "the window holds the exact box of the disc ..
   module _ (e : goodDisc x y radius ≡ true) where
-    low : (c : Float) → Double c → Within 1000000000 c → Close (exactOf (sub binary64 c radius)) (exactOf c -ℤ exactOf radius)
+    low : (c : Float) → Double c → NumberWithin 1000000000 c → Close (exactOf (sub binary64 c radius)) (exactOf c -ℤ exactOf radius)
     low c h w = subtracted c radius h hr w (disc-parts x y radius e .within) .close
 
-    high : (c : Float) → Double c → Within 1000000000 c → Close (exactOf (add binary64 c radius)) (exactOf c +ℤ exactOf radius)
+    high : (c : Float) → Double c → NumberWithin 1000000000 c → Close (exactOf (add binary64 c radius)) (exactOf c +ℤ exactOf radius)
     high c h w = added c radius h hr w (disc-parts x y radius e .within) .close
 
     further-holds : HoldsBox (exactDisc x y radius) (further (outward (spread x y radius)))
@@ -124,20 +124,20 @@ module _ (x y radius : Float) (hx : Double x) (hy : Double y) (hr : Double radiu
         }
 
   -- as the code goes on
-  pub disc-yes : (r : Rect) → goodDisc x y radius ≡ true → r ≡ further (outward (spread x y radius)) → finished true r ≡ discWindow x y radius
+  pub disc-yes : (r : Rect) → goodDisc x y radius ≡ true → r ≡ further (outward (spread x y radius)) → finish true r ≡ discWindow x y radius
   unfolding discWindow
   disc-yes r g e = rw (g, e)
 
   pub disc-no : goodDisc x y radius ≡ false → BadSurvey ≡ discWindow x y radius
-  unfolding discWindow finished
+  unfolding discWindow finish
   disc-no g = rw g
 
-  module _ (r : Rect) (e : discWindow x y radius ≡ Whole r) where
-    pub disc-good : Good (goodDisc x y radius) r
+  module _ (r : Rect) (e : discWindow x y radius ≡ Rounded r) where
+    pub disc-good : GoodRect (goodDisc x y radius) r
     unfolding discWindow
     disc-good =
         let f = finished-parts (goodDisc x y radius) (further (outward (spread x y radius))) r e in
-        subst (Good (goodDisc x y radius)) (f .same) (f .parts)
+        subst (GoodRect (goodDisc x y radius)) (f .same) (f .parts)
 
     disc-is : further (outward (spread x y radius)) ≡ r
     unfolding discWindow

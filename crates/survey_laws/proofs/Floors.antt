@@ -19,7 +19,7 @@ use mir.Syntax.{w32, w64}
 use mir.Val.{toZ, ofZ}
 use mir.Facts.{toZ-ofZ}
 use Rattle.rules.specs.Doubles.{Double, unit, minusSign, withSign, exactOf, floorOf, ceilingOf, LargestNotAbove, SmallestNotBelow}
-use Rattle.survey_laws.specs.Sizes.{sizeOf, Within}
+use Rattle.survey_laws.specs.Sizes.{sizeOf, NumberWithin}
 use Rattle.survey_laws.proofs.Values.{unit-pos, own-value, lt-value, exact-neg, within-neg}
 use Rattle.survey_laws.proofs.Linear.{over, under, le-parts, parts-le, le-or, over-mul, under-mul, over-neg, under-neg}
 
@@ -213,7 +213,7 @@ or-l : (a b : Bool) → a ≡ true → T (a || b)
 or-l true b e = tt
 or-l false b e = absurd (false≢true e)
 
-module _ (x : Float) (h : Double x) (w : Within 2000000000 x) where
+module _ (x : Float) (h : Double x) (w : NumberWithin 2000000000 x) where
   value : HasValue x (minusSign (toBits binary64 x)) (sizeOf x) unit
   value = own-value x h (w .number)
 
@@ -272,7 +272,7 @@ floor-mag-withSign k false a h = part-le a k h
 floor-mag-withSign k true zero h = part-le 0 k h
 floor-mag-withSign k true (suc a) h = part-le a k (omega arith)
 
-pub floor-mag : (k : ℕ) (x : Float) → Within k x → mag (floorOf (exactOf x)) ≤ k
+pub floor-mag : (k : ℕ) (x : Float) → NumberWithin k x → mag (floorOf (exactOf x)) ≤ k
 unfolding exactOf sizeOf
 floor-mag k x w = floor-mag-withSign k (minusSign (toBits binary64 x)) (sizeOf x) (w .size)
 
@@ -286,14 +286,14 @@ more-mag (pos n) k h = omega arith
 more-mag (negsuc zero) k h = omega arith
 more-mag (negsuc (suc n)) k h = let e : ltb 1 (suc (suc n)) ≡ true = lt-ltb 1 (suc (suc n)) (omega arith) in rw e (omega arith)
 
-pub ceil-mag : (k : ℕ) (x : Float) → Double x → Within k x → mag (ceilingOf (exactOf x)) ≤ k + 1
+pub ceil-mag : (k : ℕ) (x : Float) → Double x → NumberWithin k x → mag (ceilingOf (exactOf x)) ≤ k + 1
 unfolding ceilingOf
 ceil-mag k x h w = neg-mag (floorOf (negℤ (exactOf x))) k (rw (sym (exact-neg x h (w .number))) (floor-mag k (neg x) (within-neg k x h w)))
 
 -- the ceiling of x is the floor of -x, negated
-pub ceiling-by-floor : (x : Float) (t : ℤ) → Double x → Within 2000000000 x → t ≡ floorOf (exactOf (neg x)) → negℤ t ≡ ceilingOf (exactOf x)
+pub ceiling-by-floor : (x : Float) (t : ℤ) → Double x → NumberWithin 2000000000 x → t ≡ floorOf (exactOf (neg x)) → negℤ t ≡ ceilingOf (exactOf x)
 unfolding ceilingOf
 ceiling-by-floor x t h w e = ap negℤ (e ∙ ap floorOf (exact-neg x h (w .number)))
 
-pub ceiling-small : (x : Float) (t : ℤ) → Double x → Within 2000000000 x → t ≡ floorOf (exactOf (neg x)) → mag t ≤ 2000000000
+pub ceiling-small : (x : Float) (t : ℤ) → Double x → NumberWithin 2000000000 x → t ≡ floorOf (exactOf (neg x)) → mag t ≤ 2000000000
 ceiling-small x t h w e = rw e (floor-mag 2000000000 (neg x) (within-neg 2000000000 x h w))

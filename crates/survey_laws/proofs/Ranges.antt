@@ -14,7 +14,7 @@ use borrow.Author.Tests.{leb-true}
 use Rattle.rules.specs.Doubles.{Double, unit, minusSign, withSign, millimetres, isNumber, exactOf, floorOf, ceilingOf}
 use Rattle.rules_laws.proofs.Bools.{and-both, both-and}
 use Rattle.rules_laws.proofs.Orders.{at-most-on}
-use Rattle.survey_laws.specs.Sizes.{sizeOf, Within, spans}
+use Rattle.survey_laws.specs.Sizes.{sizeOf, NumberWithin, spans}
 use Rattle.rules.specs.Numbers.{inRange}
 use Rattle.rules.specs.Survey.{inOrder, moderate}
 use Rattle.survey_laws.proofs.Values.{unit-pos, number-is, own-value, le-value}
@@ -82,7 +82,7 @@ chain-finite (fin u m e) (inf false) a b c = absurd (false≢true c)
 chain-finite (fin u m e) (fin v n d) a b c = (refl, refl)
 
 -- a number between the ends is of moderate size
-pub within-of : (x : Float) → isNumber x ≡ true → leZ least (exactOf x) ≡ true → leZ (exactOf x) most ≡ true → Within 1000000000 x
+pub within-of : (x : Float) → isNumber x ≡ true → leZ least (exactOf x) ≡ true → leZ (exactOf x) most ≡ true → NumberWithin 1000000000 x
 unfolding exactOf sizeOf
 within-of x n h k = record { number = n; size = go (minusSign (toBits binary64 x)) h k }
   where
@@ -96,7 +96,7 @@ within-of x n h k = record { number = n; size = go (minusSign (toBits binary64 x
         let h4 = under-neg (pos (1000000000 * unit)) in
         omega arith
 
-pub wider : (x : Float) → Within 1000000000 x → Within 2000000000 x
+pub wider : (x : Float) → NumberWithin 1000000000 x → NumberWithin 2000000000 x
 wider x w = record { number = w .number; size = le-trans (w .size) (mul-le-mul-right {m = 1000000000} {n = 2000000000} unit (lit≤ tt)) }
 
 -- ---- two ends of a box along one axis
@@ -148,11 +148,11 @@ spans-most low high s =
     let h = and-both (leZ (negsuc 999999999) n) (leZ n (pos 1000000000)) (s .range-high) in
     at-most-on (exactOf high) (millimetres n) most (ceiling-is (exactOf high) .notBelow) (whole-mono n (pos 1000000000) (h .1))
 
-pub spans-low : (low high : Float) → Spans low high → Within 1000000000 low
+pub spans-low : (low high : Float) → Spans low high → NumberWithin 1000000000 low
 spans-low low high s =
     within-of low (s .number-low) (spans-least low high s) (at-most-on (exactOf low) (exactOf high) most (s .at-most) (spans-most low high s))
 
-pub spans-high : (low high : Float) → Spans low high → Within 1000000000 high
+pub spans-high : (low high : Float) → Spans low high → NumberWithin 1000000000 high
 spans-high low high s =
     within-of high (s .number-high) (at-most-on least (exactOf low) (exactOf high) (spans-least low high s) (s .at-most)) (spans-most low high s)
 
@@ -197,7 +197,7 @@ spans-is low high h k =
     rw (low-test low h (s .number-low) ∙ spans-least low high s, order-test low high h k (s .number-low) (s .number-high) ∙ s .at-most, high-test high k (s .number-high) ∙ spans-most low high s))
 
 -- ---- a centre or a radius
-pub moderate-within : (x : Float) → moderate x ≡ true → Within 1000000000 x
+pub moderate-within : (x : Float) → moderate x ≡ true → NumberWithin 1000000000 x
 unfolding moderate
 moderate-within x e =
     let a = and-both (isNumber x && leZ least (exactOf x)) (leZ (exactOf x) most) e in

@@ -1,4 +1,4 @@
--- A sum or a difference of two doubles is the exact one, rounded once, and is within 2 ^ -22 of a millimetre of it. So the window of a disc holds the disc.
+-- A sum or a difference of two doubles is the exact one, roundsTo once, and is within 2 ^ -22 of a millimetre of it. So the window of a disc holds the disc.
 use mathlib.Core.Path.{_≡_, refl, sym, ap, _∙_, subst}
 use mathlib.Core.Bool.{Bool, true, false}
 use Prim.Native.Nat.{ℕ, _+_, _-_, _*_, _/_, _^_, _≤_, _<_}
@@ -16,7 +16,7 @@ use lib.Ieee.Order.{round-mono, kept, drop}
 use lib.Ieee.Scale.{round-same, finite, grid, overflow, round-under}
 use borrow.Author.Tests.{ltb-true, ltb-false, leb-true}
 use Rattle.rules.specs.Doubles.{Double, unit, minusSign, millimetres, withSign, exactOf, floorOf, ceilingOf}
-use Rattle.survey_laws.specs.Sizes.{sizeOf, Within}
+use Rattle.survey_laws.specs.Sizes.{sizeOf, NumberWithin}
 use Rattle.survey_laws.proofs.Values.{unit-pos, sum-cross, own-value, exact-is, size-is, value-number, ltb-cross, cross, le-value, exact-neg, within-neg}
 use Rattle.survey_laws.proofs.Linear.{over, under, parts-le, parts-lt, parts-eq, sum-parts, over-mul, under-mul, over-neg, under-neg}
 use Rattle.survey_laws.proofs.Floors.{floor-parts}
@@ -53,7 +53,7 @@ add-value (fin u m e) (fin v n d) s t a b p q =
     ∙ ap (λ (z : Bool). sum binary64 z a v b unit) (p .0) ∙ ap (λ (z : Bool). sum binary64 s a z b unit) (q .0)
 
 -- ---- the sum is one rounding of the exact sum
-pub record Once (s t : Bool) (a b : ℕ) : Type 0 where
+pub record OneRounding (s t : Bool) (a b : ℕ) : Type 0 where
   pub sign : Bool
   pub size : ℕ
   pub is : sum binary64 s a t b unit ≡ round binary64 sign size unit
@@ -90,12 +90,12 @@ dif-neg a b l =
     let h6 = under-neg (pos (b - a)) in
     parts-eq (pos a +ℤ negℤ (pos b)) (negℤ (pos (b - a))) (omega arith)
 
-once-mixed : (a b : ℕ) (t : Bool) → ltb a b ≡ t → Once false true a b
+once-mixed : (a b : ℕ) (t : Bool) → ltb a b ≡ t → OneRounding false true a b
 unfolding sum
 once-mixed a b true e = record { sign = true; size = b - a; is = rw e; exact = dif-neg a b (omega (arith, ltb-true a b e)); most = omega arith }
 once-mixed a b false e = record { sign = false; size = a - b; is = rw e; exact = dif-pos a b (ltb-false a b e); most = omega arith }
 
-once-other : (a b : ℕ) (t u : Bool) → ltb a b ≡ t → ltb b a ≡ u → Once true false a b
+once-other : (a b : ℕ) (t u : Bool) → ltb a b ≡ t → ltb b a ≡ u → OneRounding true false a b
 unfolding sum
 once-other a b true u e f = record { sign = false; size = b - a; is = rw e; exact = +ℤ-comm (negℤ (pos a)) (pos b) ∙ dif-pos b a (omega (arith, ltb-true a b e)); most = omega arith }
 once-other a b false true e f = record { sign = true; size = a - b; is = rw (e, f); exact = +ℤ-comm (negℤ (pos a)) (pos b) ∙ dif-neg b a (ltb-false a b e); most = omega arith }
@@ -109,7 +109,7 @@ once-other a b false false e f =
       most = omega arith;
     }
 
-pub once : (s t : Bool) (a b : ℕ) → Once s t a b
+pub once : (s t : Bool) (a b : ℕ) → OneRounding s t a b
 unfolding sum
 once false false a b = record { sign = false; size = a + b; is = refl; exact = refl; most = omega arith }
 once true true a b = record { sign = true; size = a + b; is = refl; exact = neg-sum a b; most = omega arith }
@@ -162,20 +162,20 @@ between (fin u m e) (inf false) (inf v) a b p q h k = absurd q
 between (fin u m e) (inf false) (fin v n d) a b p q h k = absurd k
 between (fin u m e) (fin v n d) z a b p q h k = tt
 
--- z units rounded once to a double, in units
-unfoldable pub rounded : ℕ → ℕ
-rounded z = grid binary64 z unit
+-- z units roundsTo once to a double, in units
+unfoldable pub roundsTo : ℕ → ℕ
+roundsTo z = grid binary64 z unit
 
-rounded-value : (u : Bool) (z : ℕ) → grid binary64 z unit < overflow binary64 → HasValue (round binary64 u z unit) u (rounded z) unit
-unfolding unit rounded
+rounded-value : (u : Bool) (z : ℕ) → grid binary64 z unit < overflow binary64 → HasValue (round binary64 u z unit) u (roundsTo z) unit
+unfolding unit roundsTo
 rounded-value u z h =
     subst (λ (x : Float). HasValue x u (grid binary64 z unit) (2 ^ low binary64)) (sym (round-is binary64 u z unit))
     (units-val binary64 u (kept (prec binary64) (z * 2 ^ low binary64) unit) (drop (prec binary64) (z * 2 ^ low binary64) unit) h)
 
-pub record Rounded (u : Bool) (z j k : ℕ) : Type 0 where
-  pub value : HasValue (round binary64 u z unit) u (rounded z) unit
-  pub least : j * step ≤ rounded z
-  pub most : rounded z ≤ k * step
+pub record RoundsTo (u : Bool) (z j k : ℕ) : Type 0 where
+  pub value : HasValue (round binary64 u z unit) u (roundsTo z) unit
+  pub least : j * step ≤ roundsTo z
+  pub most : roundsTo z ≤ k * step
 
 is-true : (b : Bool) → T b → b ≡ true
 is-true true t = refl
@@ -185,7 +185,7 @@ is-true false t = absurd t
 to-fraction : (j : ℕ) → j * step * 4194304 ≡ j * unit
 to-fraction j = mul-right-comm j step 4194304 ∙ sym (steps-in j)
 
-pub rounds : (u : Bool) (z j k : ℕ) → j < 2 ^ 53 → k < 2 ^ 53 → j * step ≤ z → z ≤ k * step → Rounded u z j k
+pub rounds : (u : Bool) (z j k : ℕ) → j < 2 ^ 53 → k < 2 ^ 53 → j * step ≤ z → z ≤ k * step → RoundsTo u z j k
 rounds u z j k J K l h =
     let x = round binary64 false j 4194304 in
     let y = round binary64 false z unit in
@@ -198,8 +198,8 @@ rounds u z j k J K l h =
     let vy = rounded-value false z fine in
     record {
       value = rounded-value u z fine;
-      least = leb-true (j * step) (rounded z) (sym (le-value x y false false (j * step) (rounded z) vx vy) ∙ is-true (le x y) p);
-      most = leb-true (rounded z) (k * step) (sym (le-value y w false false (rounded z) (k * step) vy vw) ∙ is-true (le y w) q);
+      least = leb-true (j * step) (roundsTo z) (sym (le-value x y false false (j * step) (roundsTo z) vx vy) ∙ is-true (le x y) p);
+      most = leb-true (roundsTo z) (k * step) (sym (le-value y w false false (roundsTo z) (k * step) vy vw) ∙ is-true (le y w) q);
     }
 
 -- ---- f is within 2 ^ -22 of a millimetre of v
@@ -217,7 +217,7 @@ close-sized true z g h k =
     record { not-over = omega arith; not-under = omega arith }
 
 pub record Added (x : Float) (v : ℤ) : Type 0 where
-  pub within : Within 2000000000 x
+  pub within : NumberWithin 2000000000 x
   pub close : Close (exactOf x) v
 
 next-step : (z : ℕ) → (z / step * step ≤ z) × (z ≤ (z / step + 1) * step)
@@ -226,7 +226,7 @@ next-step z =
     let e : (z / step + 1) * step ≡ z / step * step + step = add-mul (z / step) 1 step ∙ ap (λ (n : ℕ). z / step * step + n) (one-mul step) in
     (div-mul-le-self z step, omega arith)
 
-pub added : (x y : Float) → Double x → Double y → Within 1000000000 x → Within 1000000000 y → Added (add binary64 x y) (exactOf x +ℤ exactOf y)
+pub added : (x y : Float) → Double x → Double y → NumberWithin 1000000000 x → NumberWithin 1000000000 y → Added (add binary64 x y) (exactOf x +ℤ exactOf y)
 unfolding exactOf sizeOf
 added x y hx hy wx wy =
     let s = minusSign (toBits binary64 x) in
@@ -244,17 +244,17 @@ added x y hx hy wx wy =
     let all = rounds u z 0 8388608000000000 (lit≤ tt) (lit≤ tt) (omega (arith, zero-mul step)) m in
     let n = next-step z in
     let one = rounds u z (z / step) (z / step + 1) (omega arith) (omega arith) (n .0) (n .1) in
-    let v : HasValue (add binary64 x y) u (rounded z) unit = subst (λ (r : Float). HasValue r u (rounded z) unit) (sym is) (all .value) in
+    let v : HasValue (add binary64 x y) u (roundsTo z) unit = subst (λ (r : Float). HasValue r u (roundsTo z) unit) (sym is) (all .value) in
     let f = add-fits binary64 x y in
     let e : (z / step + 1) * step ≡ z / step * step + step = add-mul (z / step) 1 step ∙ ap (λ (k : ℕ). z / step * step + k) (one-mul step) in
-    let near : Close (withSign u (rounded z)) (withSign u z) = close-sized u z (rounded z) (omega (arith, one .most, n .0)) (omega (arith, one .least, n .1)) in
+    let near : Close (withSign u (roundsTo z)) (withSign u z) = close-sized u z (roundsTo z) (omega (arith, one .most, n .0)) (omega (arith, one .least, n .1)) in
     record {
-      within = record { number = value-number (add binary64 x y) u (rounded z) f v; size = rw (size-is (add binary64 x y) u (rounded z) f v) (le-trans (all .most) (le-of-eq (sym i))) };
-      close = rw (exact-is (add binary64 x y) u (rounded z) f v, o .exact) near;
+      within = record { number = value-number (add binary64 x y) u (roundsTo z) f v; size = rw (size-is (add binary64 x y) u (roundsTo z) f v) (le-trans (all .most) (le-of-eq (sym i))) };
+      close = rw (exact-is (add binary64 x y) u (roundsTo z) f v, o .exact) near;
     }
 
 -- the difference is the sum with the other sign
-pub subtracted : (x y : Float) → Double x → Double y → Within 1000000000 x → Within 1000000000 y → Added (sub binary64 x y) (exactOf x -ℤ exactOf y)
+pub subtracted : (x y : Float) → Double x → Double y → NumberWithin 1000000000 x → NumberWithin 1000000000 y → Added (sub binary64 x y) (exactOf x -ℤ exactOf y)
 unfolding sub
 subtracted x y hx hy wx wy =
     subst (λ (z : ℤ). Added (add binary64 x (neg y)) (exactOf x +ℤ z)) (exact-neg y hy (wy .number))

@@ -8,8 +8,8 @@ use lib.Ieee.{Float}
 use Rattle.rules.specs.declared.Rect.{Rect}
 use Rattle.rules.specs.declared.SurveyBox.{SurveyBox}
 use Rattle.rules.specs.declared.Query.{Query}
-use Rattle.rules.specs.declared.Query.the-variants.{Point, Area, Disc}
-use Rattle.rules.specs.declared.Surveyed.the-variants.{Whole}
+use Rattle.rules.specs.declared.Query.the-variants.{Point, Box, Disc}
+use Rattle.rules.specs.declared.Surveyed.the-variants.{Rounded}
 use Rattle.rules.specs.Geometry.{valid, meets}
 use Rattle.rules.specs.Doubles.{Double, millimetres, exactOf}
 use Rattle.rules.specs.Survey.{pointBox, inOrder, goodBox, boxWindow, discWindow, queryWindow, ExactBox, exactBox, exactDisc, RoundedOutward, HoldsBox}
@@ -25,7 +25,7 @@ use Rattle.survey_laws.proofs.Discs.{disc-good, disc-held, radius-not-n
 
 -- ---- what holds an exact box whose lows are not above its highs has no low above its high
 
-record InOrder (e : ExactBox) : Type 0 where
+record LowsBelow (e : ExactBox) : Type 0 where
   x : leZ (e .lowX) (e .highX) ≡ true
   y : leZ (e .lowY) (e .highY) ≡ true
 
@@ -33,7 +33,7 @@ held-order : (low high : ℤ) (l h : ℤ) → leZ (millimetres l) low ≡ true �
 held-order low high l h a b c =
     whole-le l h (at-most-on (millimetres l) low (millimetres h) a (at-most-on low high (millimetres h) b c))
 
-held-valid : (e : ExactBox) (r : Rect) → InOrder e → HoldsBox e r → InRange r → valid r ≡ true
+held-valid : (e : ExactBox) (r : Rect) → LowsBelow e → HoldsBox e r → InRange r → valid r ≡ true
 held-valid e r o h i =
     parts-valid (record {
       lowX = i .lowX;
@@ -50,15 +50,15 @@ pub rounded-holds : (e : ExactBox) (r : Rect) → RoundedOutward e r → HoldsBo
 rounded-holds e r o =
     record { lowX = o .lowX .notAbove; lowY = o .lowY .notAbove; highX = o .highX .notBelow; highY = o .highY .notBelow }
 
-pub box-held : (b : SurveyBox) (r : Rect) → boxWindow b ≡ Whole r → HoldsBox (exactBox b) r
+pub box-held : (b : SurveyBox) (r : Rect) → boxWindow b ≡ Rounded r → HoldsBox (exactBox b) r
 box-held b r e = rounded-holds (exactBox b) r (box-rounded b r e)
 
-box-valid : (b : SurveyBox) (r : Rect) → boxWindow b ≡ Whole r → valid r ≡ true
+box-valid : (b : SurveyBox) (r : Rect) → boxWindow b ≡ Rounded r → valid r ≡ true
 unfolding goodBox
 box-valid b r e =
     let g = box-in-order b r e in
     let o = and-both (inOrder (b .lowX) (b .highX)) (inOrder (b .lowY) (b .highY)) (g .asked) in
-    let i : InOrder (exactBox b) = record { x = order-parts (b .lowX) (b .highX) (o .0); y = order-parts (b .lowY) (b .highY) (o .1) } in
+    let i : LowsBelow (exactBox b) = record { x = order-parts (b .lowX) (b .highX) (o .0); y = order-parts (b .lowY) (b .highY) (o .1) } in
     held-valid (exactBox b) r i (box-held b r e) (g .range)
 
 -- ---- discs
@@ -71,18 +71,18 @@ spread-order c r h =
     let u = under-neg r in
     parts-le (c -ℤ r) (c +ℤ r) (omega (arith, le-parts (pos 0) r h))
 
-disc-valid : (x y radius : Float) → Double x → Double y → Double radius → (r : Rect) → discWindow x y radius ≡ Whole r → valid r ≡ true
+disc-valid : (x y radius : Float) → Double x → Double y → Double radius → (r : Rect) → discWindow x y radius ≡ Rounded r → valid r ≡ true
 disc-valid x y radius hx hy hr r e =
     let n = radius-not-negative x y radius hx hy hr r e in
-    let i : InOrder (exactDisc x y radius) = record { x = spread-order (exactOf x) (exactOf radius) n; y = spread-order (exactOf y) (exactOf radius) n } in
+    let i : LowsBelow (exactDisc x y radius) = record { x = spread-order (exactOf x) (exactOf radius) n; y = spread-order (exactOf y) (exactOf radius) n } in
     held-valid (exactDisc x y radius) r i (disc-held x y radius hx hy hr r e) (disc-good x y radius hx hy hr r e .range)
 
 -- ---- "12, before 3": what is not refused 12 is not refused 3
 
-pub window-valid : (q : Query) → OfDoubles q → (r : Rect) → queryWindow q ≡ Whole r → valid r ≡ true
+pub window-valid : (q : Query) → OfDoubles q → (r : Rect) → queryWindow q ≡ Rounded r → valid r ≡ true
 unfolding queryWindow
 window-valid (Point x y) h r e = box-valid (pointBox x y) r e
-window-valid (Area b) h r e = box-valid b r e
+window-valid (Box b) h r e = box-valid b r e
 window-valid (Disc x y radius) h r e = disc-valid x y radius (h .0) (h .1) (h .2) r e
 
 -- ---- a rectangle that meets the exact box meets the window that holds it

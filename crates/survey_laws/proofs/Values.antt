@@ -18,7 +18,7 @@ use borrow.Author.Tests.{ltb-true, ltb-false, lt-ltb, le-ltb, eqb-true, eqb-fals
 use Rattle.rules.specs.Doubles.{Double, minusSign, exponent, fraction, unit, sizeFrom, withSign, numberIn, exactIn, isNumber, exactOf}
 use Rattle.rules_laws.proofs.Bools.{not-true}
 use Rattle.survey_laws.specs.Kit.{SameValue}
-use Rattle.survey_laws.specs.Sizes.{sizeOf, Within}
+use Rattle.survey_laws.specs.Sizes.{sizeOf, NumberWithin}
 
 pub unit-pos : 0 < unit
 unfolding unit
@@ -240,7 +240,7 @@ exact-neg x h n =
     let s = minusSign (toBits binary64 x) in
     exact-is (neg x) (not s) (sizeOf x) (neg-fits binary64 x h) (neg-value x s (sizeOf x) (own-value x h n)) ∙ withSign-not s (sizeOf x)
 
-pub within-neg : (k : ℕ) (x : Float) → Double x → Within k x → Within k (neg x)
+pub within-neg : (k : ℕ) (x : Float) → Double x → NumberWithin k x → NumberWithin k (neg x)
 within-neg k x h w =
     let s = minusSign (toBits binary64 x) in
     let v = neg-value x s (sizeOf x) (own-value x h (w .number)) in

@@ -3,13 +3,13 @@ use mathlib.Core.Bool.{Bool, _&&_}
 use lib.Signed.{leZ}
 use Rattle.rules.specs.declared.Rect.{Rect}
 use Rattle.rules.specs.declared.Query.{Query}
-use Rattle.rules.specs.declared.Query.the-variants.{Point, Area, Disc}
+use Rattle.rules.specs.declared.Query.the-variants.{Point, Box, Disc}
 use Rattle.rules.specs.Doubles.{Double, millimetres}
 use Rattle.rules.specs.Survey.{ExactBox}
 
 abbrev pub OfDoubles : Query → Type 0
 OfDoubles (Point x y) = Double x × Double y
-OfDoubles (Area b) = Double (b .lowX) × Double (b .lowY) × Double (b .highX) × Double (b .highY)
+OfDoubles (Box b) = Double (b .lowX) × Double (b .lowY) × Double (b .highX) × Double (b .highY)
 OfDoubles (Disc x y radius) = Double x × Double y × Double radius
 
 -- "on each axis each low is at most the other's high; touching counts", by exact values

@@ -15,16 +15,16 @@ unfoldable pub sizeOf : Float → ℕ
 sizeOf x = sizeFrom (exponent (toBits binary64 x)) (fraction (toBits binary64 x))
 
 -- x is a number of at most k millimetres in size
-pub record Within (k : ℕ) (x : Float) : Type 0 where
+pub record NumberWithin (k : ℕ) (x : Float) : Type 0 where
   pub number : isNumber x ≡ true
   pub size : sizeOf x ≤ k * unit
 
 -- so is each bound of a box
 pub record BoxWithin (k : ℕ) (b : SurveyBox) : Type 0 where
-  pub lowX : Within k (b .lowX)
-  pub lowY : Within k (b .lowY)
-  pub highX : Within k (b .highX)
-  pub highY : Within k (b .highY)
+  pub lowX : NumberWithin k (b .lowX)
+  pub lowY : NumberWithin k (b .lowY)
+  pub highX : NumberWithin k (b .highX)
+  pub highY : NumberWithin k (b .highY)
 
 -- each coordinate of a rectangle is at most k in size
 pub record RectWithin (k : ℕ) (r : Rect) : Type 0 where

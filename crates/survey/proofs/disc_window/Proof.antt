@@ -45,7 +45,7 @@ returns c =
     let hy = is-double y (start .good .1 .0 .1) in
     let hr = is-double radius (start .good .1 .1 .0 .1) in
     let g = sym (good-disc .ensures) ∙ if1 .taken in
-    c .finished .ensures
+    c .finish .ensures
     ∙ disc-yes x y radius hx hy hr (further-call .result) g
     (further-call .ensures ∙ ap further (outward-call .ensures ∙ ap outward (spread .ensures)))
 

@@ -1,8 +1,8 @@
 use Rattle.geometry.proofs.Rects.{rect-back}
 use Rattle.survey_laws.proofs.Finished.{finished-yes, finished-no}
 use borrow.Author.Needs.{needs}
-use Rattle.survey.proofs.finished.Statement.{statement}
-use Rattle.survey.proofs.finished.Tie as tie
+use Rattle.survey.proofs.finish.Statement.{statement}
+use Rattle.survey.proofs.finish.Tie as tie
 
 returns : tie.Need-returns
 returns c =
@@ -60,8 +60,8 @@ returns-2 c =
       a .highY,
     )) (c .if1 .left)
 
-pub finished-spec : {M : Type 1} → statement M
-finished-spec =
+pub finish-spec : {M : Type 1} → statement M
+finish-spec =
     tie.close
     (tie.spec
     (λ c κs. search needs)
