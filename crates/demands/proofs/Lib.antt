@@ -1,6 +1,7 @@
--- The three demands, proved.
+-- The three demands, and what document 02 asks beside them, proved.
 pub mod Holds
 pub mod Turns
 pub mod Unasked
 pub mod Demands
 pub mod Closed
+pub mod Surveys

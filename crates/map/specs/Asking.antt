@@ -1,12 +1,13 @@
--- What comes back of a call, and what is promised of it; and the queries that the calls with doubles stand for.
+-- What comes back of a call, and what is promised of it; and the same of the calls with doubles.
 use mathlib.Core.Path.{_≡_}
 use mathlib.Core.List.{List}
 use lib.IntN.{ℤ}
 use lib.Ieee.{Float}
 use Rattle.rules.specs.declared.Record.{Record}
 use Rattle.rules.specs.declared.Answer.{Answer}
-use Rattle.rules.specs.declared.Query.{Query}
 use Rattle.rules.specs.declared.Query.the-variants.{Point, Box, Disc}
+use Rattle.rules.specs.declared.Surveyed.{Surveyed}
+use Rattle.rules.specs.Survey.{queryWindow, surveyNumber, surveyWords}
 use Rattle.rules.specs.Call.{Lent, Left, call}
 
 -- what comes back
@@ -21,12 +22,17 @@ pub record Allowed (l : Lent) (o : Left) : Type 0 where
   pub answers : o .answers ≡ call l .answers
   pub found : o .found ≡ call l .found
 
--- what `dustmap_box`, `dustmap_point` and `dustmap_disc` are handed, as a query
-abbrev pub boxAsked : Float → Float → Float → Float → Query
-boxAsked lowX lowY highX highY = Box (record { lowX = lowX; lowY = lowY; highX = highX; highY = highY })
+-- what is promised of a survey: the number returned, and the words left of the four that were lent for the rectangle
+pub record Converts (w : Surveyed) (lent : List ℤ) (n : ℤ) (words : List ℤ) : Type 0 where
+  pub number : n ≡ surveyNumber w
+  pub written : words ≡ surveyWords w lent
 
-abbrev pub pointAsked : Float → Float → Query
-pointAsked x y = Point x y
+-- what `dustmap_box`, `dustmap_point` and `dustmap_disc` are handed, and what becomes of it
+abbrev pub ofBox : Float → Float → Float → Float → Surveyed
+ofBox lowX lowY highX highY = queryWindow (Box (record { lowX = lowX; lowY = lowY; highX = highX; highY = highY }))
 
-abbrev pub discAsked : Float → Float → Float → Query
-discAsked x y radius = Disc x y radius
+abbrev pub ofPoint : Float → Float → Surveyed
+ofPoint x y = queryWindow (Point x y)
+
+abbrev pub ofDisc : Float → Float → Float → Surveyed
+ofDisc x y radius = queryWindow (Disc x y radius)

@@ -3,9 +3,8 @@ ghost use mathlib.Core.Path.{_≡_};
 ghost use lib.IntN.{pos};
 ghost use Rattle.rules.specs.Layout as L;
 ghost use Rattle.rules.specs.Call as C;
-ghost use Rattle.rules.specs.Survey as S;
 ghost use Rattle.batch.specs.Asking.{lent, nothingAsked};
-ghost use Rattle.map.specs.Asking.{left, Allowed, pointAsked, boxAsked, discAsked};
+ghost use Rattle.map.specs.Asking.{left, Allowed, Converts, ofBox, ofPoint, ofDisc};
 use rules::Answer;
 use rules::Query;
 use rules::Record;
@@ -56,8 +55,7 @@ pub extern "C" fn dustmap_call(
 
 // What is written of a window, and its number: the rectangle beside 0; beside 12, nothing.
 fn told(w: Surveyed, rect: &mut [i32; 4]) -> i32
-    ensures number { λ n. ⌜ n ≡ S.surveyNumber w ⌝ }
-    ensures words { λ _. ⌜ now (rect .exit) ≡ S.surveyWords w (now (rect .entry)) ⌝ }
+    ensures { λ n. ⌜ Converts w (now (rect .entry)) n (now (rect .exit)) ⌝ }
 {
     match w {
         Surveyed::Rounded(r) => {
@@ -84,8 +82,7 @@ pub extern "C" fn dustmap_box(
     high_y: f64,
     rect: &mut [i32; 4],
 ) -> i32
-    ensures number { λ n. ⌜ n ≡ S.surveyNumber (S.queryWindow (boxAsked «low_x» «low_y» «high_x» «high_y»)) ⌝ }
-    ensures words { λ _. ⌜ now (rect .exit) ≡ S.surveyWords (S.queryWindow (boxAsked «low_x» «low_y» «high_x» «high_y»)) (now (rect .entry)) ⌝ }
+    ensures { λ n. ⌜ Converts (ofBox «low_x» «low_y» «high_x» «high_y») (now (rect .entry)) n (now (rect .exit)) ⌝ }
 {
     let b = SurveyBox {
         lowX: low_x,
@@ -99,8 +96,7 @@ pub extern "C" fn dustmap_box(
 
 #[no_mangle]
 pub extern "C" fn dustmap_point(x: f64, y: f64, rect: &mut [i32; 4]) -> i32
-    ensures number { λ n. ⌜ n ≡ S.surveyNumber (S.queryWindow (pointAsked x y)) ⌝ }
-    ensures words { λ _. ⌜ now (rect .exit) ≡ S.surveyWords (S.queryWindow (pointAsked x y)) (now (rect .entry)) ⌝ }
+    ensures { λ n. ⌜ Converts (ofPoint x y) (now (rect .entry)) n (now (rect .exit)) ⌝ }
 {
     let w = survey::query_window(Query::Point { x, y });
     told(w, rect)
@@ -109,8 +105,7 @@ pub extern "C" fn dustmap_point(x: f64, y: f64, rect: &mut [i32; 4]) -> i32
 // A disc by its centre and its radius, as a window that holds it.
 #[no_mangle]
 pub extern "C" fn dustmap_disc(x: f64, y: f64, radius: f64, rect: &mut [i32; 4]) -> i32
-    ensures number { λ n. ⌜ n ≡ S.surveyNumber (S.queryWindow (discAsked x y radius)) ⌝ }
-    ensures words { λ _. ⌜ now (rect .exit) ≡ S.surveyWords (S.queryWindow (discAsked x y radius)) (now (rect .entry)) ⌝ }
+    ensures { λ n. ⌜ Converts (ofDisc x y radius) (now (rect .entry)) n (now (rect .exit)) ⌝ }
 {
     let w = survey::query_window(Query::Disc { x, y, radius });
     told(w, rect)

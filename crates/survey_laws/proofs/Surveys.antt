@@ -87,7 +87,7 @@ window-valid (Disc x y radius) h r e = disc-valid x y radius (h .0) (h .1) (h .2
 
 -- ---- a rectangle that meets the exact box meets the window that holds it
 
-pub none-missed : (e : ExactBox) (w : Rect) → HoldsBox e w → (r : Rect) → meetsExactly e r ≡ true → meets w r ≡ true
+pub none-missed : (e : ExactBox) (w : Rect) → HoldsBox e w → (r : Rect) → meetsExactly e r ≡ true → meets r w ≡ true
 unfolding meetsExactly meets
 none-missed e w h r m =
     let a = and-both (leZ (e .lowX) (millimetres (r .highX)) && leZ (millimetres (r .lowX)) (e .highX) && leZ (e .lowY) (millimetres (r .highY))) (leZ (millimetres (r .lowY)) (e .highY)) m in
