@@ -13,29 +13,20 @@ use mathlib.Core.List.{List, [], _∷_}
 use Prim.Native.Nat.{ℕ}
 use lib.IntN.{ℤ, pos}
 use lib.ListN.{replicate}
+use lib.Ieee.{binary64, ofBits}
 use Rattle.rules.specs.declared.Record.{Record}
 use Rattle.rules.specs.declared.Request.{Request}
 use Rattle.rules.specs.declared.Answer.{Answer}
+use Rattle.rules.specs.declared.Query.the-variants.{Point, Box, Disc}
+use Rattle.rules.specs.declared.Surveyed.the-variants.{Rounded, BadSurvey}
 use Rattle.rules.specs.Pool.{number, rectangle, noRecord}
 use Rattle.rules.specs.Answers.{answer}
 use Rattle.rules.specs.Call.{Left}
 use Rattle.rules.specs.Frames.{dustmap}
-use Rattle.rules.specs.Computed.{document01}
+use Rattle.rules.specs.Survey.{queryWindow}
+use Rattle.rules.specs.Computed.{document01, document02}
 use Rattle.rules.specs.Histories.{minus, asking, history}
 use Rattle.rules.specs.Layout.{blankWords}
-"""
-
-# for statements about surveys, which share no name with the others but these
-SURVEY_HEAD = """-- Closed statements, written by tools/.
-use mathlib.Core.Path.{_≡_, refl}
-use lib.IntN.{pos}
-use lib.Ieee.{Float, binary64, ofBits}
-use Rattle.rules.specs.declared.Query.the-variants.{Point, Box, Disc}
-use Rattle.rules.specs.declared.Surveyed.the-variants.{Rounded, BadSurvey}
-use Rattle.rules.specs.Pool.{rectangle}
-use Rattle.rules.specs.Survey.{queryWindow}
-use Rattle.rules.specs.Computed.{document02}
-use Rattle.rules.specs.Histories.{minus}
 """
 
 

@@ -7,12 +7,13 @@ use crate::tally::Tally;
 use second::script::parse;
 use second::{Answer, Found};
 
-const SCRIPTS: [(&str, &str); 5] = [
+const SCRIPTS: [(&str, &str); 6] = [
     ("delete-refused-7", include_str!("../../second/examples/delete-refused-7.script")),
     ("mixed", include_str!("../../second/examples/mixed.script")),
     ("two-levels", include_str!("../../second/examples/two-levels.script")),
     ("two-levels-pool", include_str!("../../second/examples/two-levels-pool.script")),
     ("two-levels-split", include_str!("../../second/examples/two-levels-split.script")),
+    ("update-refused-7", include_str!("../../second/examples/update-refused-7.script")),
 ];
 
 pub fn all(tally: &mut Tally, seen: &mut Seen) {

@@ -81,6 +81,10 @@ fn the_examples_kept() {
             include_str!("../examples/delete-refused-7.script"),
             include_str!("../examples/delete-refused-7.out"),
         ),
+        (
+            include_str!("../examples/update-refused-7.script"),
+            include_str!("../examples/update-refused-7.out"),
+        ),
         (include_str!("../examples/mixed.script"), include_str!("../examples/mixed.out")),
     ];
     for (script, due) in kept {

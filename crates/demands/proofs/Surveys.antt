@@ -27,13 +27,13 @@ query-holds : (q : Query) → OfDoubles q → (r : Rect) → queryWindow q ≡ R
 unfolding queryWindow
 query-holds (Point x y) h r e = box-held (pointBox x y) r e
 query-holds (Box b) h r e = box-held b r e
-query-holds (Disc x y radius) h r e = disc-held x y radius (h .0) (h .1) (h .2) r e
+query-holds (Disc x y radius) h r e = disc-held x y radius h r e
 
 query-near : (q : Query) → OfDoubles q → (r : Rect) → queryWindow q ≡ Rounded r → NearQuery q r
 unfolding queryWindow
 query-near (Point x y) h r e = box-rounded (pointBox x y) r e
 query-near (Box b) h r e = box-rounded b r e
-query-near (Disc x y radius) h r e = disc-near x y radius (h .0) (h .1) (h .2) r e
+query-near (Disc x y radius) h r e = disc-near x y radius h r e
 
 -- four words written over four
 over-four : (r : Rect) (lent : List ℤ) → length lent ≡ 4 → surveyWords (Rounded r) lent ≡ r .lowX ∷ r .lowY ∷ r .highX ∷ r .highY ∷ []

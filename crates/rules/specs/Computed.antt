@@ -21,7 +21,7 @@ use Rattle.rules.specs.Answers.{answerOf, verdictNumber, firstRow}
 use Rattle.rules.specs.Request.{asked, afterChange, insertFault, deleteFault, updateFault, searchFault, request}
 use Rattle.rules.specs.Call.{afterTurn, doRequest, doRequests, isRequest, callFault, refused, served, starting, callBy, call}
 use Rattle.rules.specs.Frames.{byteAt, pairValue, signed, wordValue, wordValues, frameOf, nextFrame, rectIn, requestIn, ofKind, frameRequest, digits, natShown, intShown, line, answerLine, recordLine, listedOf, replyLines, badLine, frameCall, callPrinted, printed, dustmap}
-use Rattle.rules.specs.Doubles.{unit, isNumber, exactOf, floorOf, ceilingOf}
+use Rattle.rules.specs.Doubles.{unit, isNumber, exactOf, valueOf, floorOf, ceilingOf}
 use Rattle.rules.specs.Survey.{outward, spread, further, inOrder, goodBox, notNegative, moderate, goodDisc, finish, boxWindow, discWindow, queryWindow, surveyNumber, surveyWords}
 
 unfoldable pub document01 : List ℕ → List ℕ
@@ -29,5 +29,5 @@ unfolding those every oneOf joined without earliestBest total upFrom same lessTh
 document01 bytes = dustmap bytes
 
 unfoldable pub document02 : Query → Surveyed
-unfolding unit isNumber exactOf floorOf ceilingOf outward spread further inOrder goodBox notNegative moderate goodDisc finish boxWindow discWindow queryWindow surveyNumber surveyWords inRange add sub neg div ofInt ofBits toBits
+unfolding unit isNumber exactOf valueOf floorOf ceilingOf outward spread further inOrder goodBox notNegative moderate goodDisc finish boxWindow discWindow queryWindow surveyNumber surveyWords inRange add sub neg div ofInt ofBits toBits
 document02 query = queryWindow query

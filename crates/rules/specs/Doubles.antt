@@ -1,6 +1,7 @@
 -- Req 03: "the double's exact value defined as a whole fraction from its bits", and the whole numbers next to it.
 use mathlib.Core.Path.{_≡_}
 use mathlib.Core.Bool.{Bool, true, not, cond}
+use mathlib.Core.Option.{Option, none, some}
 use Prim.Native.Nat.{ℕ, zero, suc, _+_, _*_, _/_, _%_, _^_}
 use lib.Dec.{T, leb, eqb}
 use lib.IntN.{ℤ, pos, negsuc, negℤ, _*ℤ_}
@@ -55,6 +56,10 @@ isNumber x = numberIn (toBits binary64 x)
 
 unfoldable pub exactOf : Float → ℤ
 exactOf x = exactIn (toBits binary64 x)
+
+-- "the double's exact value": so many units; a NaN and the infinities have none
+unfoldable pub valueOf : Float → Option ℤ
+valueOf x = cond (isNumber x) (some (exactOf x)) none
 
 -- ---- whole millimetres
 

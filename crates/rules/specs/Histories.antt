@@ -2,6 +2,7 @@
 pub mod Mixed
 pub mod TwoLevels
 pub mod DeleteRefused
+pub mod UpdateRefused
 use mathlib.Core.List.{List, _++_, map}
 use Prim.Native.Nat.{ℕ}
 use lib.ListN.{length, take, replicate}

@@ -114,11 +114,17 @@ fn further(r: Rect) -> Rect
     }
 }
 
+fn all_in_range(r: Rect) -> bool
+    ensures { λ t. ⌜ t ≡ Z.allInRange r ⌝ }
+{
+    let low = and(in_range(r.lowX), in_range(r.lowY));
+    and(and(low, in_range(r.highX)), in_range(r.highY))
+}
+
 fn finish(r: Rect) -> Surveyed
     ensures { λ w. ⌜ w ≡ S.finish true r ⌝ }
 {
-    let low = and(in_range(r.lowX), in_range(r.lowY));
-    if and(and(low, in_range(r.highX)), in_range(r.highY)) {
+    if all_in_range(r) {
         Surveyed::Rounded(r)
     } else {
         Surveyed::BadSurvey

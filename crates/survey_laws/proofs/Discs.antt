@@ -14,6 +14,8 @@ use Rattle.rules.specs.declared.Surveyed.the-variants.{Rounded, BadSurvey}
 use Rattle.rules.specs.Doubles.{Double, unit, minusSign, isNumber, exactOf}
 use Rattle.rules.specs.Survey.{outward, spread, further, moderate, notNegative, goodDisc, finish, discWindow, exactDisc, HoldsBox, LessThanBeyond}
 use Rattle.rules_laws.proofs.Bools.{and-both}
+use Rattle.rules.specs.declared.Query.the-variants.{Disc}
+use Rattle.survey_laws.specs.Queries.{OfDoubles}
 use Rattle.survey_laws.specs.Sizes.{sizeOf, NumberWithin, BoxWithin, RectWithin}
 use Rattle.survey_laws.proofs.Values.{own-value, le-value}
 use Rattle.survey_laws.proofs.Floors.{floor-mag, ceil-mag}
@@ -76,16 +78,26 @@ disc-parts x y radius e =
       not-negative = a .1;
     }
 
-module _ (x y radius : Float) (hx : Double x) (hy : Double y) (hr : Double radius) where
+-- as the code goes on
+pub disc-yes : (x y radius : Float) (r : Rect) → goodDisc x y radius ≡ true → r ≡ further (outward (spread x y radius))
+    → finish true r ≡ discWindow x y radius
+unfolding discWindow
+disc-yes x y radius r g e = rw (g, e)
+
+pub disc-no : (x y radius : Float) → goodDisc x y radius ≡ false → BadSurvey ≡ discWindow x y radius
+unfolding discWindow finish
+disc-no x y radius g = rw g
+
+module _ (x y radius : Float) (d : OfDoubles (Disc x y radius)) where
   pub spread-within : goodDisc x y radius ≡ true → BoxWithin 2000000000 (spread x y radius)
   unfolding spread
   spread-within e =
       let p = disc-parts x y radius e in
       record {
-        lowX = subtracted x radius hx hr (p .x-within) (p .within) .within;
-        lowY = subtracted y radius hy hr (p .y-within) (p .within) .within;
-        highX = added x radius hx hr (p .x-within) (p .within) .within;
-        highY = added y radius hy hr (p .y-within) (p .within) .within;
+        lowX = subtracted x radius (d .0) (d .2) (p .x-within) (p .within) .within;
+        lowY = subtracted y radius (d .1) (d .2) (p .y-within) (p .within) .within;
+        highX = added x radius (d .0) (d .2) (p .x-within) (p .within) .within;
+        highY = added y radius (d .1) (d .2) (p .y-within) (p .within) .within;
       }
 
   pub spread-small : goodDisc x y radius ≡ true → RectWithin 2000000001 (outward (spread x y radius))
@@ -95,20 +107,20 @@ module _ (x y radius : Float) (hx : Double x) (hy : Double y) (hr : Double radiu
   -- "the window holds the exact box of the disc ..
   module _ (e : goodDisc x y radius ≡ true) where
     low : (c : Float) → Double c → NumberWithin 1000000000 c → Close (exactOf (sub binary64 c radius)) (exactOf c -ℤ exactOf radius)
-    low c h w = subtracted c radius h hr w (disc-parts x y radius e .within) .close
+    low c h w = subtracted c radius h (d .2) w (disc-parts x y radius e .within) .close
 
     high : (c : Float) → Double c → NumberWithin 1000000000 c → Close (exactOf (add binary64 c radius)) (exactOf c +ℤ exactOf radius)
-    high c h w = added c radius h hr w (disc-parts x y radius e .within) .close
+    high c h w = added c radius h (d .2) w (disc-parts x y radius e .within) .close
 
     further-holds : HoldsBox (exactDisc x y radius) (further (outward (spread x y radius)))
     unfolding further outward spread
     further-holds =
         let p = disc-parts x y radius e in
         record {
-          lowX = low-side _ _ (low x hx (p .x-within)) .0;
-          lowY = low-side _ _ (low y hy (p .y-within)) .0;
-          highX = high-side _ _ (high x hx (p .x-within)) .0;
-          highY = high-side _ _ (high y hy (p .y-within)) .0;
+          lowX = low-side _ _ (low x (d .0) (p .x-within)) .0;
+          lowY = low-side _ _ (low y (d .1) (p .y-within)) .0;
+          highX = high-side _ _ (high x (d .0) (p .x-within)) .0;
+          highY = high-side _ _ (high y (d .1) (p .y-within)) .0;
         }
 
     -- .. and is less than 3 mm beyond it on each side"
@@ -117,20 +129,11 @@ module _ (x y radius : Float) (hx : Double x) (hy : Double y) (hr : Double radiu
     further-near =
         let p = disc-parts x y radius e in
         record {
-          lowX = low-side _ _ (low x hx (p .x-within)) .1;
-          lowY = low-side _ _ (low y hy (p .y-within)) .1;
-          highX = high-side _ _ (high x hx (p .x-within)) .1;
-          highY = high-side _ _ (high y hy (p .y-within)) .1;
+          lowX = low-side _ _ (low x (d .0) (p .x-within)) .1;
+          lowY = low-side _ _ (low y (d .1) (p .y-within)) .1;
+          highX = high-side _ _ (high x (d .0) (p .x-within)) .1;
+          highY = high-side _ _ (high y (d .1) (p .y-within)) .1;
         }
-
-  -- as the code goes on
-  pub disc-yes : (r : Rect) → goodDisc x y radius ≡ true → r ≡ further (outward (spread x y radius)) → finish true r ≡ discWindow x y radius
-  unfolding discWindow
-  disc-yes r g e = rw (g, e)
-
-  pub disc-no : goodDisc x y radius ≡ false → BadSurvey ≡ discWindow x y radius
-  unfolding discWindow finish
-  disc-no g = rw g
 
   module _ (r : Rect) (e : discWindow x y radius ≡ Rounded r) where
     pub disc-good : GoodRect (goodDisc x y radius) r

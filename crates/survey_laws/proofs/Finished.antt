@@ -7,6 +7,7 @@ use Rattle.rules.specs.declared.Surveyed.the-variants.{Rounded, BadSurvey}
 use Rattle.rules.specs.Numbers.{inRange}
 use Rattle.rules.specs.Geometry.{noRect}
 use Rattle.rules.specs.Survey.{finish}
+use Rattle.survey_laws.specs.Sizes.{allInRange}
 use Rattle.rules_laws.proofs.Bools.{and-both}
 
 abbrev wholeOf : Surveyed → Rect
@@ -72,12 +73,10 @@ not-finished good r f = go (good && inRange (r .lowX) && inRange (r .lowY) && in
     go false p = refl
 
 -- as the code asks it
-pub finished-yes : (r : Rect) (t : Bool) → t ≡ (inRange (r .lowX) && inRange (r .lowY) && inRange (r .highX) && inRange (r .highY)) → t ≡ true
-    → Rounded r ≡ finish true r
-unfolding finish
-finished-yes r t e k = rw (sym e, k)
+pub finished-yes : (r : Rect) → allInRange r ≡ true → Rounded r ≡ finish true r
+unfolding finish allInRange
+finished-yes r e = rw e
 
-pub finished-no : (r : Rect) (t : Bool) → t ≡ (inRange (r .lowX) && inRange (r .lowY) && inRange (r .highX) && inRange (r .highY)) → t ≡ false
-    → BadSurvey ≡ finish true r
-unfolding finish
-finished-no r t e k = rw (sym e, k)
+pub finished-no : (r : Rect) → allInRange r ≡ false → BadSurvey ≡ finish true r
+unfolding finish allInRange
+finished-no r e = rw e

@@ -11,7 +11,7 @@ use Rattle.rules.specs.declared.Query.{Query}
 use Rattle.rules.specs.declared.Query.the-variants.{Point, Box, Disc}
 use Rattle.rules.specs.declared.Surveyed.the-variants.{Rounded}
 use Rattle.rules.specs.Geometry.{valid, meets}
-use Rattle.rules.specs.Doubles.{Double, millimetres, exactOf}
+use Rattle.rules.specs.Doubles.{millimetres, exactOf}
 use Rattle.rules.specs.Survey.{pointBox, inOrder, goodBox, boxWindow, discWindow, queryWindow, ExactBox, exactBox, exactDisc, RoundedOutward, HoldsBox}
 use Rattle.rules_laws.proofs.Bools.{and-both}
 use Rattle.rules_laws.proofs.Orders.{at-most-on}
@@ -71,11 +71,11 @@ spread-order c r h =
     let u = under-neg r in
     parts-le (c -ℤ r) (c +ℤ r) (omega (arith, le-parts (pos 0) r h))
 
-disc-valid : (x y radius : Float) → Double x → Double y → Double radius → (r : Rect) → discWindow x y radius ≡ Rounded r → valid r ≡ true
-disc-valid x y radius hx hy hr r e =
-    let n = radius-not-negative x y radius hx hy hr r e in
+disc-valid : (x y radius : Float) → OfDoubles (Disc x y radius) → (r : Rect) → discWindow x y radius ≡ Rounded r → valid r ≡ true
+disc-valid x y radius d r e =
+    let n = radius-not-negative x y radius d r e in
     let i : LowsBelow (exactDisc x y radius) = record { x = spread-order (exactOf x) (exactOf radius) n; y = spread-order (exactOf y) (exactOf radius) n } in
-    held-valid (exactDisc x y radius) r i (disc-held x y radius hx hy hr r e) (disc-good x y radius hx hy hr r e .range)
+    held-valid (exactDisc x y radius) r i (disc-held x y radius d r e) (disc-good x y radius d r e .range)
 
 -- ---- "12, before 3": what is not refused 12 is not refused 3
 
@@ -83,7 +83,7 @@ pub window-valid : (q : Query) → OfDoubles q → (r : Rect) → queryWindow q 
 unfolding queryWindow
 window-valid (Point x y) h r e = box-valid (pointBox x y) r e
 window-valid (Box b) h r e = box-valid b r e
-window-valid (Disc x y radius) h r e = disc-valid x y radius (h .0) (h .1) (h .2) r e
+window-valid (Disc x y radius) h r e = disc-valid x y radius h r e
 
 -- ---- a rectangle that meets the exact box meets the window that holds it
 

@@ -4,6 +4,7 @@ use mathlib.Core.Bool.{Bool, true, false, not, cond, _||_, _&&_, false≢true}
 use Prim.Native.Nat.{ℕ, zero, suc, _+_, _*_, _^_, _≤_, _<_}
 use native.Mathlib.Nat.{mul-one, mul-comm, mul-assoc, mul-right-comm, mul-pos, eq-of-mul-eq-mul-right, add-mul, mul-lt-mul-of-pos-right, lt-of-mul-lt-mul-right, zero-mul, zero-add}
 use native.Mathlib.Omega.{arith}
+use mathlib.Core.Option.{none, some}
 use lib.Dec.{T, ltb, leb, eqb, leb·suc-suc}
 use lib.IntN.{pos, negℤ, _*ℤ_}
 use lib.Signed.{ltZ, leZ}
@@ -15,7 +16,7 @@ use lib.Ieee.Exact.{HasValue, odd-sign}
 use lib.Ieee.Fits.{down-pos, neg-fits}
 use lib.Ieee.Scale.{finite}
 use borrow.Author.Tests.{ltb-true, ltb-false, lt-ltb, le-ltb, eqb-true, eqb-false, eq-eqb, ne-eqb, le-leb, lt-leb}
-use Rattle.rules.specs.Doubles.{Double, minusSign, exponent, fraction, unit, sizeFrom, withSign, numberIn, exactIn, isNumber, exactOf}
+use Rattle.rules.specs.Doubles.{Double, minusSign, exponent, fraction, unit, sizeFrom, withSign, numberIn, exactIn, isNumber, exactOf, valueOf}
 use Rattle.rules_laws.proofs.Bools.{not-true}
 use Rattle.survey_laws.specs.Kit.{SameValue}
 use Rattle.survey_laws.specs.Sizes.{sizeOf, NumberWithin}
@@ -278,11 +279,20 @@ sign-times false a d = refl
 sign-times true zero d = rw (zero-mul d)
 sign-times true (suc a) d = refl
 
+no-value : (x : Float) → isNumber x ≡ false → valueOf x ≡ none
+unfolding valueOf
+no-value x e = rw e
+
+pub has-value : (x : Float) → isNumber x ≡ true → valueOf x ≡ some (exactOf x)
+unfolding valueOf
+has-value x e = rw e
+
 pub same-value : (x : Float) → Double x → SameValue x
-same-value nan h = number-is nan h
-same-value (inf s) h = number-is (inf s) h
+same-value nan h = no-value nan (number-is nan h)
+same-value (inf s) h = no-value (inf s) (number-is (inf s) h)
 same-value (fin s m e) h =
     let x = fin s m e in
     let n = number-is x h in
     let v = own-value x h n in
-    (n, rw (exact-is x s (sizeOf x) h (refl, v .1)) (sign-times s (sizeOf x) (down e) ∙ ap (withSign s) (sym (v .1)) ∙ sym (sign-times s (m * up e) unit)))
+    let times = sign-times s (sizeOf x) (down e) ∙ ap (withSign s) (sym (v .1)) ∙ sym (sign-times s (m * up e) unit) in
+    (exactOf x, has-value x n, rw (exact-is x s (sizeOf x) h (refl, v .1)) times)

@@ -36,3 +36,7 @@ pub record RectWithin (k : ℕ) (r : Rect) : Type 0 where
 -- the two bounds of a box along one axis: none is refused for them
 unfoldable pub spans : Float → Float → Bool
 spans low high = inOrder low high && inRange (floorOf (exactOf low)) && inRange (ceilingOf (exactOf high))
+
+-- the four coordinates of a finished rectangle
+unfoldable pub allInRange : Rect → Bool
+allInRange r = inRange (r .lowX) && inRange (r .lowY) && inRange (r .highX) && inRange (r .highY)
