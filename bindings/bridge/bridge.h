@@ -13,9 +13,9 @@ enum bridge_function { BRIDGE_BLANK, BRIDGE_CHECK, BRIDGE_CALL, BRIDGE_BOX, BRID
 
 struct bridge_call {
     uint64_t function;
-    uint64_t memory;                /* the size of the shared memory in bytes; it may have grown */
-    uint64_t starts[BRIDGE_LISTS];  /* where each list starts in it */
-    uint64_t counts[BRIDGE_LISTS];  /* how many items it has */
+    uint64_t memory;                  /* the size of the shared memory in bytes; it may have grown */
+    uint64_t starts[BRIDGE_LISTS];    /* where each list starts in it */
+    uint64_t counts[BRIDGE_LISTS];    /* how many items it has */
     uint64_t doubles[BRIDGE_DOUBLES]; /* bit by bit, so that nothing on the way can change one */
 };
 

@@ -45,10 +45,12 @@ static pid_t owner;                                      /* the process that sta
 static int file, line;                                   /* the shared memory, and the line to the server */
 static unsigned char *memory;
 static size_t mapped;
+static enum bridge_function function; /* of the call that is being made */
 
 static _Noreturn void fail(const char *what, int error)
 {
-    fprintf(stderr, "dustmap bridge: %s%s%s\n", what, error ? ": " : "", error ? strerror(error) : "");
+    static const char *const names[] = {"blank", "check", "call", "box", "point", "disc"};
+    fprintf(stderr, "dustmap_%s, through the bridge: %s%s%s\n", names[function], what, error ? ": " : "", error ? strerror(error) : "");
     abort();
 }
 
@@ -187,14 +189,14 @@ static unsigned char pattern(size_t at)
     return (unsigned char)(at * 167 + 41);
 }
 
-/* Writes the guard that ends the place `to`, or sees that it is as it was written. */
+/* Writes a guard, or sees that it is as it was written. */
 static void guard(size_t from, size_t to, int written)
 {
     for (size_t at = from; at < to; at++) {
         if (!written)
             memory[at] = pattern(at);
         else if (memory[at] != pattern(at))
-            fail("the function wrote beyond one of its lists", 0);
+            fail("it wrote beyond one of its lists", 0);
     }
 }
 
@@ -223,7 +225,7 @@ static void copy_back(const struct bridge_call *call, const struct list *lists)
         if (bytes && lists[i].written)
             memcpy(lists[i].items, left, bytes);
         else if (bytes && memcmp(lists[i].items, left, bytes) != 0)
-            fail("the function wrote to a list that is lent for reading", 0);
+            fail("it wrote to a list that is lent for reading", 0);
     }
 }
 
@@ -232,6 +234,7 @@ static void copy_back(const struct bridge_call *call, const struct list *lists)
 static int32_t make(struct bridge_call call, const struct list lists[BRIDGE_LISTS])
 {
     lock();
+    function = call.function;
     have_server();
     have_memory(placed(&call, lists));
     call.memory = mapped;
@@ -276,10 +279,10 @@ int32_t dustmap_call(int32_t *pool, size_t pool_len, int32_t *work, size_t work_
 }
 
 /* a function of doubles, which writes a rectangle */
-static int32_t surveyed(enum bridge_function function, const double doubles[BRIDGE_DOUBLES], int32_t rect[4])
+static int32_t surveyed(enum bridge_function asked_for, const double doubles[BRIDGE_DOUBLES], int32_t rect[4])
 {
     struct list lists[BRIDGE_LISTS] = {WRITTEN(int32_t, rect, 4)};
-    struct bridge_call call = {.function = function};
+    struct bridge_call call = {.function = asked_for};
     memcpy(call.doubles, doubles, sizeof call.doubles);
     return make(call, lists);
 }

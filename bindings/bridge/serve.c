@@ -4,6 +4,7 @@
  * usage: serve MEMORY LINE, the numbers of two open files */
 #include "bridge.h"
 #include "dustmap.h"
+#include <signal.h>
 #include <stdio.h>
 #include <stdlib.h>
 #include <string.h>
@@ -61,6 +62,7 @@ int main(int argc, char **argv)
         fprintf(stderr, "usage: serve MEMORY LINE\n");
         return 2;
     }
+    signal(SIGINT, SIG_IGN); /* an interrupt from the terminal is for the near side, which may go on */
     int file = atoi(argv[1]), line = atoi(argv[2]);
     while (read(line, &call, sizeof call) == (ssize_t)sizeof call) {
         map(file, call.memory);
