@@ -1,4 +1,4 @@
-//! Links the static library of the crate `map`, which `rt staticlib map` writes; MAP_LIB names its folder.
+//! Links the static library of the crate `map`, which `tools/library` writes; MAP_LIB names its folder, `target/lib`.
 
 fn main() {
     let folder = std::env::var("MAP_LIB")
