@@ -2,7 +2,7 @@
 use mathlib.Core.Path.{_≡_, refl, sym, ap, _∙_, subst}
 use mathlib.Core.Bool.{Bool, true, false}
 use Prim.Native.Nat.{ℕ, _+_, _-_, _*_, _/_, _^_, _≤_, _<_}
-use native.Mathlib.Nat.{one-mul, mul-comm, mul-sub, zero-mul, mul-pos, add-mul, mul-le-mul-right, le-trans, le-of-eq}
+use native.Mathlib.Nat.{one-mul, mul-comm, mul-sub, zero-mul, add-mul, mul-le-mul-right, le-trans, le-of-eq}
 use native.Mathlib.Nat.{div-mul-le-self, lt-div-mul-add, div-le-of-le-mul, mul-assoc, mul-right-comm, lt-of-lt-of-le}
 use native.Mathlib.Omega.{arith}
 use lib.Dec.{T, ltb, lit≤}
@@ -11,13 +11,13 @@ use lib.Signed.{leZ, ltZ}
 use lib.Pow.{pow-pos, pow-mono, shl-lt}
 use lib.Ieee.{Float, nan, inf, fin, binary64, prec, low, up, down, round, sum, add, sub, neg, le, toBits}
 use lib.Ieee.Exact.{HasValue, units-val, round-exact}
-use lib.Ieee.Fits.{down-pos, round-is, add-fits, neg-fits}
+use lib.Ieee.Fits.{round-is, add-fits, neg-fits}
 use lib.Ieee.Order.{round-mono, kept, drop}
 use lib.Ieee.Scale.{round-same, finite, grid, overflow, round-under}
 use borrow.Author.Tests.{ltb-true, ltb-false, leb-true}
 use Rattle.rules.specs.Doubles.{Double, unit, minusSign, millimetres, withSign, exactOf, floorOf, ceilingOf}
 use Rattle.survey_laws.specs.Sizes.{sizeOf, NumberWithin}
-use Rattle.survey_laws.proofs.Values.{unit-pos, sum-cross, own-value, exact-is, size-is, value-number, ltb-cross, cross, le-value, exact-neg, within-neg}
+use Rattle.survey_laws.proofs.Values.{by-sizes, unit-pos, sum-cross, own-value, exact-is, size-is, value-number, ltb-cross, le-value, exact-neg, within-neg}
 use Rattle.survey_laws.proofs.Linear.{over, under, parts-le, parts-lt, parts-eq, sum-parts, over-mul, under-mul, over-neg, under-neg}
 use Rattle.survey_laws.proofs.Floors.{floor-parts}
 
@@ -28,15 +28,15 @@ sub-mul m n k = mul-comm (m - n) k ∙ mul-sub k m n ∙ ap (λ (x : ℕ). x - k
 dif-cross : (A B C a b : ℕ) → A * unit ≡ a * C → B * unit ≡ b * C → (A - B) * unit ≡ (a - b) * C
 dif-cross A B C a b p q = sub-mul A B unit ∙ ap (λ (n : ℕ). n - B * unit) p ∙ ap (λ (n : ℕ). a * C - n) q ∙ sym (sub-mul a b C)
 
-sum-same : (s t : Bool) (A B C a b : ℕ) → 0 < C → A * unit ≡ a * C → B * unit ≡ b * C → sum binary64 s A t B C ≡ sum binary64 s a t b unit
+sum-same : (s t : Bool) (A B a b C : ℕ) → 0 < C → A * unit ≡ a * C → B * unit ≡ b * C → sum binary64 s A t B C ≡ sum binary64 s a t b unit
 unfolding sum
-sum-same false false A B C a b h p q = round-same binary64 false (A + B) C (a + b) unit h unit-pos (sum-cross A B C a b p q)
-sum-same true true A B C a b h p q = round-same binary64 true (A + B) C (a + b) unit h unit-pos (sum-cross A B C a b p q)
-sum-same false true A B C a b h p q =
+sum-same false false A B a b C h p q = round-same binary64 false (A + B) C (a + b) unit h unit-pos (sum-cross A B C a b p q)
+sum-same true true A B a b C h p q = round-same binary64 true (A + B) C (a + b) unit h unit-pos (sum-cross A B C a b p q)
+sum-same false true A B a b C h p q =
     let more = round-same binary64 true (B - A) C (b - a) unit h unit-pos (dif-cross B A C b a q p) in
     let less = round-same binary64 false (A - B) C (a - b) unit h unit-pos (dif-cross A B C a b p q) in
     rw (ltb-cross A B a b C h p q, more, less)
-sum-same true false A B C a b h p q =
+sum-same true false A B a b C h p q =
     let more = round-same binary64 false (B - A) C (b - a) unit h unit-pos (dif-cross B A C b a q p) in
     let less = round-same binary64 (ltb b a) (A - B) C (a - b) unit h unit-pos (dif-cross A B C a b p q) in
     rw (ltb-cross A B a b C h p q, ltb-cross B A b a C h q p, more, less)
@@ -47,10 +47,7 @@ add-value nan y s t a b p q = absurd p
 add-value (inf u) y s t a b p q = absurd p
 add-value (fin u m e) nan s t a b p q = absurd q
 add-value (fin u m e) (inf v) s t a b p q = absurd q
-add-value (fin u m e) (fin v n d) s t a b p q =
-    sum-same u v (m * up e * down d) (n * up d * down e) (down e * down d) a b (mul-pos (down-pos e) (down-pos d))
-    (cross (m * up e) (down e) (down d) a (p .1)) (cross (n * up d) (down d) (down e) b (q .1) ∙ ap (λ (k : ℕ). b * k) (mul-comm (down d) (down e)))
-    ∙ ap (λ (z : Bool). sum binary64 z a v b unit) (p .0) ∙ ap (λ (z : Bool). sum binary64 s a z b unit) (q .0)
+add-value (fin u m e) (fin v n d) s t a b p q = by-sizes (sum binary64) sum-same u v m n e d s t a b p q
 
 -- ---- the sum is one rounding of the exact sum
 pub record OneRounding (s t : Bool) (a b : ℕ) : Type 0 where

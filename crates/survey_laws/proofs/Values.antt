@@ -6,7 +6,7 @@ use native.Mathlib.Nat.{mul-one, mul-comm, mul-assoc, mul-right-comm, mul-pos, e
 use native.Mathlib.Omega.{arith}
 use mathlib.Core.Option.{none, some}
 use lib.Dec.{T, ltb, leb, eqb, leb·suc-suc}
-use lib.IntN.{pos, negℤ, _*ℤ_}
+use lib.IntN.{ℤ, pos, negℤ, _*ℤ_}
 use lib.Signed.{ltZ, leZ}
 use lib.Arith.{lt-of-le-ne}
 use lib.Pow.{pow-pos}
@@ -148,6 +148,16 @@ below-less false true a b = sym (pos-neg a b)
 below-less true false a b = sym (neg-pos a b)
 below-less true true a b = sym (neg-lt a b)
 
+-- What is made of two doubles' signs and sizes, and is the same over any common denominator, is made of their sizes in units.
+pub by-sizes : {R : Type 0} (make : Bool → ℕ → Bool → ℕ → ℕ → R)
+    → ((s t : Bool) (X Y a b C : ℕ) → 0 < C → X * unit ≡ a * C → Y * unit ≡ b * C → make s X t Y C ≡ make s a t b unit)
+    → (u v : Bool) (m n : ℕ) (e d : ℤ) (s t : Bool) (a b : ℕ) → HasValue (fin u m e) s a unit → HasValue (fin v n d) t b unit
+    → make u (m * up e * down d) v (n * up d * down e) (down e * down d) ≡ make s a t b unit
+by-sizes make same u v m n e d s t a b p q =
+    same u v (m * up e * down d) (n * up d * down e) a b (down e * down d) (mul-pos (down-pos e) (down-pos d))
+    (cross (m * up e) (down e) (down d) a (p .1)) (cross (n * up d) (down d) (down e) b (q .1) ∙ ap (λ (k : ℕ). b * k) (mul-comm (down d) (down e)))
+    ∙ ap (λ (z : Bool). make z a v b unit) (p .0) ∙ ap (λ (z : Bool). make s a z b unit) (q .0)
+
 pub lt-value : (x y : Float) (s t : Bool) (a b : ℕ) → HasValue x s a unit → HasValue y t b unit → lt x y ≡ ltZ (withSign s a) (withSign t b)
 unfolding lt
 lt-value nan y s t a b p q = absurd p
@@ -155,9 +165,7 @@ lt-value (inf u) y s t a b p q = absurd p
 lt-value (fin u m e) nan s t a b p q = absurd q
 lt-value (fin u m e) (inf v) s t a b p q = absurd q
 lt-value (fin u m e) (fin v n d) s t a b p q =
-    below-cross u v (m * up e * down d) (n * up d * down e) a b (down e * down d) (mul-pos (down-pos e) (down-pos d))
-    (cross (m * up e) (down e) (down d) a (p .1)) (cross (n * up d) (down d) (down e) b (q .1) ∙ ap (λ (k : ℕ). b * k) (mul-comm (down d) (down e)))
-    ∙ below-less u v a b ∙ ap (λ (z : Bool). ltZ (withSign z a) (withSign v b)) (p .0) ∙ ap (λ (z : Bool). ltZ (withSign s a) (withSign z b)) (q .0)
+    by-sizes (λ s X t Y C. below s X t Y) below-cross u v m n e d s t a b p q ∙ below-less s t a b
 
 -- ---- at most
 eqb-same : (a b c d : ℕ) → (a ≡ b → c ≡ d) → (c ≡ d → a ≡ b) → eqb a b ≡ eqb c d
@@ -219,9 +227,7 @@ le-value (inf u) y s t a b p q = absurd p
 le-value (fin u m e) nan s t a b p q = absurd q
 le-value (fin u m e) (inf v) s t a b p q = absurd q
 le-value (fin u m e) (fin v n d) s t a b p q =
-    level-cross u v (m * up e * down d) (n * up d * down e) a b (down e * down d) (mul-pos (down-pos e) (down-pos d))
-    (cross (m * up e) (down e) (down d) a (p .1)) (cross (n * up d) (down d) (down e) b (q .1) ∙ ap (λ (k : ℕ). b * k) (mul-comm (down d) (down e)))
-    ∙ at-most u v a b ∙ ap (λ (z : Bool). leZ (withSign z a) (withSign v b)) (p .0) ∙ ap (λ (z : Bool). leZ (withSign s a) (withSign z b)) (q .0)
+    by-sizes (λ s X t Y C. below s X t Y || level s X t Y) level-cross u v m n e d s t a b p q ∙ at-most s t a b
 
 -- ---- the double with the other sign
 pub neg-value : (x : Float) (s : Bool) (a : ℕ) → HasValue x s a unit → HasValue (neg x) (not s) a unit
