@@ -4,17 +4,18 @@
 #include <algorithm>
 #include <cstdio>
 #include <cstdlib>
+#include <cstring>
 
 #include "workloads.hpp"
 
-// What the searches of a run found, to see that two maps were given the same requests and gave the same answers.
+// What the searches of a run found, in order, to see that two maps were given the same requests and gave the same answers.
 struct Shown {
     uint64_t records = 0;
     uint64_t numbers = 0;
 
     void add(int32_t number) {
         ++records;
-        numbers += static_cast<uint64_t>(number);
+        numbers = 31 * numbers + static_cast<uint64_t>(number);
     }
 
     bool operator==(const Shown &other) const { return records == other.records && numbers == other.numbers; }
@@ -31,10 +32,19 @@ public:
         }
     }
 
-    void call(const dustmap_request *requests, size_t count) {
-        must(dustmap_call(pool.data(), pool.size(), work.data(), work.size(), requests, count, answers.data(), count,
-                          found.data(), found.size()) == 0);
+    void call(const dustmap_request *requests, size_t count) { must(returned(requests, count) == 0); }
+
+    // A call with no request: the number that it returns, 2 where the pool is not sound.
+    int32_t empty_call() {
+        const dustmap_request none{};
+        return returned(&none, 0);
     }
+
+    // A copy of the pool, as memcpy makes it: what the time of a call is held against.
+    void copy() { std::memcpy(work.data(), pool.data(), pool.size() * sizeof(int32_t)); }
+
+    // The words, to do damage.
+    std::vector<int32_t> &damaged() { return pool; }
 
     // The same requests in one batch: every one has to be accepted. Gives what the searches found.
     Shown shown(const Requests &requests) {
@@ -75,6 +85,11 @@ public:
     static constexpr size_t most = 1'024;
 
 private:
+    int32_t returned(const dustmap_request *requests, size_t count) {
+        return dustmap_call(pool.data(), pool.size(), work.data(), work.size(), requests, count, answers.data(), count,
+                            found.data(), found.size());
+    }
+
     static void must(bool holds) {
         if (holds) return;
         std::fprintf(stderr, "bench: a call or a request was refused\n");

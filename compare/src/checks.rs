@@ -1,6 +1,7 @@
 //! Blanking, and the check of soundness, on blank, sound, damaged, garbage and hostile pools.
 
 use crate::both::lend;
+use crate::detached;
 use crate::lent::Lent;
 use crate::pools;
 use crate::seen::Seen;
@@ -49,12 +50,13 @@ pub fn pools(dice: &mut Dice, tally: &mut Tally, seen: &mut Seen) {
     for (slots, count) in PLAN {
         for (what, pool) in pools_of(slots, count, dice) {
             ask(what, &pool, tally, seen);
+            seen.note(format!("pool: {what}"));
             call_over(what, pool, dice, tally, seen);
         }
     }
 }
 
-/// Sound, damaged, garbage and hostile pools of one size.
+/// Sound, damaged, garbage, hostile pools of one size, and those that are not one tree.
 fn pools_of(slots: usize, count: usize, dice: &mut Dice) -> Vec<(&'static str, Vec<i32>)> {
     let mut pools = Vec::new();
     let most = (slots as i64 * 9).min(3_000);
@@ -62,6 +64,7 @@ fn pools_of(slots: usize, count: usize, dice: &mut Dice) -> Vec<(&'static str, V
         let seed = dice.below(1 << 40);
         let sound = pools::sound_pool(dice, slots, most);
         pools.push(("wrong at the end", pools::wrong_at_the_end(sound.clone())));
+        pools.extend(detached::all(&sound));
         pools.push(("sound", sound));
         pools.extend((0..4).map(|k| ("damaged", damaged_pool(seed + k, slots))));
         pools.push(("garbage", pools::garbage(dice, slots)));

@@ -106,9 +106,33 @@ impl History {
     /// thin, each in a call of its own over the same pool.
     fn probe(&mut self, title: &str, tally: &mut Tally, seen: &mut Seen) {
         for request in deletes_that_condense(&self.pool) {
-            let lent = self.lists(Drawn { requests: vec![request], all_found: 0 });
-            lend(&format!("{title}, probed"), &lent, tally, seen);
+            self.probe_with(request, title, tally, seen);
         }
+        for records in [3, 4] {
+            self.probe_leaf(records, title, tally, seen);
+        }
+    }
+
+    /// A leaf that a delete leaves too thin, and one that it leaves just thick enough: a delete and an update of any record of one.
+    fn probe_leaf(&mut self, records: i32, title: &str, tally: &mut Tally, seen: &mut Seen) {
+        let leaves = leaves_of(&self.pool, records);
+        if leaves.is_empty() {
+            return;
+        }
+        let leaf = &leaves[self.dice.below(leaves.len() as u64) as usize];
+        let (number, rect) = self.dice.pick(leaf);
+        let [x, y] = [0, 1].map(|_| self.dice.between(-1_000, 1_000) as i32);
+        for request in
+            [Request::delete(number, rect), Request::update(number, rect, [x, y, x + 3, y])]
+        {
+            self.probe_with(request, title, tally, seen);
+        }
+        seen.note(format!("delete and update at a leaf of {records}"));
+    }
+
+    fn probe_with(&mut self, request: Request, title: &str, tally: &mut Tally, seen: &mut Seen) {
+        let lent = self.lists(Drawn { requests: vec![request], all_found: 0 });
+        lend(&format!("{title}, probed"), &lent, tally, seen);
     }
 
     /// Each request is drawn over the records that the requests before it left in force: the second program does them one by
@@ -175,10 +199,16 @@ impl History {
 
 /// A delete for each leaf of three records, of a pool that has no free slot.
 fn deletes_that_condense(pool: &[i32]) -> Vec<Request> {
-    let slots: Vec<&[i32]> = pool[HEAD_WORDS..].chunks_exact(SLOT_WORDS).collect();
-    if slots.iter().any(|slot| slot[0] == 0) {
+    if pool[HEAD_WORDS..].chunks_exact(SLOT_WORDS).any(|slot| slot[0] == 0) {
         return Vec::new();
     }
-    let thin = slots.iter().filter(|slot| slot[0] == 1 && slot[1] == 3);
-    thin.map(|slot| Request::delete(slot[6], [slot[2], slot[3], slot[4], slot[5]])).collect()
+    leaves_of(pool, 3).iter().map(|leaf| Request::delete(leaf[0].0, leaf[0].1)).collect()
+}
+
+/// The records, by number and rectangle, of each leaf that has so many.
+fn leaves_of(pool: &[i32], records: i32) -> Vec<Vec<(i32, [i32; 4])>> {
+    let leaves =
+        pool[HEAD_WORDS..].chunks_exact(SLOT_WORDS).filter(|s| s[0] == 1 && s[1] == records);
+    let record = |e: &[i32]| (e[4], [e[0], e[1], e[2], e[3]]);
+    leaves.map(|s| s[2..].chunks_exact(5).take(records as usize).map(record).collect()).collect()
 }

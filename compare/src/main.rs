@@ -4,12 +4,14 @@
 
 mod both;
 mod checks;
+mod detached;
 mod histories;
 mod largest;
 mod lent;
 mod pools;
 mod scripts;
 mod seen;
+mod sizes;
 mod spoil;
 mod survey;
 mod survey_met;
@@ -33,6 +35,7 @@ fn main() {
         checks::pools(&mut dice, &mut tally, &mut seen);
         histories::all(seed.wrapping_add(round << 20), &mut tally, &mut seen);
         twice::all(&mut dice, &mut tally, &mut seen);
+        sizes::all(&mut dice, &mut tally, &mut seen);
         survey::all(seed.wrapping_add(round), &mut tally, &mut seen);
     }
     let full = largest::filled(&mut tally);

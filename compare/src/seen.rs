@@ -12,7 +12,7 @@ use std::collections::BTreeMap;
 const CALL_REFUSALS: [i32; 4] = [9, 1, 2, -1];
 
 /// Everything that has to be met, by name.
-const WANTED: [&str; 57] = [
+const WANTED: [&str; 73] = [
     "check said 0",
     "check said 1",
     "check said 2",
@@ -70,6 +70,22 @@ const WANTED: [&str; 57] = [
     "pair held twice: update 6",
     "search by a survey window found records",
     "search by a survey window found nothing",
+    "pool: a detached leaf",
+    "pool: a detached tree",
+    "pool: a node that is its own child",
+    "pool: two nodes that are each other's child",
+    "pool: a ring of three nodes",
+    "pool: a child met twice in one node",
+    "pool: a child met in two nodes",
+    "pool: a detached part that leads into the tree",
+    "delete and update at a leaf of 3",
+    "delete and update at a leaf of 4",
+    "every size found, numbers from 1 to 3",
+    "every size found, all numbers equal",
+    "every size found, any numbers",
+    "every size found, numbers falling",
+    "every size found, numbers close together, far from 1",
+    "every size found, one number in ten far from the others",
 ];
 
 #[derive(Default)]
