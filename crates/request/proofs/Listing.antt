@@ -1,5 +1,5 @@
--- A search in words: what it may write, and what it leaves. It finds no more records than the slots have places for, so the workspace has two
--- words for each.
+-- A search in words: what it may write, and what it leaves. It finds no more records than the slots have places for, so the workspace has
+-- two words for each, and for one more.
 use mathlib.Core.Path.{_≡_, refl, sym, ap, subst, _∙_}
 use mathlib.Core.Bool.{true, false}
 use mathlib.Core.List.{List, []}

@@ -28,8 +28,21 @@ use Rattle.rules_laws.proofs.Turns.{up-more, up-none}
 use Rattle.pool.proofs.Parts.{rect-entry}
 use Rattle.nodes.proofs.Slots.{same-entries, most-entries}
 use Rattle.search_laws.proofs.Clauses.{found-none, found-leaf, found-inner, opened-none, opened-leaf, opened-inner}
-use Rattle.search.specs.State.{meetsAt, meetingFrom, meetingPlaces, foundAt, recordsAt, openedBelow, foundBelow}
+use Rattle.search.specs.State.{meetsAt, meetingFrom, meetingPlaces, foundAt}
 use Rattle.search.proofs.Sums.{total-end, total-next, joined-end, joined-next}
+
+-- ---- what search does at some places of a node
+
+-- the records at these places of a leaf
+unfoldable pub leafRecords : Pool → SlotNumber → List ℕ → List Record
+leafRecords p s places = map (λ (i : ℕ). recordOf (entryAt p s i)) places
+
+-- the nodes opened, and the records found, below the entries at these places, whose children have the level given
+unfoldable pub openedBelow : Pool → Rect → ℕ → SlotNumber → List ℕ → ℕ
+openedBelow p window level s places = total (map (λ (i : ℕ). openedIn p window level (childOf (entryAt p s i))) places)
+
+unfoldable pub foundBelow : Pool → Rect → ℕ → SlotNumber → List ℕ → List Record
+foundBelow p window level s places = joined (map (λ (i : ℕ). foundIn p window level (childOf (entryAt p s i))) places)
 
 module _ (p : Pool) (window : Rect) where
   -- ---- one entry, as the code tests it
@@ -77,17 +90,17 @@ module _ (p : Pool) (window : Rect) where
             rw (e, z, take-set-le count places count i (omega arith), meeting-no h e)
 
     -- a leaf's records at those places
-    pub records-end : length (entriesAt p s) ≤ i → recordsAt p s (meetingFrom p window s i) ≡ []
-    unfolding recordsAt
+    pub records-end : length (entriesAt p s) ≤ i → leafRecords p s (meetingFrom p window s i) ≡ []
+    unfolding leafRecords
     records-end h = rw (meeting-end h)
 
     pub records-next : i < length (entriesAt p s)
-        → recordsAt p s (meetingFrom p window s i) ≡ foundAt p window s i ++ recordsAt p s (meetingFrom p window s (i + 1))
-    unfolding recordsAt
+        → leafRecords p s (meetingFrom p window s i) ≡ foundAt p window s i ++ leafRecords p s (meetingFrom p window s (i + 1))
+    unfolding leafRecords
     records-next h = go (meetsAt p window s i) refl
       where
         go : (b : Bool) → meetsAt p window s i ≡ b
-            → recordsAt p s (meetingFrom p window s i) ≡ foundAt p window s i ++ recordsAt p s (meetingFrom p window s (i + 1))
+            → leafRecords p s (meetingFrom p window s i) ≡ foundAt p window s i ++ leafRecords p s (meetingFrom p window s (i + 1))
         go true e = rw (meeting-yes h e, found-yes s i e)
         go false e = rw (meeting-no h e, found-no s i e)
 
@@ -119,8 +132,8 @@ module _ (p : Pool) (window : Rect) where
 
   -- ---- a node, by its places
 
-  pub leaf-found : (s : SlotNumber) → foundIn p window 1 s ≡ recordsAt p s (meetingPlaces p window s)
-  unfolding recordsAt
+  pub leaf-found : (s : SlotNumber) → foundIn p window 1 s ≡ leafRecords p s (meetingPlaces p window s)
+  unfolding leafRecords
   leaf-found s = found-leaf p window s ∙ ap (map recordOf) (meeting-entries s) ∙ map-map recordOf (entryAt p s) (meetingPlaces p window s)
 
   inner-found : (l : ℕ) (s : SlotNumber) → foundIn p window (suc (suc l)) s ≡ foundBelow p window (suc l) s (meetingPlaces p window s)

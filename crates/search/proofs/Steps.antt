@@ -82,7 +82,7 @@ went-both {pool} {u} {v} {x} {a} {b} {c} {rs} {ts} {all} {m} {n} {both} d e h k 
     first : SameItems x v (a .next) (length rs)
     first = record { word = λ i l g. k .stay i (omega (arith, h .next)) }
 
--- ---- a walk underway, from a to z and from the items u to the items x: it has come to b and the items v, and this is left of it
+-- ---- a walk underway: from a and the items u it has come to b and the items v. `rest` and n are left of `all` and m
 
 pub record Underway (pool u v : List ℤ) (a b : Walked) (all rest : List Record) (m n : ℕ) : Type 0 where
   pub room : ItemRoom v b rest n

@@ -15,9 +15,9 @@ use Rattle.rules.specs.Layout.{read}
 use Rattle.rules.specs.Search.{foundIn, openedIn}
 use Rattle.search_laws.proofs.Clauses.{found-none, opened-none, opened-leaf}
 use Rattle.search.specs.declared.Walked.{Walked}
-use Rattle.search.specs.State.{meetsAt, meetingFrom, meetingPlaces, foundAt, recordsAt, openedBelow, foundBelow}
+use Rattle.search.specs.State.{meetsAt, meetingFrom, meetingPlaces, foundAt}
 use Rattle.search.specs.Walk.{walked, ItemRoom, Went}
-use Rattle.search.proofs.Meeting.{gathers, meeting-end, meeting-inside, records-end, records-next, leaf-found, same-found}
+use Rattle.search.proofs.Meeting.{leafRecords, openedBelow, foundBelow, gathers, meeting-end, meeting-inside, records-end, records-next, leaf-found, same-found}
 use Rattle.search.proofs.Meeting.{same-opened, node-found, node-opened, opened-end, found-end, opened-next, found-next}
 use Rattle.search.proofs.Steps.{Underway, sets-out, arrives, next-room, goes-on, room-same, went-same, went-none, room-opens, went-opens, went-beside}
 
@@ -26,7 +26,7 @@ use Rattle.search.proofs.Steps.{Underway, sets-out, arrives, next-room,
 pub record Gathered (w : List ℤ) (window : Rect) (s : SlotNumber) (places : List ℕ) (count i : ℕ) : Type 0 where
   pub few : count ≤ i
   pub most : i ≤ length (entriesAt (read w) s)
-  pub long : length places ≡ 9
+  pub long : length places ≡ 8
   pub are : take count places ++ meetingFrom (read w) window s i ≡ meetingPlaces (read w) window s
 
 module _ {w : List ℤ} {window : Rect} {s : SlotNumber} {places : List ℕ} {count i : ℕ} (g : Gathered w window s places count i) where
@@ -53,7 +53,7 @@ module _ (w : List ℤ) (window : Rect) where
 
   module _ (s : SlotNumber) where
     abbrev pub LeafWalk : List ℤ → List ℤ → Walked → ℕ → ℕ → Type 0
-    LeafWalk u v a next i = Underway w u v a (walked next (a .opened)) (foundIn p window 1 s) (recordsAt p s (meetingFrom p window s i)) 0 0
+    LeafWalk u v a next i = Underway w u v a (walked next (a .opened)) (foundIn p window 1 s) (leafRecords p s (meetingFrom p window s i)) 0 0
 
     pub leaf-begins : {u : List ℤ} {a : Walked} → ItemRoom u a (foundIn p window 1 s) 1 → LeafWalk u u a (a .next) 0
     leaf-begins r = sets-out (leaf-found p window s) refl (room-opens r)
@@ -63,7 +63,7 @@ module _ (w : List ℤ) (window : Rect) where
       item-room = omega (arith, g .room .room)
 
       pub leaf-turn : i < length (entriesAt p s) → {x : List ℤ} {then : ℕ} → Went w v x (walked next 0) (walked then 0) (foundAt p window s i) 0 → LeafWalk u x a then (i + 1)
-      leaf-turn h e = goes-on g (foundAt p window s i) (recordsAt p s (meetingFrom p window s (i + 1))) 0 0 (records-next p window s i h) refl (went-beside (a .opened) e)
+      leaf-turn h e = goes-on g (foundAt p window s i) (leafRecords p s (meetingFrom p window s (i + 1))) 0 0 (records-next p window s i h) refl (went-beside (a .opened) e)
 
       pub leaf-ends : length (entriesAt p s) ≤ i → Went w u v a (walked next (a .opened + 1)) (foundIn p window 1 s) 1
       leaf-ends h = went-opens (arrives g (records-end p window s i h) refl)
@@ -107,11 +107,6 @@ module _ (w : List ℤ) (window : Rect) where
       pub node-room : {u : List ℤ} {a : Walked} → ItemRoom u a (foundIn p window level s) (openedIn p window level s)
           → ItemRoom u a (foundBelow p window (level - 1) t places) (openedBelow p window (level - 1) t places)
       node-room r = room-opens (room-same found-are opened-are r)
-
-      -- with the node itself, no more than 8 levels can open
-      pub node-few : {u v : List ℤ} {a z : Walked} → ItemRoom u a (foundIn p window level s) (openedIn p window level s)
-          → Went w u v a z (foundBelow p window (level - 1) t places) (openedBelow p window (level - 1) t places) → z .opened + 1 ≤ 43046721
-      node-few r g = omega (arith, opened-are, r .opened, g .opened)
 
       pub node-went : {u v : List ℤ} {a z : Walked} → Went w u v a z (foundBelow p window (level - 1) t places) (openedBelow p window (level - 1) t places)
           → Went w u v a (walked (z .next) (z .opened + 1)) (foundIn p window level s) (openedIn p window level s)

@@ -1,5 +1,5 @@
 -- What a walk that finds some records and opens some nodes needs, and what it does: the records become the next items, the nodes are
--- counted, and the items before stay. Of what comes after the last item nothing is said: an item is written there before it is known to stay.
+-- counted, and the items before stay. Of what comes after the last item nothing is said: an item is written there before it is known to be kept.
 use mathlib.Core.Path.{_≡_}
 use mathlib.Core.List.{List}
 use Prim.Native.Nat.{ℕ, _+_, _*_, _≤_, _<_}

@@ -15,7 +15,7 @@ ghost use Rattle.pool.specs.Slots.{InPool};
 ghost use Rattle.found_items.specs.Items.{itemsFrom, Pointing};
 ghost use Rattle.search.specs.State.{meetsAt, foundAt, meetingPlaces};
 ghost use Rattle.search.specs.Walk.{walked, ItemRoom, Went};
-use rules::NINE;
+use rules::MOST;
 use rules::Rect;
 use rules::SlotNumber;
 
@@ -27,7 +27,15 @@ pub struct Walked {
 
 // ---- one node
 
-// 1 where the entry at place i meets the window, "touching counts", and 0 where it does not: how far the next place moves on.
+// 1 where it is so, 0 where it is not: a sum in place of a branch.
+fn one_if(b: bool) -> usize
+    ensures is { λ r. ⌜ r ≡ cond b 1 0 ⌝ }
+    ensures most { λ r. ⌜ r ≤ 1 ⌝ }
+{
+    if b { 1 } else { 0 }
+}
+
+// How far the next place moves on at the entry at place i: by 1 where it meets the window, "touching counts", otherwise not.
 fn met(pool: &[i32], window: Rect, s: SlotNumber, i: usize) -> usize
     requires { ⌜ InPool (now pool) s ⌝ }
     requires { ⌜ i < length (P.entriesAt (L.read (now pool)) s) ⌝ }
@@ -35,18 +43,18 @@ fn met(pool: &[i32], window: Rect, s: SlotNumber, i: usize) -> usize
     ensures most { λ r. ⌜ r ≤ 1 ⌝ }
 {
     let r = pool::rect_of(pool, s, i);
-    if geometry::meets(r, window) { 1 } else { 0 }
+    one_if(geometry::meets(r, window))
 }
 
-// The places of the entries that meet the window, one after another, and how many they are. Each place is written down, and stays where its
+// The places of the entries that meet the window, one after another, and how many they are. Every place is written down, and kept where its
 // entry meets the window; otherwise the next is written over it.
-fn gather(pool: &[i32], window: Rect, s: SlotNumber, places: &mut [usize; NINE]) -> usize
+fn gather(pool: &[i32], window: Rect, s: SlotNumber, places: &mut [usize; MOST]) -> usize
     requires { ⌜ L.validLength (now pool) ≡ true ⌝ }
     requires { ⌜ 1 ≤ s .0 ⌝ }
-    requires { ⌜ length (now places) ≡ most + 1 ⌝ }
+    requires { ⌜ length (now places) ≡ most ⌝ }
     ensures is { λ r. ⌜ take r (now (places .exit)) ≡ meetingPlaces (L.read (now (pool .entry))) window s ⌝ }
     ensures most { λ r. ⌜ r ≤ most ⌝ }
-    ensures long { λ _. ⌜ length (now (places .exit)) ≡ most + 1 ⌝ }
+    ensures long { λ _. ⌜ length (now (places .exit)) ≡ most ⌝ }
 {
     let n = nodes::count_at(pool, s);
     let mut count: usize = 0;
@@ -59,8 +67,8 @@ fn gather(pool: &[i32], window: Rect, s: SlotNumber, places: &mut [usize; NINE])
     count
 }
 
-// The item of the leaf's entry at place i is written at the next place, and stays there where the entry meets the window. The place of the
-// item after it comes back.
+// The item of the leaf's entry at place i is written at the next place, and kept where the entry meets the window; otherwise the next item is
+// written over it. What comes back is the place after the items that are kept.
 fn list_entry(
     pool: &[i32],
     window: Rect,
@@ -101,7 +109,7 @@ fn list_leaf(pool: &[i32], window: Rect, s: SlotNumber, items: &mut [i32], done:
 // ---- the walk
 
 // The records that search finds from the node at s down, which has the level given, become items, and each node that it opens is counted:
-// it "opens every child whose entry rectangle meets the window".
+// it "opens every child whose entry rectangle meets the window". A node of level 0 is none: nothing is found or opened there.
 fn list_node(
     pool: &[i32],
     window: Rect,
@@ -121,7 +129,7 @@ fn list_node(
     if level == 1 {
         return list_leaf(pool, window, t, items, done);
     }
-    let mut places = [0usize; NINE];
+    let mut places = [0usize; MOST];
     let n = gather(pool, window, t, &mut places);
     let mut w = done;
     let mut k: usize = 0;
@@ -136,7 +144,7 @@ fn list_node(
 }
 
 // "Search descends from the root and opens every child whose entry rectangle meets the window." "The root is always opened." The records
-// found become items, in the order in which the search meets them. An item is written before it is known to stay, so there is room for one
+// found become items, in the order in which the search meets them. An item is written before it is known to be kept, so there is room for one
 // item more.
 pub fn list(pool: &[i32], window: Rect, items: &mut [i32]) -> Walked
     requires { ⌜ L.validLength (now pool) ≡ true ⌝ }

@@ -1,8 +1,9 @@
+-- The walk: a node, and the children gathered, one level lower. Each turn of the loop is a walk of its own, and the room for the rest stays.
 use mathlib.Core.Path.{refl}
 use borrow.Author.Needs.{needs}
 use Prim.Native.Nat.{_-_}
 use native.Mathlib.Omega.{arith}
-use Rattle.search.proofs.Turns.{none-went, leaf-room, leaf-went, node-room, node-few, node-went, ChildWalk, children-begin, children-end, child-there, child-room, child-turn}
+use Rattle.search.proofs.Turns.{none-went, leaf-room, leaf-went, node-room, node-went, ChildWalk, children-begin, children-end, child-there, child-room, child-turn}
 use Prim.Native.Nat.{ℕ, _<_}
 use borrow.Fn.Kinds.{In}
 use borrow.Fn.PlainCycle.{Measures, is, falls, and}
@@ -116,8 +117,8 @@ list-node-child-at-requires t c κs =
     let gather = c .before .before .gather in (
       start .pre .1 .0,
       child-there (start .args .pool .now) (start .args .window) (start .args .level - 1) (slot-read .result) (gather .last .1 .1 .1 .0)
-          (gather .result) (omega (arith, gather .ensures .1 .0, gather .ensures .1 .1)) (c .before .loop .k) (c .loop-test .taken)
-          (gather .ensures .0),
+          (gather .result) (omega (arith, gather .ensures .1 .0, gather .ensures .1 .1)) (c .before .loop .k)
+          (omega (arith, c .loop-test .taken)) (gather .ensures .0),
     )
 
 list-node-sub-list-node : (t : ℕ)
@@ -140,8 +141,8 @@ list-node-list-node-requires t c κs =
       (
         start .pre .1 .0,
         child-room (start .args .pool .now) (start .args .window) (start .args .level - 1) (slot-read .result) (gather .last .1 .1 .1 .0)
-            (gather .result) (omega (arith, gather .ensures .1 .0, gather .ensures .1 .1)) (loop .k) (loop-test .taken) (child-at .result)
-            (child-at .ensures) (loop .inv),
+            (gather .result) (omega (arith, gather .ensures .1 .0, gather .ensures .1 .1)) (loop .k) (omega (arith, loop-test .taken))
+            (child-at .result) (child-at .ensures) (loop .inv),
       ),
     )
 
@@ -165,28 +166,11 @@ list-node-loop-again t c =
     let loop-test = c .before .before .before .before .loop-test in
     let child-at = c .before .before .before .child-at in
     child-turn (start .args .pool .now) (start .args .window) (start .args .level - 1) (slot-read .result) (gather .last .1 .1 .1 .0)
-    (gather .result) (omega (arith, gather .ensures .1 .0, gather .ensures .1 .1)) (loop .k) (loop-test .taken) (child-at .result)
-    (child-at .ensures) (loop .inv) (c .before .list-node .ensures)
+    (gather .result) (omega (arith, gather .ensures .1 .0, gather .ensures .1 .1)) (loop .k) (omega (arith, loop-test .taken))
+    (child-at .result) (child-at .ensures) (loop .inv) (c .before .list-node .ensures)
 
 list-node-add-opened : (t : ℕ) → list-node-lts.Need-add-opened (list-node-calls t) (list-node-at t) list-node.Post list-node-Inv-loop list-node-μ-loop
-list-node-add-opened t c =
-    let start = c .before .before .before .before .before .before .before .before in
-    let if1 = c .before .before .before .before .before .before .before .if1 in
-    let slot-read = c .before .before .before .before .before .before .slot-read in
-    let if2 = c .before .before .before .before .before .if2 in
-    let gather = c .before .before .before .gather in
-    let loop = c .before .before .loop in
-    record {
-      fits = omega (
-        arith,
-        node-few (start .args .pool .now) (start .args .window) (start .args .level) (start .args .s) (slot-read .result)
-            (slot-read .ensures .1) (if1 .left) (if2 .left) (gather .last .1 .1 .1 .0) (gather .result) (gather .ensures .0)
-            (start .pre .1 .1)
-            (children-end (start .args .pool .now) (start .args .window) (start .args .level - 1) (slot-read .result)
-            (gather .last .1 .1 .1 .0) (gather .result) (omega (arith, gather .ensures .1 .0, gather .ensures .1 .1)) (loop .k)
-            (c .before .loop-test .left) (loop .inv)),
-      );
-    }
+list-node-add-opened t c = record { fits = omega (arith, c .before .before .loop .inv .room .opened) }
 
 list-node-same-length-2 : (t : ℕ)
     → list-node-lts.Need-same-length-2 (list-node-calls t) (list-node-at t) list-node.Post list-node-Inv-loop list-node-μ-loop
@@ -203,7 +187,8 @@ list-node-returns-3 t c =
     node-went (start .args .pool .now) (start .args .window) (start .args .level) (start .args .s) (slot-read .result)
     (slot-read .ensures .1) (if1 .left) (if2 .left) (gather .last .1 .1 .1 .0) (gather .result) (gather .ensures .0)
     (children-end (start .args .pool .now) (start .args .window) (start .args .level - 1) (slot-read .result) (gather .last .1 .1 .1 .0)
-    (gather .result) (omega (arith, gather .ensures .1 .0, gather .ensures .1 .1)) (loop .k) (c .before .loop-test .left) (loop .inv))
+    (gather .result) (omega (arith, gather .ensures .1 .0, gather .ensures .1 .1)) (loop .k) (omega (arith, c .before .loop-test .left))
+    (loop .inv))
 
 pub +list-node-spec : {M : Type 1} → statement M
 +list-node-spec = close μ-list-node λ t. list-node-lts.spec (list-node-calls t)

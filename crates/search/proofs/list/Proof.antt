@@ -1,3 +1,4 @@
+-- From the root on, with nothing found or opened before.
 use Rattle.search.proofs.Steps.{top-room, top-went}
 use borrow.Author.Needs.{needs}
 use Rattle.search.proofs.list.Statement.{statement}

@@ -1,3 +1,4 @@
+-- A leaf, an entry at a time.
 use Prim.Native.Nat.{_-_, _<_}
 use lib.ListN.{length}
 use Rattle.rules.specs.Pool.{entriesAt}

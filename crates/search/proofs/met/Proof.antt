@@ -1,4 +1,3 @@
-use native.Mathlib.Omega.{arith}
 use mathlib.Core.Path.{sym, ap, _∙_}
 use mathlib.Core.Bool.{Bool, cond}
 use Rattle.rules.specs.Layout.{read}
@@ -12,24 +11,12 @@ returns c =
     let start = c .before .before .before in
     let rect-of = c .before .before .rect-of in
     let meets = c .before .meets in (
-      sym (ap (λ (t : Bool). cond t 1 0)
+      c .one-if .ensures .0
+          ∙ sym (ap (λ (t : Bool). cond t 1 0)
           (met-is (read (start .args .pool .now)) (start .args .window) (start .args .s) (start .args .i) (rect-of .result) (meets .result)
-          (rect-of .ensures) (meets .ensures)
-          ∙ c .if1 .taken)),
-      omega arith,
-    )
-
-returns-2 : tie.Need-returns-2
-returns-2 c =
-    let start = c .before .before .before in
-    let rect-of = c .before .before .rect-of in
-    let meets = c .before .meets in (
-      sym (ap (λ (t : Bool). cond t 1 0)
-          (met-is (read (start .args .pool .now)) (start .args .window) (start .args .s) (start .args .i) (rect-of .result) (meets .result)
-          (rect-of .ensures) (meets .ensures)
-          ∙ c .if1 .left)),
-      omega arith,
+          (rect-of .ensures) (meets .ensures))),
+      c .one-if .ensures .1,
     )
 
 pub met-spec : {M : Type 1} → statement M
-met-spec = tie.close (tie.spec (λ c κs. search needs) (λ c κs. search needs) returns returns-2)
+met-spec = tie.close (tie.spec (λ c κs. search needs) (λ c κs. search needs) (λ c κs. search needs) returns)
