@@ -1,9 +1,9 @@
--- A search in words: what it may write, and what it leaves. It finds no more records than the slots have places for, so the workspace has two
--- words for each.
+-- A search in words: what it may write, and what it leaves. It finds no more records than the slots have places for, so the workspace has
+-- two words for each, and for one more.
 use mathlib.Core.Path.{_≡_, refl, sym, ap, subst, _∙_}
 use mathlib.Core.Bool.{true, false}
 use mathlib.Core.List.{List, []}
-use Prim.Native.Nat.{ℕ, _*_, _≤_, _<_}
+use Prim.Native.Nat.{ℕ, _+_, _*_, _≤_, _<_}
 use native.Mathlib.Omega.{arith}
 use lib.ListN.{length}
 use lib.IntN.{ℤ}
@@ -63,8 +63,8 @@ module _ (w : List ℤ) (f : FreeSlots) (r : Ready w f) (window : Rect) where
   pub ready-low : read w .height ≤ 8
   ready-low = low-enough w (r .right) (ready-whole w f r)
 
-  -- there is room for them in a workspace as long as the pool, twice
-  pub walk-room : 4 * length walk ≤ length w
+  -- there is room for them in a workspace as long as the pool, twice, and for one item more
+  pub walk-room : 4 * length walk + 2 ≤ length w
   walk-room = omega (arith, walk-few, right-size w (r .right))
 
   pub walk-small : length walk ≤ 32768

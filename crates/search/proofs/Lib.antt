@@ -1,5 +1,5 @@
 -- Laws of a walk over the nodes.
 pub mod Sums
-pub mod Walks
+pub mod Meeting
 pub mod Steps
 pub mod Turns

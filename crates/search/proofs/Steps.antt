@@ -1,7 +1,7 @@
 -- A walk, a step at a time: one walk after another is a walk over what both find and open, because the second leaves the first one's items
 -- as they are.
 use mathlib.Core.Path.{_≡_, refl, sym, ap, ap₂, subst, _∙_}
-use mathlib.Core.Bool.{true}
+use mathlib.Core.Bool.{Bool, true, false, cond}
 use mathlib.Core.List.{List, [], _∷_, _++_}
 use Prim.Native.Nat.{ℕ, _+_, _*_, _≤_, _<_}
 use native.Mathlib.Omega.{arith}
@@ -13,7 +13,7 @@ use Rattle.rules.specs.declared.SlotNumber.{SlotNumber}
 use Rattle.rules.specs.declared.RecordNumber.{RecordNumber}
 use Rattle.rules.specs.declared.Record.{Record}
 use Rattle.rules.specs.Pool.{Pool, entriesAt, entryAt, numberOf, recordOf}
-use Rattle.rules.specs.Layout.{entryPlace, validLength, rectOf, read}
+use Rattle.rules.specs.Layout.{entryPlace, validLength, rectOf, wordAt, read}
 use Rattle.rules.specs.Search.{foundIn, openedIn, opened, foundFromRoot}
 use Rattle.pool.specs.Slots.{InPool}
 use Rattle.pool.proofs.Parts.{slot-few}
@@ -21,11 +21,9 @@ use Rattle.pool.proofs.Stores.{spot-inside, spot-entry}
 use Rattle.found_items.specs.Items.{spotAt, itemsFrom, Pointing}
 use Rattle.found_items.proofs.Words.{SameItems, put-before, spot-put, item-put, items-none, items-one, items-append, items-same, pointing-none, pointing-same, pointing-append}
 use Rattle.search.specs.declared.Walked.{Walked}
-use Rattle.search.specs.Walk.{ItemRoom, Went}
-use Rattle.search.proofs.Walks.{opened-most}
-
-abbrev pub walked : ℕ → ℕ → Walked
-walked next opened = record { next = next; opened = opened }
+use Rattle.search.specs.State.{meetsAt, foundAt}
+use Rattle.search.specs.Walk.{walked, ItemRoom, Went}
+use Rattle.search.proofs.Meeting.{found-yes, found-no, opened-most}
 
 -- ---- what is found and opened, said otherwise
 
@@ -51,17 +49,17 @@ went-none pool u a rs n d e =
 
 -- ---- one walk after another
 
-pub room-first : {u : List ℤ} {a : Walked} {all : List Record} {both : ℕ} (rs ts : List Record) (m n : ℕ) → all ≡ rs ++ ts → both ≡ m + n → ItemRoom u a all both → ItemRoom u a rs m
+room-first : {u : List ℤ} {a : Walked} {all : List Record} {both : ℕ} (rs ts : List Record) (m n : ℕ) → all ≡ rs ++ ts → both ≡ m + n → ItemRoom u a all both → ItemRoom u a rs m
 room-first rs ts m n d e r = record { room = omega (arith, ap length d, length-append rs ts, r .room); opened = omega (arith, e, r .opened) }
 
-pub room-rest : {pool u v : List ℤ} {a b : Walked} {rs ts all : List Record} {m n both : ℕ} → all ≡ rs ++ ts → both ≡ m + n → ItemRoom u a all both
+room-rest : {pool u v : List ℤ} {a b : Walked} {rs ts all : List Record} {m n both : ℕ} → all ≡ rs ++ ts → both ≡ m + n → ItemRoom u a all both
     → Went pool u v a b rs m → ItemRoom v b ts n
 room-rest {rs = rs} {ts = ts} d e r w = record {
   room = omega (arith, ap length d, length-append rs ts, r .room, w .next, w .long);
   opened = omega (arith, e, r .opened, w .opened);
 }
 
-pub went-both : {pool u v x : List ℤ} {a b c : Walked} {rs ts all : List Record} {m n both : ℕ} → all ≡ rs ++ ts → both ≡ m + n
+went-both : {pool u v x : List ℤ} {a b c : Walked} {rs ts all : List Record} {m n both : ℕ} → all ≡ rs ++ ts → both ≡ m + n
     → Went pool u v a b rs m → Went pool v x b c ts n → Went pool u x a c all both
 went-both {pool} {u} {v} {x} {a} {b} {c} {rs} {ts} {all} {m} {n} {both} d e h k =
     went-same (sym d) (sym e)
@@ -84,6 +82,27 @@ went-both {pool} {u} {v} {x} {a} {b} {c} {rs} {ts} {all} {m} {n} {both} d e h k 
     first : SameItems x v (a .next) (length rs)
     first = record { word = λ i l g. k .stay i (omega (arith, h .next)) }
 
+-- ---- a walk underway: from a and the items u it has come to b and the items v. `rest` and n are left of `all` and m
+
+pub record Underway (pool u v : List ℤ) (a b : Walked) (all rest : List Record) (m n : ℕ) : Type 0 where
+  pub room : ItemRoom v b rest n
+  pub long : length v ≡ length u
+  pub onward : (x : List ℤ) (z : Walked) → Went pool v x b z rest n → Went pool u x a z all m
+
+pub sets-out : {pool u : List ℤ} {a : Walked} {all rest : List Record} {m n : ℕ} → all ≡ rest → m ≡ n → ItemRoom u a all m → Underway pool u u a a all rest m n
+sets-out d e r = record { room = room-same d e r; long = refl; onward = λ x z g. went-same (sym d) (sym e) g }
+
+module _ {pool u v : List ℤ} {a b : Walked} {all rest : List Record} {m n : ℕ} (h : Underway pool u v a b all rest m n) where
+  pub arrives : rest ≡ [] → n ≡ 0 → Went pool u v a b all m
+  arrives d e = h .onward v b (went-none pool v b rest n d e)
+
+  module _ (rs ts : List Record) (i j : ℕ) (d : rest ≡ rs ++ ts) (e : n ≡ i + j) where
+    pub next-room : ItemRoom v b rs i
+    next-room = room-first rs ts i j d e (h .room)
+
+    pub goes-on : {x : List ℤ} {c : Walked} → Went pool v x b c rs i → Underway pool u x a c all ts m j
+    goes-on g = record { room = room-rest d e (h .room) g; long = g .long ∙ h .long; onward = λ y z k. h .onward y z (went-both d e g k) }
+
 -- ---- a node opened
 
 pub room-opens : {items : List ℤ} {a : Walked} {rs : List Record} {n : ℕ} → ItemRoom items a rs (1 + n) → ItemRoom items a rs n
@@ -99,7 +118,7 @@ went-opens w = record {
   long = w .long;
 }
 
--- ---- a record found
+-- ---- an entry of a leaf: its item is written at the next place, and found where the entry meets the window
 
 record-is : (p : Pool) (s : SlotNumber) (i : ℕ) (r : Rect) → r ≡ entryAt p s i .rect → record { number = numberOf (entryAt p s i); rect = r } ≡ recordOf (entryAt p s i)
 unfolding recordOf
@@ -124,24 +143,53 @@ module _ {w : List ℤ} {s : SlotNumber} (u : List ℤ) (p : InPool w s) (i : �
         omega (arith, ap (spotAt put) e, spot-put u k number (entryPlace s i) room, spot-inside p i (omega (arith, slot-few p)));
   }
 
-pub went-one : {w u : List ℤ} {s : SlotNumber} {a : Walked} (p : InPool w s) (i : ℕ) → i < length (entriesAt (read w) s)
-    → ItemRoom u a (recordOf (entryAt (read w) s i) ∷ []) 0
-    → (v : List ℤ) (z : RecordNumber) (at : ℕ) → z ≡ numberOf (entryAt (read w) s i) → at ≡ entryPlace s i → v ≡ sets u (2 * a .next) (z .0 ∷ pos at ∷ [])
-    → Went w u v a (walked (a .next + 1) (a .opened)) (recordOf (entryAt (read w) s i) ∷ []) 0
-went-one {w} {u} {s} {a} p i h room v z at d e f =
-    let n = numberOf (entryAt (read w) s i) in
-    let there : 2 * a .next + 2 ≤ length u = omega (arith, room .room) in
-    let new = sets u (2 * a .next) (n .0 ∷ pos (entryPlace s i) ∷ []) in
-    let is : v ≡ new = f ∙ ap₂ (λ (x : RecordNumber) (y : ℕ). sets u (2 * a .next) (x .0 ∷ pos y ∷ [])) d e in
-    subst (λ (x : List ℤ). Went w u x a (walked (a .next + 1) (a .opened)) (recordOf (entryAt (read w) s i) ∷ []) 0) (sym is)
-    record {
-      next = omega arith;
-      opened = omega arith;
-      stay = λ k l. put-before u (a .next) (n .0) (pos (entryPlace s i)) 0 (a .next) (omega arith) .word k (omega arith) (omega arith);
-      listed = one-listed u p i h (a .next) there;
-      pointing = one-pointing u p i h (a .next) there;
-      long = length-sets u (2 * a .next) (n .0 ∷ pos (entryPlace s i) ∷ []);
-    }
+  before : (j : ℕ) → j < 2 * k → wordAt put j ≡ wordAt u j
+  before j l = put-before u k number (pos (entryPlace s i)) 0 k (omega arith) .word j (omega arith) (omega arith)
+
+  went-one : Went w u put (walked k 0) (walked (k + 1) 0) (recordOf (entryAt (read w) s i) ∷ []) 0
+  went-one = record {
+    next = omega arith;
+    opened = omega arith;
+    stay = before;
+    listed = one-listed;
+    pointing = one-pointing;
+    long = length-sets u (2 * k) (number ∷ pos (entryPlace s i) ∷ []);
+  }
+
+  -- written, and not found: the next item is written over it
+  went-over : Went w u put (walked k 0) (walked (k + 0) 0) [] 0
+  went-over = record {
+    next = omega arith;
+    opened = omega arith;
+    stay = before;
+    listed = items-none w put k;
+    pointing = pointing-none w put k;
+    long = length-sets u (2 * k) (number ∷ pos (entryPlace s i) ∷ []);
+  }
+
+  pub went-entry : (window : Rect) (v : List ℤ) (z : RecordNumber) (at n : ℕ) → z ≡ numberOf (entryAt (read w) s i) → at ≡ entryPlace s i
+      → v ≡ sets u (2 * k) (z .0 ∷ pos at ∷ []) → n ≡ cond (meetsAt (read w) window s i) 1 0
+      → Went w u v (walked k 0) (walked (k + n) 0) (foundAt (read w) window s i) 0
+  went-entry window v z at n d e f g =
+      let is : v ≡ put = f ∙ ap₂ (λ (x : RecordNumber) (y : ℕ). sets u (2 * k) (x .0 ∷ pos y ∷ [])) d e in
+      subst (λ (x : List ℤ). Went w u x (walked k 0) (walked (k + n) 0) (foundAt (read w) window s i) 0) (sym is)
+      (subst (λ (j : ℕ). Went w u put (walked k 0) (walked (k + j) 0) (foundAt (read w) window s i) 0) (sym g) (go (meetsAt (read w) window s i) refl))
+    where
+      go : (b : Bool) → meetsAt (read w) window s i ≡ b
+          → Went w u put (walked k 0) (walked (k + cond (meetsAt (read w) window s i) 1 0) 0) (foundAt (read w) window s i) 0
+      go true q = rw (q, found-yes (read w) window s i q) went-one
+      go false q = rw (q, found-no (read w) window s i q) went-over
+
+-- whatever was opened before
+pub went-beside : {pool u v : List ℤ} {j k : ℕ} {rs : List Record} (n : ℕ) → Went pool u v (walked j 0) (walked k 0) rs 0 → Went pool u v (walked j n) (walked k n) rs 0
+went-beside n w = record {
+  next = w .next;
+  opened = omega arith;
+  stay = w .stay;
+  listed = w .listed;
+  pointing = w .pointing;
+  long = w .long;
+}
 
 -- ---- from the root on
 
@@ -156,7 +204,7 @@ module _ (w : List ℤ) (window : Rect) (right : validLength w ≡ true) (h : �
   unfolding opened
   same-opened = ap₂ (openedIn (read w) window) d e
 
-  pub top-room : (u : List ℤ) → 2 * length all ≤ length u → ItemRoom u (walked 0 0) (foundIn (read w) window h s) (openedIn (read w) window h s)
+  pub top-room : (u : List ℤ) → 2 * length all + 2 ≤ length u → ItemRoom u (walked 0 0) (foundIn (read w) window h s) (openedIn (read w) window h s)
   top-room u g = record {
     room = omega (arith, ap length same-found);
     opened = omega (arith, opened-most w right window h s (omega arith));

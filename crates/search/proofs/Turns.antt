@@ -1,121 +1,165 @@
--- What a call of the walk needs and does, from what the calls before it did: `Walks` and `Steps` over the values that the code holds.
-use mathlib.Core.Path.{_≡_, sym, ap, _∙_}
+-- What a call of the walk needs and does, from what the calls before it did: `Meeting` and `Steps` over the values that the code holds.
+use mathlib.Core.Path.{_≡_, refl, sym, ap, subst, _∙_}
 use mathlib.Core.Logic.{_≢_}
-use mathlib.Core.Bool.{Bool, true, false}
-use mathlib.Core.List.{List, [], _∷_}
-use Prim.Native.Nat.{ℕ, _+_, _-_, _≤_, _<_}
+use mathlib.Core.Bool.{cond}
+use mathlib.Core.List.{List, _++_, append-nil}
+use Prim.Native.Nat.{ℕ, _+_, _-_, _*_, _≤_, _<_}
 use native.Mathlib.Omega.{arith}
-use lib.ListN.{length}
+use lib.ListN.{length, getD, set, take, drop, length-set}
+use lib.Seq.{length-take-le, getD-take}
 use lib.IntN.{ℤ}
 use Rattle.rules.specs.declared.Rect.{Rect}
 use Rattle.rules.specs.declared.SlotNumber.{SlotNumber}
-use Rattle.rules.specs.Geometry.{meets}
-use Rattle.rules.specs.Choose.{rectFrom}
-use Rattle.rules.specs.Pool.{Pool, rects, entriesAt, entryAt, childOf, recordOf}
+use Rattle.rules.specs.Pool.{Pool, entriesAt, entryAt, childOf}
 use Rattle.rules.specs.Layout.{read}
 use Rattle.rules.specs.Search.{foundIn, openedIn}
-use Rattle.search_laws.proofs.Clauses.{found-none, opened-none}
+use Rattle.search_laws.proofs.Clauses.{found-none, opened-none, opened-leaf}
 use Rattle.search.specs.declared.Walked.{Walked}
-use Rattle.search.specs.State.{openedAt, foundAt, openedFrom, foundFrom}
-use Rattle.search.specs.Walk.{ItemRoom, Went}
-use Rattle.search.proofs.Walks.{met-is, found-missed, opened-missed, leaf-found, leaf-opened, child-found, child-opened, found-end, opened-end, found-next, opened-next, node-found, node-opened}
-use Rattle.search.proofs.Steps.{walked, room-same, went-same, went-none, room-first, room-rest, went-both, room-opens, went-opens}
+use Rattle.search.specs.State.{meetsAt, meetingFrom, meetingPlaces, foundAt}
+use Rattle.search.specs.Walk.{walked, ItemRoom, Went}
+use Rattle.search.proofs.Meeting.{leafRecords, openedBelow, foundBelow, gathers, meeting-end, meeting-inside, records-end, records-next, leaf-found, same-found}
+use Rattle.search.proofs.Meeting.{same-opened, node-found, node-opened, opened-end, found-end, opened-next, found-next}
+use Rattle.search.proofs.Steps.{Underway, sets-out, arrives, next-room, goes-on, room-same, went-same, went-none, room-opens, went-opens, went-beside}
+
+-- ---- the places gathered: those of the entries before place i stand first, and those from i on are to come
+
+pub record Gathered (w : List ℤ) (window : Rect) (s : SlotNumber) (places : List ℕ) (count i : ℕ) : Type 0 where
+  pub few : count ≤ i
+  pub most : i ≤ length (entriesAt (read w) s)
+  pub long : length places ≡ 8
+  pub are : take count places ++ meetingFrom (read w) window s i ≡ meetingPlaces (read w) window s
+
+module _ {w : List ℤ} {window : Rect} {s : SlotNumber} {places : List ℕ} {count i : ℕ} (g : Gathered w window s places count i) where
+  pub gather-turn : (n : ℕ) → i < length (entriesAt (read w) s) → length (entriesAt (read w) s) ≤ 8 → n ≡ cond (meetsAt (read w) window s i) 1 0 → n ≤ 1
+      → Gathered w window s (set places count i) (count + n) (i + 1)
+  gather-turn n h few e one = record {
+    few = omega (arith, g .few, one);
+    most = omega (arith, h);
+    long = length-set places count i ∙ g .long;
+    are =
+        ap (λ (k : ℕ). take (count + k) (set places count i) ++ meetingFrom (read w) window s (i + 1)) e
+        ∙ gathers (read w) window s i places count h (omega (arith, g .few, g .long, h, few)) ∙ g .are;
+  }
+
+  pub gather-ends : length (entriesAt (read w) s) ≤ i → take count places ≡ meetingPlaces (read w) window s
+  gather-ends h =
+      sym (append-nil (take count places)) ∙ ap (λ (xs : List ℕ). take count places ++ xs) (sym (meeting-end (read w) window s i h)) ∙ g .are
 
 module _ (w : List ℤ) (window : Rect) where
   abbrev p : Pool
   p = read w
 
-  -- ---- one entry: r is its rectangle, and b says whether that meets the window
+  -- ---- a leaf, whose entries from place i on are to come
 
-  module _ (below : ℕ) (s : SlotNumber) (i : ℕ) (r : Rect) (b : Bool) (is : r ≡ rectFrom (rects (entriesAt p s)) i) (asked : b ≡ meets r window) where
-    met : meets (entryAt p s i .rect) window ≡ b
-    met = met-is p window s i r b is asked
+  module _ (s : SlotNumber) where
+    abbrev pub LeafWalk : List ℤ → List ℤ → Walked → ℕ → ℕ → Type 0
+    LeafWalk u v a next i = Underway w u v a (walked next (a .opened)) (foundIn p window 1 s) (leafRecords p s (meetingFrom p window s i)) 0 0
 
-    pub entry-missed : b ≡ false → (u : List ℤ) (a : Walked) → Went w u u a a (foundAt p window below s i) (openedAt p window below s i)
-    entry-missed f u a =
-        went-none w u a (foundAt p window below s i) (openedAt p window below s i)
-        (found-missed p window below (entryAt p s i) (met ∙ f)) (opened-missed p window below (entryAt p s i) (met ∙ f))
+    pub leaf-begins : {u : List ℤ} {a : Walked} → ItemRoom u a (foundIn p window 1 s) 1 → LeafWalk u u a (a .next) 0
+    leaf-begins r = sets-out (leaf-found p window s) refl (room-opens r)
 
-    -- a record, where level 0 is below
-    module _ (t : b ≡ true) (leaf : below ≡ 0) where
-      record-found : foundAt p window below s i ≡ recordOf (entryAt p s i) ∷ []
-      record-found = leaf-found p window below (entryAt p s i) leaf (met ∙ t)
+    module _ (i : ℕ) {u v : List ℤ} {a : Walked} {next : ℕ} (g : LeafWalk u v a next i) where
+      pub item-room : 2 * next + 2 ≤ length v
+      item-room = omega (arith, g .room .room)
 
-      none-opened : openedAt p window below s i ≡ 0
-      none-opened = leaf-opened p window below (entryAt p s i) leaf
+      pub leaf-turn : i < length (entriesAt p s) → {x : List ℤ} {then : ℕ} → Went w v x (walked next 0) (walked then 0) (foundAt p window s i) 0 → LeafWalk u x a then (i + 1)
+      leaf-turn h e = goes-on g (foundAt p window s i) (leafRecords p s (meetingFrom p window s (i + 1))) 0 0 (records-next p window s i h) refl (went-beside (a .opened) e)
 
-      pub record-room : {u : List ℤ} {a : Walked} → ItemRoom u a (foundAt p window below s i) (openedAt p window below s i)
-          → ItemRoom u a (recordOf (entryAt p s i) ∷ []) 0
-      record-room h = room-same record-found none-opened h
+      pub leaf-ends : length (entriesAt p s) ≤ i → Went w u v a (walked next (a .opened + 1)) (foundIn p window 1 s) 1
+      leaf-ends h = went-opens (arrives g (records-end p window s i h) refl)
 
-      pub record-went : {u v : List ℤ} {a z : Walked} → Went w u v a z (recordOf (entryAt p s i) ∷ []) 0
-          → Went w u v a z (foundAt p window below s i) (openedAt p window below s i)
-      record-went h = went-same (sym record-found) (sym none-opened) h
-
-    -- or its child, which is c
-    module _ (t : b ≡ true) (inner : below ≢ 0) (c : SlotNumber) (child : c ≡ childOf (entryAt p s i)) where
-      found-there : foundAt p window below s i ≡ foundIn p window below c
-      found-there = child-found p window below (entryAt p s i) c inner (met ∙ t) child
-
-      opened-there : openedAt p window below s i ≡ openedIn p window below c
-      opened-there = child-opened p window below (entryAt p s i) c (met ∙ t) child
-
-      pub child-room : {u : List ℤ} {a : Walked} → ItemRoom u a (foundAt p window below s i) (openedAt p window below s i)
-          → ItemRoom u a (foundIn p window below c) (openedIn p window below c)
-      child-room h = room-same found-there opened-there h
-
-      pub child-went : {u v : List ℤ} {a z : Walked} → Went w u v a z (foundIn p window below c) (openedIn p window below c)
-          → Went w u v a z (foundAt p window below s i) (openedAt p window below s i)
-      child-went h = went-same (sym found-there) (sym opened-there) h
-
-  -- ---- the entries from place i on
-
-  module _ (below : ℕ) (s : SlotNumber) (i : ℕ) where
-    pub entries-end : length (entriesAt p s) ≤ i → (u : List ℤ) (a : Walked) → Went w u u a a (foundFrom p window below s i) (openedFrom p window below s i)
-    entries-end h u a =
-        went-none w u a (foundFrom p window below s i) (openedFrom p window below s i) (found-end p window below s i h) (opened-end p window below s i h)
-
-    module _ (there : i < length (entriesAt p s)) where
-      pub first-room : {u : List ℤ} {a : Walked} → ItemRoom u a (foundFrom p window below s i) (openedFrom p window below s i)
-          → ItemRoom u a (foundAt p window below s i) (openedAt p window below s i)
-      first-room h =
-          room-first (foundAt p window below s i) (foundFrom p window below s (i + 1)) (openedAt p window below s i) (openedFrom p window below s (i + 1))
-          (found-next p window below s i there) (opened-next p window below s i there) h
-
-      pub later-room : {u v : List ℤ} {a z : Walked} → ItemRoom u a (foundFrom p window below s i) (openedFrom p window below s i)
-          → Went w u v a z (foundAt p window below s i) (openedAt p window below s i)
-          → ItemRoom v z (foundFrom p window below s (i + 1)) (openedFrom p window below s (i + 1))
-      later-room h g = room-rest (found-next p window below s i there) (opened-next p window below s i there) h g
-
-      pub all-went : {u v x : List ℤ} {a z y : Walked} → Went w u v a z (foundAt p window below s i) (openedAt p window below s i)
-          → Went w v x z y (foundFrom p window below s (i + 1)) (openedFrom p window below s (i + 1))
-          → Went w u x a y (foundFrom p window below s i) (openedFrom p window below s i)
-      all-went g h = went-both (found-next p window below s i there) (opened-next p window below s i there) g h
-
-  -- ---- a node
+  -- ---- a node of no level
 
   pub none-went : (level : ℕ) (s : SlotNumber) → level ≡ 0 → (u : List ℤ) (a : Walked) → Went w u u a a (foundIn p window level s) (openedIn p window level s)
   none-went level s z u a =
       went-none w u a (foundIn p window level s) (openedIn p window level s)
       (ap (λ (k : ℕ). foundIn p window k s) z ∙ found-none p window s) (ap (λ (k : ℕ). openedIn p window k s) z ∙ opened-none p window s)
 
-  -- t is the slot that is read for s
-  module _ (level : ℕ) (s t : SlotNumber) (some : level ≢ 0) (same : t .0 - 1 ≡ s .0 - 1) where
-    found-is : foundIn p window level s ≡ foundFrom p window (level - 1) t 0
-    found-is = node-found p window level s t some same
+  -- ---- a node; t is the slot that is read for s
 
-    opened-is : openedIn p window level s ≡ 1 + openedFrom p window (level - 1) t 0
-    opened-is = node-opened p window level s t some same
+  module _ (level : ℕ) (s t : SlotNumber) (same : t .0 - 1 ≡ s .0 - 1) where
+    module _ (leaf : level ≡ 1) where
+      found-leaf : foundIn p window level s ≡ foundIn p window 1 t
+      found-leaf = ap (λ (k : ℕ). foundIn p window k s) leaf ∙ same-found p window 1 s t same
 
-    pub node-room : {u : List ℤ} {a : Walked} → ItemRoom u a (foundIn p window level s) (openedIn p window level s)
-        → ItemRoom u a (foundFrom p window (level - 1) t 0) (openedFrom p window (level - 1) t 0)
-    node-room h = room-opens (room-same found-is opened-is h)
+      opened-one : openedIn p window level s ≡ 1
+      opened-one = ap (λ (k : ℕ). openedIn p window k s) leaf ∙ opened-leaf p window s
 
-    -- with the node itself, no more than 8 levels can open
-    pub node-few : {u v : List ℤ} {a z : Walked} → ItemRoom u a (foundIn p window level s) (openedIn p window level s)
-        → Went w u v a z (foundFrom p window (level - 1) t 0) (openedFrom p window (level - 1) t 0) → z .opened + 1 ≤ 43046721
-    node-few h g = omega (arith, opened-is, h .opened, g .opened)
+      pub leaf-room : {u : List ℤ} {a : Walked} → ItemRoom u a (foundIn p window level s) (openedIn p window level s) → ItemRoom u a (foundIn p window 1 t) 1
+      leaf-room r = room-same found-leaf opened-one r
 
-    pub node-went : {u v : List ℤ} {a z : Walked} → Went w u v a z (foundFrom p window (level - 1) t 0) (openedFrom p window (level - 1) t 0)
-        → Went w u v a (walked (z .next) (z .opened + 1)) (foundIn p window level s) (openedIn p window level s)
-    node-went g = went-same (sym found-is) (sym opened-is) (went-opens g)
+      pub leaf-went : {u v : List ℤ} {a z : Walked} → Went w u v a z (foundIn p window 1 t) 1 → Went w u v a z (foundIn p window level s) (openedIn p window level s)
+      leaf-went g = went-same (sym found-leaf) (sym opened-one) g
+
+    -- the first n of the array are the places of the children to open
+    module _ (some : level ≢ 0) (inner : level ≢ 1) (array : List ℕ) (n : ℕ) (are : take n array ≡ meetingPlaces p window t) where
+      abbrev places : List ℕ
+      places = take n array
+
+      found-are : foundIn p window level s ≡ foundBelow p window (level - 1) t places
+      found-are = same-found p window level s t same ∙ node-found p window level t some inner ∙ ap (foundBelow p window (level - 1) t) (sym are)
+
+      opened-are : openedIn p window level s ≡ 1 + openedBelow p window (level - 1) t places
+      opened-are =
+          same-opened p window level s t same ∙ node-opened p window level t some inner
+          ∙ ap (λ (is : List ℕ). 1 + openedBelow p window (level - 1) t is) (sym are)
+
+      pub node-room : {u : List ℤ} {a : Walked} → ItemRoom u a (foundIn p window level s) (openedIn p window level s)
+          → ItemRoom u a (foundBelow p window (level - 1) t places) (openedBelow p window (level - 1) t places)
+      node-room r = room-opens (room-same found-are opened-are r)
+
+      pub node-went : {u v : List ℤ} {a z : Walked} → Went w u v a z (foundBelow p window (level - 1) t places) (openedBelow p window (level - 1) t places)
+          → Went w u v a (walked (z .next) (z .opened + 1)) (foundIn p window level s) (openedIn p window level s)
+      node-went g = went-same (sym found-are) (sym opened-are) (went-opens g)
+
+  -- ---- its children, of which those from the k-th on are to come
+
+  module _ (below : ℕ) (t : SlotNumber) (array : List ℕ) (n : ℕ) where
+    abbrev pub ChildWalk : List ℤ → List ℤ → Walked → Walked → ℕ → Type 0
+    ChildWalk u v a b k =
+        Underway w u v a b
+        (foundBelow p window below t (take n array)) (foundBelow p window below t (drop k (take n array)))
+        (openedBelow p window below t (take n array)) (openedBelow p window below t (drop k (take n array)))
+
+    pub children-begin : {u : List ℤ} {a : Walked} → ItemRoom u a (foundBelow p window below t (take n array)) (openedBelow p window below t (take n array)) → ChildWalk u u a a 0
+    children-begin r = sets-out refl refl r
+
+    module _ (few : n ≤ length array) (k : ℕ) where
+      pub children-end : n ≤ k → {u v : List ℤ} {a b : Walked} → ChildWalk u v a b k
+          → Went w u v a b (foundBelow p window below t (take n array)) (openedBelow p window below t (take n array))
+      children-end h g =
+          arrives g (found-end p window below t (take n array) k (omega (arith, length-take-le n array few)))
+          (opened-end p window below t (take n array) k (omega (arith, length-take-le n array few)))
+
+      module _ (there : k < n) where
+        inside : k < length (take n array)
+        inside = omega (arith, length-take-le n array few)
+
+        pub child-there : take n array ≡ meetingPlaces p window t → getD array k 0 < length (entriesAt p t)
+        child-there are =
+            subst (λ (i : ℕ). i < length (entriesAt p t)) (ap (λ (is : List ℕ). getD is k 0) (sym are) ∙ getD-take n array k 0 there)
+            (meeting-inside p window t k (omega (arith, inside, ap length are)))
+
+        module _ (c : SlotNumber) (child : c ≡ childOf (entryAt p t (getD array k 0))) where
+          is-child : childOf (entryAt p t (getD (take n array) k 0)) ≡ c
+          is-child = ap (λ (i : ℕ). childOf (entryAt p t i)) (getD-take n array k 0 there) ∙ sym child
+
+          found-child : foundBelow p window below t (drop k (take n array)) ≡ foundIn p window below c ++ foundBelow p window below t (drop (k + 1) (take n array))
+          found-child =
+              found-next p window below t (take n array) k inside
+              ∙ ap (λ (x : SlotNumber). foundIn p window below x ++ foundBelow p window below t (drop (k + 1) (take n array))) is-child
+
+          opened-child : openedBelow p window below t (drop k (take n array)) ≡ openedIn p window below c + openedBelow p window below t (drop (k + 1) (take n array))
+          opened-child =
+              opened-next p window below t (take n array) k inside
+              ∙ ap (λ (x : SlotNumber). openedIn p window below x + openedBelow p window below t (drop (k + 1) (take n array))) is-child
+
+          pub child-room : {u v : List ℤ} {a b : Walked} → ChildWalk u v a b k → ItemRoom v b (foundIn p window below c) (openedIn p window below c)
+          child-room g =
+              next-room g (foundIn p window below c) (foundBelow p window below t (drop (k + 1) (take n array)))
+              (openedIn p window below c) (openedBelow p window below t (drop (k + 1) (take n array))) found-child opened-child
+
+          pub child-turn : {u v x : List ℤ} {a b z : Walked} → ChildWalk u v a b k → Went w v x b z (foundIn p window below c) (openedIn p window below c) → ChildWalk u x a z (k + 1)
+          child-turn g h =
+              goes-on g (foundIn p window below c) (foundBelow p window below t (drop (k + 1) (take n array)))
+              (openedIn p window below c) (openedBelow p window below t (drop (k + 1) (take n array))) found-child opened-child h

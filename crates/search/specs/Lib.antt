@@ -1,3 +1,3 @@
--- What search does below one entry and below the entries of a node, and what a walk does to the items.
+-- What search does at the entries of one node, and what a walk does to the items.
 pub mod State
 pub mod Walk

@@ -1,18 +1,21 @@
-// Search, over any words of a valid length: what it finds and how many nodes it opens, in one pass. The node function calls the entries
-// function, which calls the function of one entry, which calls the node function again; the level and the entries left fall.
+// Search, over any words of a valid length: what it finds and how many nodes it opens, in one pass. The node function gathers the children
+// that meet the window, and calls itself for each of them; the level falls. A leaf is a loop of its own.
+//
+// In a search the processor would guess wrong at about every second entry whether it meets the window, and a wrong guess costs more than the
+// comparison. So no branch is taken on that: every place is written down, and the next place is one further where the entry meets the window.
 ghost use mathlib.Core.Path.{_≡_};
-ghost use mathlib.Core.Bool.{true};
-ghost use mathlib.Core.List.{[], _∷_};
-ghost use Prim.Native.Nat.{_+_, _-_, _*_, _<_, _≤_};
-ghost use lib.ListN.{length};
-ghost use Rattle.rules.specs.Geometry.{meets};
+ghost use mathlib.Core.Bool.{true, cond};
+ghost use Prim.Native.Nat.{_+_, _*_, _<_, _≤_};
+ghost use lib.ListN.{length, take};
+ghost use Rattle.rules.specs.Numbers.{most};
 ghost use Rattle.rules.specs.Layout as L;
 ghost use Rattle.rules.specs.Pool as P;
 ghost use Rattle.rules.specs.Search as F;
 ghost use Rattle.pool.specs.Slots.{InPool};
 ghost use Rattle.found_items.specs.Items.{itemsFrom, Pointing};
-ghost use Rattle.search.specs.State.{openedAt, foundAt, openedFrom, foundFrom};
-ghost use Rattle.search.specs.Walk.{ItemRoom, Went};
+ghost use Rattle.search.specs.State.{meetsAt, foundAt, meetingPlaces};
+ghost use Rattle.search.specs.Walk.{walked, ItemRoom, Went};
+use rules::MOST;
 use rules::Rect;
 use rules::SlotNumber;
 
@@ -22,32 +25,91 @@ pub struct Walked {
     pub opened: usize,
 }
 
-// ---- the walk
+// ---- one node
 
-// Whether an entry's rectangle meets the window: "touching counts".
-fn meets_window(r: Rect, window: Rect) -> bool
-    ensures { λ t. ⌜ t ≡ meets r window ⌝ }
+// 1 where it is so, 0 where it is not: a sum in place of a branch.
+fn one_if(b: bool) -> usize
+    ensures is { λ r. ⌜ r ≡ cond b 1 0 ⌝ }
+    ensures most { λ r. ⌜ r ≤ 1 ⌝ }
 {
-    geometry::meets(r, window)
+    if b { 1 } else { 0 }
 }
 
-// The record of the entry at place i becomes the next item.
-fn list_record(pool: &[i32], s: SlotNumber, i: usize, items: &mut [i32], done: Walked) -> Walked
+// How far the next place moves on at the entry at place i: by 1 where it meets the window, "touching counts", otherwise not.
+fn met(pool: &[i32], window: Rect, s: SlotNumber, i: usize) -> usize
     requires { ⌜ InPool (now pool) s ⌝ }
     requires { ⌜ i < length (P.entriesAt (L.read (now pool)) s) ⌝ }
-    requires { ⌜ ItemRoom (now items) done (P.recordOf (P.entryAt (L.read (now pool)) s i) ∷ []) 0 ⌝ }
-    ensures { λ r. ⌜ Went (now (pool .entry)) (now (items .entry)) (now (items .exit)) done r (P.recordOf (P.entryAt (L.read (now (pool .entry))) s i) ∷ []) 0 ⌝ }
+    ensures is { λ r. ⌜ r ≡ cond (meetsAt (L.read (now (pool .entry))) window s i) 1 0 ⌝ }
+    ensures most { λ r. ⌜ r ≤ 1 ⌝ }
 {
-    let at = done.next;
-    let opened = done.opened;
-    let n = nodes::number_at(pool, s, i);
+    let r = pool::rect_of(pool, s, i);
+    one_if(geometry::meets(r, window))
+}
+
+// The places of the entries that meet the window, one after another, and how many they are. Every place is written down, and kept where its
+// entry meets the window; otherwise the next is written over it.
+fn gather(pool: &[i32], window: Rect, s: SlotNumber, places: &mut [usize; MOST]) -> usize
+    requires { ⌜ L.validLength (now pool) ≡ true ⌝ }
+    requires { ⌜ 1 ≤ s .0 ⌝ }
+    requires { ⌜ length (now places) ≡ most ⌝ }
+    ensures is { λ r. ⌜ take r (now (places .exit)) ≡ meetingPlaces (L.read (now (pool .entry))) window s ⌝ }
+    ensures most { λ r. ⌜ r ≤ most ⌝ }
+    ensures long { λ _. ⌜ length (now (places .exit)) ≡ most ⌝ }
+{
+    let n = nodes::count_at(pool, s);
+    let mut count: usize = 0;
+    let mut i: usize = 0;
+    while i < n {
+        places[count] = i;
+        count += met(pool, window, s, i);
+        i += 1;
+    }
+    count
+}
+
+// The item of the leaf's entry at place i is written at the next place, and kept where the entry meets the window; otherwise the next item is
+// written over it. What comes back is the place after the items that are kept.
+fn list_entry(
+    pool: &[i32],
+    window: Rect,
+    s: SlotNumber,
+    i: usize,
+    items: &mut [i32],
+    next: usize,
+) -> usize
+    requires { ⌜ InPool (now pool) s ⌝ }
+    requires { ⌜ i < length (P.entriesAt (L.read (now pool)) s) ⌝ }
+    requires { ⌜ 2 * next + 2 ≤ length (now items) ⌝ }
+    ensures { λ r. ⌜ Went (now (pool .entry)) (now (items .entry)) (now (items .exit)) (walked next 0) (walked r 0) (foundAt (L.read (now (pool .entry))) window s i) 0 ⌝ }
+{
+    let number = nodes::number_at(pool, s, i);
     let spot = pool::spot(s, i);
-    found_items::put_item(items, at, n, spot);
-    let next = at + 1;
+    found_items::put_item(items, next, number, spot);
+    next + met(pool, window, s, i)
+}
+
+// The records that search finds in the leaf at s become items, and the leaf is counted.
+fn list_leaf(pool: &[i32], window: Rect, s: SlotNumber, items: &mut [i32], done: Walked) -> Walked
+    requires { ⌜ L.validLength (now pool) ≡ true ⌝ }
+    requires { ⌜ 1 ≤ s .0 ⌝ }
+    requires { ⌜ ItemRoom (now items) done (F.foundIn (L.read (now pool)) window 1 s) 1 ⌝ }
+    ensures { λ r. ⌜ Went (now (pool .entry)) (now (items .entry)) (now (items .exit)) done r (F.foundIn (L.read (now (pool .entry))) window 1 s) 1 ⌝ }
+{
+    let n = nodes::count_at(pool, s);
+    let mut next = done.next;
+    let mut i: usize = 0;
+    while i < n {
+        next = list_entry(pool, window, s, i, items, next);
+        i += 1;
+    }
+    let opened = done.opened + 1;
     Walked { next, opened }
 }
 
-// The records that search finds from the node at s down, which has the level given, become items, and each node that it opens is counted.
+// ---- the walk
+
+// The records that search finds from the node at s down, which has the level given, become items, and each node that it opens is counted:
+// it "opens every child whose entry rectangle meets the window". A node of level 0 is none: nothing is found or opened there.
 fn list_node(
     pool: &[i32],
     window: Rect,
@@ -64,71 +126,30 @@ fn list_node(
         return done;
     }
     let t = nodes::slot_read(s);
-    let n = nodes::count_at(pool, t);
-    let w = list_entries(pool, window, level - 1, t, 0, n, items, done);
+    if level == 1 {
+        return list_leaf(pool, window, t, items, done);
+    }
+    let mut places = [0usize; MOST];
+    let n = gather(pool, window, t, &mut places);
+    let mut w = done;
+    let mut k: usize = 0;
+    while k < n {
+        let c = nodes::child_at(pool, t, places[k]);
+        w = list_node(pool, window, level - 1, c, items, w);
+        k += 1;
+    }
     let next = w.next;
-    let below = w.opened;
-    let opened = below + 1;
+    let opened = w.opened + 1;
     Walked { next, opened }
 }
 
-// .. below the entries from place i on of the node at s, which has n: what they lead to has the level below.
-fn list_entries(
-    pool: &[i32],
-    window: Rect,
-    below: usize,
-    s: SlotNumber,
-    i: usize,
-    n: usize,
-    items: &mut [i32],
-    done: Walked,
-) -> Walked
-    requires { ⌜ L.validLength (now pool) ≡ true ⌝ }
-    requires { ⌜ 1 ≤ s .0 ⌝ }
-    requires { ⌜ n ≡ length (P.entriesAt (L.read (now pool)) s) ⌝ }
-    requires { ⌜ ItemRoom (now items) done (foundFrom (L.read (now pool)) window below s i) (openedFrom (L.read (now pool)) window below s i) ⌝ }
-    ensures { λ r. ⌜ Went (now (pool .entry)) (now (items .entry)) (now (items .exit)) done r (foundFrom (L.read (now (pool .entry))) window below s i) (openedFrom (L.read (now (pool .entry))) window below s i) ⌝ }
-{
-    if n <= i {
-        return done;
-    }
-    let w = list_entry(pool, window, below, s, i, items, done);
-    list_entries(pool, window, below, s, i + 1, n, items, w)
-}
-
-// "opens every child whose entry rectangle meets the window": .. below the entry at place i alone. A leaf's entry is a record (level 0 is
-// below a leaf), another leads to its child. Of an entry that does not meet the window, only the rectangle is read.
-fn list_entry(
-    pool: &[i32],
-    window: Rect,
-    below: usize,
-    s: SlotNumber,
-    i: usize,
-    items: &mut [i32],
-    done: Walked,
-) -> Walked
-    requires { ⌜ InPool (now pool) s ⌝ }
-    requires { ⌜ i < length (P.entriesAt (L.read (now pool)) s) ⌝ }
-    requires { ⌜ ItemRoom (now items) done (foundAt (L.read (now pool)) window below s i) (openedAt (L.read (now pool)) window below s i) ⌝ }
-    ensures { λ r. ⌜ Went (now (pool .entry)) (now (items .entry)) (now (items .exit)) done r (foundAt (L.read (now (pool .entry))) window below s i) (openedAt (L.read (now (pool .entry))) window below s i) ⌝ }
-{
-    let r = pool::rect_of(pool, s, i);
-    if !meets_window(r, window) {
-        return done;
-    }
-    if below == 0 {
-        return list_record(pool, s, i, items, done);
-    }
-    let c = nodes::child_at(pool, s, i);
-    list_node(pool, window, below, c, items, done)
-}
-
 // "Search descends from the root and opens every child whose entry rectangle meets the window." "The root is always opened." The records
-// found become items, in the order in which the search meets them.
+// found become items, in the order in which the search meets them. An item is written before it is known to be kept, so there is room for one
+// item more.
 pub fn list(pool: &[i32], window: Rect, items: &mut [i32]) -> Walked
     requires { ⌜ L.validLength (now pool) ≡ true ⌝ }
     requires { ⌜ L.read (now pool) .height ≤ 8 ⌝ }
-    requires { ⌜ 2 * length (F.foundFromRoot (L.read (now pool)) window) ≤ length (now items) ⌝ }
+    requires { ⌜ 2 * length (F.foundFromRoot (L.read (now pool)) window) + 2 ≤ length (now items) ⌝ }
     ensures found { λ r. ⌜ r .next ≡ length (F.foundFromRoot (L.read (now (pool .entry))) window) ⌝ }
     ensures opened { λ r. ⌜ r .opened ≡ F.opened (L.read (now (pool .entry))) window ⌝ }
     ensures most { λ r. ⌜ r .opened ≤ 43046721 ⌝ }

@@ -6,21 +6,21 @@ use Rattle.search.proofs.list.Tie as tie
 
 list-node-requires : tie.Need-list-node-requires
 list-node-requires c κs =
-    let s = c .before .before .before in
-    let h = c .before .before .height-of in
-    let r = c .before .root-of in (
-      s .pre .0,
-      top-room (s .args .pool .now) (s .args .window) (s .pre .0) (h .result) (r .result) (s .pre .1 .0) (h .ensures) (r .ensures)
-          (s .args .items .now) (s .pre .1 .1),
+    let start = c .before .before .before in
+    let height-of = c .before .before .height-of in
+    let root-of = c .before .root-of in (
+      start .pre .0,
+      top-room (start .args .pool .now) (start .args .window) (start .pre .0) (height-of .result) (root-of .result) (start .pre .1 .0)
+          (height-of .ensures) (root-of .ensures) (start .args .items .now) (start .pre .1 .1),
     )
 
 returns : tie.Need-returns
 returns c =
-    let s = c .before .before .before .before .before in
-    let h = c .before .before .before .before .height-of in
-    let r = c .before .before .before .root-of in
-    top-went (s .args .pool .now) (s .args .window) (s .pre .0) (h .result) (r .result) (s .pre .1 .0) (h .ensures) (r .ensures)
-    (c .before .list-node .ensures)
+    let start = c .before .before .before .before .before in
+    let height-of = c .before .before .before .before .height-of in
+    let root-of = c .before .before .before .root-of in
+    top-went (start .args .pool .now) (start .args .window) (start .pre .0) (height-of .result) (root-of .result) (start .pre .1 .0)
+    (height-of .ensures) (root-of .ensures) (c .before .list-node .ensures)
 
 pub list-spec : {M : Type 1} → statement M
 list-spec =
