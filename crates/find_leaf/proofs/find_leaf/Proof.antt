@@ -81,25 +81,13 @@ array-set-from-nodes c =
     omega (arith, d .one, d .high, d .few)
 
 sub-places : tie.Need-sub-places Inv-loop μ-loop
-sub-places c = omega (arith, c .before .loop-test .taken)
+sub-places c = sub-nodes c
 
 mul-places : tie.Need-mul-places Inv-loop μ-loop
-mul-places c =
-    let start = c .before .before .before .before .before .before .before in
-    let find-in = c .before .before .before .before .find-in in
-    let loop = c .before .before .loop in
-    let p = read (start .args .pool .now) in
-    let d = loop .inv (start .args .r) (find-in .ensures) in
-    omega (arith, d .high, d .few)
+mul-places c = mul-nodes c
 
 array-write-places : tie.Need-array-write-places Inv-loop μ-loop
-array-write-places c =
-    let start = c .before .before .before .before .before .before .before in
-    let find-in = c .before .before .before .before .find-in in
-    let loop = c .before .before .loop in
-    let p = read (start .args .pool .now) in
-    let d = loop .inv (start .args .r) (find-in .ensures) in
-    omega (arith, d .one, d .high, d .few)
+array-write-places c = array-set-from-nodes c
 
 child-of-requires : tie.Need-child-of-requires Inv-loop μ-loop
 child-of-requires c κs =
