@@ -58,12 +58,15 @@ module _ (path : Path) (h : ℕ) (w : Way) where
 
   write-place : (l : ℕ) (s : SlotNumber) (i : ℕ) → 1 ≤ l → l ≤ h → h ≤ 8 → getD path (h - l) (place (slot 0) 0) ≡ place s i
       → Written path h w l → Written path h (put w (l - 1) s i) (l - 1)
-  write-place l s i one high few e t = record { up = put-up (l - 1) s i (omega (arith, one, high)) (t .up); at = λ k a b. go k a b (decLe l k) }
+  write-place l s i one high few e t = record {
+    up = put-up (l - 1) s i (omega (arith, one, high)) (t .up);
+    at = λ k a b. go k a b (decLe l k);
+  }
     where
       go : (k : ℕ) → l - 1 ≤ k → k < h → Dec (l ≤ k) → nodeIn (put w (l - 1) s i) k ≡ getD path (h - suc k) (place (slot 0) 0)
       go k a b (yes c) =
-          (λ j. place (getD-set-other (w .nodes) (l - 1) k s (slot 0) (omega (arith, c, one)) j) (getD-set-other (w .places) (l - 1) k i 0 (omega (arith, c, one)) j))
-          ∙ t .at k c b
+          let o : k ≢ l - 1 = omega (arith, c, one) in
+          (λ j. place (getD-set-other (w .nodes) (l - 1) k s (slot 0) o j) (getD-set-other (w .places) (l - 1) k i 0 o j)) ∙ t .at k c b
       go k a b (no c) =
           let q : k ≡ l - 1 = omega (arith, a, c) in
           let z : h - suc k ≡ h - l = omega (arith, q, one) in
@@ -78,7 +81,8 @@ module _ (path : Path) (h : ℕ) (w : Way) where
   written-path size t (suc l) a =
       let z : suc (h - suc l) ≡ h - l = omega (arith, a) in
       (λ j. t .at l (omega arith) (omega (arith, a)) j ∷ written-path size t l (omega (arith, a)) j)
-      ∙ sym (drop-cons path (h - suc l) (place (slot 0) 0) (omega (arith, a, size)) ∙ ap (λ (n : ℕ). getD path (h - suc l) (place (slot 0) 0) ∷ drop n path) z)
+      ∙ sym (drop-cons path (h - suc l) (place (slot 0) 0) (omega (arith, a, size))
+      ∙ ap (λ (n : ℕ). getD path (h - suc l) (place (slot 0) 0) ∷ drop n path) z)
 
   written-all : w .found ≡ true → length path ≡ h → Written path h w 0 → Gives (some path) h w
   written-all f size t =
@@ -96,7 +100,8 @@ record Step (p : Pool) (r : Record) (l : ℕ) (s : SlotNumber) (path : Path) (i 
   small : packed rest < 2 ^ bitsBelow l
   below : 2 ≤ l → Leads p r (l - 1) (childOf (entryAt p s i)) rest
 
-leads-step : (p : Pool) (r : Record) (l : ℕ) (s : SlotNumber) (path : Path) → Tree p l s → Leads p r l s path → (i : ℕ) × Step p r l s path i
+leads-step : (p : Pool) (r : Record) (l : ℕ) (s : SlotNumber) (path : Path) → Tree p l s → Leads p r l s path
+    → (i : ℕ) × Step p r l s path i
 unfolding Leads packed
 leads-step p r zero s path d h = absurd h
 leads-step p r (suc zero) s path d h =
@@ -173,7 +178,9 @@ module _ (p : Pool) (r : Record) (h : ℕ) (root : SlotNumber) (w : ℕ) where
       front : w % 2 ^ (3 + bitsBelow l) ≡ step .0 * 2 ^ bitsBelow l + packed rest
       front =
           let z : 3 + bitsBelow l ≡ 3 * l = omega (arith, t .one) in
-          rw z (t .digits ∙ ap packed (step .1 .is) ∙ packed-cons s (step .0) rest ∙ ap (λ (k : ℕ). step .0 * 2 ^ (3 * k) + packed rest) (step .1 .long))
+          rw z
+          (t .digits ∙ ap packed (step .1 .is) ∙ packed-cons s (step .0) rest
+          ∙ ap (λ (k : ℕ). step .0 * 2 ^ (3 * k) + packed rest) (step .1 .long))
 
       same : step .0 ≡ n
       same = sym (e ∙ digit-here w (step .0) (bitsBelow l) (packed rest) front (step .1 .small))

@@ -47,7 +47,8 @@ shows-held p r w whole h =
     same-answer (w .found) (held p r) (λ t. is .1 (shown .0 t)) (λ t. shown .1 (is .0 t))
 
 -- .. and so is a number that is not 0
-pub way-held : (p : Pool) (r : Record) (h : ℕ) (s : SlotNumber) (w : ℕ) → Whole p → h ≡ p .height → s ≡ p .root → w ≡ packedWay (findLeaf p r h s)
+pub way-held : (p : Pool) (r : Record) (h : ℕ) (s : SlotNumber) (w : ℕ) → Whole p → h ≡ p .height → s ≡ p .root
+    → w ≡ packedWay (findLeaf p r h s)
     → not (eqb w 0) ≡ held p r
 way-held p r h s w whole high root e =
     let v = e ∙ ap₂ (λ (n : ℕ) (t : SlotNumber). packedWay (findLeaf p r n t)) high root in

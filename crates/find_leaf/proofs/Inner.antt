@@ -71,7 +71,10 @@ module _ (p : Pool) (r : Record) (l : ℕ) (s : SlotNumber) where
       go none e = rw packed-none (omega arith)
       go (some path) e =
           rw (packed-some path)
-          (omega (arith, lt-of-lt-of-le (leads-small p r l s path d (found-leads path e)) (pow-mono {i = 3 * l} {j = 24} (omega (arith, few)))))
+          (omega (
+            arith,
+            lt-of-lt-of-le (leads-small p r l s path d (found-leads path e)) (pow-mono {i = 3 * l} {j = 24} (omega (arith, few))),
+          ))
 
 -- ---- the hits left
 
@@ -106,7 +109,8 @@ module _ (p : Pool) (r : Record) (level : ℕ) (s : SlotNumber) (places : List �
           omega (arith, m .2 0, getD-upFrom 0 n (m .0) 0 q, q)
 
       here : findLeaf p r level s
-          ≡ orLater s (getD places k 0) (foundAt p r (level - 1) s (getD places k 0)) (firstOf (foundAt p r (level - 1) s) s (drop (suc k) all))
+          ≡ orLater s (getD places k 0) (foundAt p r (level - 1) s (getD places k 0))
+          (firstOf (foundAt p r (level - 1) s) s (drop (suc k) all))
       here =
           t .is ∙ ap (firstOf (foundAt p r (level - 1) s) s) next-hit
           ∙ first-cons (foundAt p r (level - 1) s) s (getD places k 0) (drop (suc k) all)

@@ -1,5 +1,5 @@
--- FindLeaf in a leaf, a step at a time, as the code goes: an entry of another number is no such pair, and the first of the others that is the
--- pair is found.
+-- FindLeaf in a leaf, a step at a time, as the code goes: an entry of another number is no such pair, and of the others the first that is
+-- the pair is found.
 use mathlib.Core.Path.{_≡_, refl, sym, ap, _∙_}
 use mathlib.Core.Bool.{Bool, true, false, _||_, or-assoc, or-false}
 use mathlib.Core.List.{List, [], _∷_}
@@ -52,9 +52,11 @@ look-on {test} {all} {n} {any} {i} t h b e =
       is = rw (add-one i) (or-assoc any b (oneOf test (drop (suc i) all)) ∙ ap (λ (x : Bool). any || x) (sym q) ∙ t .is);
     }
 
-pub looked-all : {test : Entry → Bool} {all : List Entry} {n : ℕ} {any : Bool} {i : ℕ} → Looked test all n any i → n ≤ i → any ≡ oneOf test all
+pub looked-all : {test : Entry → Bool} {all : List Entry} {n : ℕ} {any : Bool} {i : ℕ} → Looked test all n any i → n ≤ i
+    → any ≡ oneOf test all
 looked-all {test} {all} {any = any} {i} t h =
-    sym (or-false any) ∙ ap (λ (x : Bool). any || x) (sym (ap (oneOf test) (drop-of-length-le all {i = i} (omega (arith, t .size))) ∙ one-none test)) ∙ t .is
+    let e = ap (oneOf test) (drop-of-length-le all {i = i} (omega (arith, t .size))) ∙ one-none test in
+    sym (or-false any) ∙ ap (λ (x : Bool). any || x) (sym e) ∙ t .is
 
 -- ---- no entry has the number
 
@@ -103,5 +105,5 @@ module _ (p : Pool) (r : Record) (s : SlotNumber) where
 
     pub ahead-end : n ≤ i → 0 ≡ packedWay (findLeaf p r 1 s)
     ahead-end h =
-        sym (ap packedWay (t .is ∙ ap (findEntry r s i) (drop-of-length-le (entriesAt p s) {i = i} (omega (arith, t .size))) ∙ entry-none r s i)
-        ∙ packed-none)
+        let e = drop-of-length-le (entriesAt p s) {i = i} (omega (arith, t .size)) in
+        sym (ap packedWay (t .is ∙ ap (findEntry r s i) e ∙ entry-none r s i) ∙ packed-none)

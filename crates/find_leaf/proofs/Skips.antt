@@ -46,7 +46,8 @@ pub first-none : (found : ℕ → Option Path) (s : SlotNumber) → firstOf foun
 unfolding firstOf
 first-none found s = refl
 
-pub first-cons : (found : ℕ → Option Path) (s : SlotNumber) (i : ℕ) (is : List ℕ) → firstOf found s (i ∷ is) ≡ orLater s i (found i) (firstOf found s is)
+pub first-cons : (found : ℕ → Option Path) (s : SlotNumber) (i : ℕ) (is : List ℕ)
+    → firstOf found s (i ∷ is) ≡ orLater s i (found i) (firstOf found s is)
 unfolding firstOf
 first-cons found s i is = refl
 
@@ -58,7 +59,8 @@ module _ (p : Pool) (r : Record) where
   module _ (l : ℕ) (e : Entry) (inner : InnerEntry p (λ t. Tree p l t) e) where
     found-held : (path : Path) → findLeaf p r l (childOf e) ≡ some path → HoldsRect (e .rect) (r .rect)
     found-held path q =
-        subst (λ (a : Rect). HoldsRect a (r .rect)) (sym (inner .tight)) (record-held p l (childOf e) (inner .child) r (found-record l (childOf e) path q))
+        subst (λ (a : Rect). HoldsRect a (r .rect)) (sym (inner .tight))
+        (record-held p l (childOf e) (inner .child) r (found-record l (childOf e) path q))
 
     found-meets : (path : Path) → findLeaf p r l (childOf e) ≡ some path → meets (e .rect) (r .rect) ≡ true
     found-meets path q =
@@ -117,7 +119,8 @@ module _ (p : Pool) (r : Record) where
         → findChild find (r .rect) s i (drop i (entriesAt p s)) ≡ firstOf found s (those test (upFrom i n))
     unfolding upFrom entryAt entryFrom
     all-places i zero e =
-        rw (drop-of-length-le (entriesAt p s) {i = i} (omega (arith, e)), those-none test, first-none found s) (child-none find (r .rect) s i)
+        rw (drop-of-length-le (entriesAt p s) {i = i} (omega (arith, e)), those-none test, first-none found s)
+        (child-none find (r .rect) s i)
     all-places i (suc n) e =
         let h : i < length (entriesAt p s) = omega (arith, e) in
         let inner = each (entryAt p s i) (at-place (entriesAt p s) i noEntry h) in

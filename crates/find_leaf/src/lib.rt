@@ -30,8 +30,8 @@ pub struct Way {
 
 // ---- a way as one number
 
-// 0 for none; else 2^31, and three bits of the place at each level, the leaf's lowest. A number comes back from a call in a register; a `Way`
-// would be copied at each level.
+// 0 for none; else 2^31, and three bits of the place at each level, the leaf's lowest. A number comes back from a call in a register; a
+// `Way` would be copied at each level.
 const FOUND: usize = 2147483648;
 
 const PLACE_BITS: usize = 3;
@@ -67,8 +67,8 @@ fn place_in(w: usize, level: usize) -> usize
 
 // ---- FL2: a leaf
 
-// Whether some entry of the leaf at s has the number. All are looked at and nothing branches on one: a branch that the processor guesses wrong
-// costs more than the comparisons that it would save.
+// Whether some entry of the leaf at s has the number. All are looked at and nothing branches on one: a branch that the processor guesses
+// wrong costs more than the comparisons that it would save.
 fn has_number(pool: &[i32], s: SlotNumber, k: RecordNumber) -> bool
     requires { ⌜ InPool (now pool) s ⌝ }
     ensures { λ b. ⌜ b ≡ oneOf (hasNumber k) (P.entriesAt (L.read (now (pool .entry))) s) ⌝ }
@@ -124,9 +124,9 @@ fn one_if(b: bool) -> usize
     if b { 1 } else { 0 }
 }
 
-// The places of the entries that hold the rectangle are put in front, in stored order; it says how many there are, and those after them mean
-// nothing. Each place is written down, and the next goes over one that does not hold it: so nothing branches on the outcome, which the
-// processor would often guess wrong.
+// The places of the entries that hold the rectangle are put in front, in stored order; it says how many there are, and what stands after
+// them means nothing. Each place is written down, and the next goes over one that does not hold it: so nothing branches on the outcome,
+// which the processor would often guess wrong.
 fn put_hits(pool: &[i32], s: SlotNumber, r: Rect, places: &mut [usize; MOST]) -> usize
     requires { ⌜ InPool (now pool) s ⌝ }
     requires { ⌜ length (now places) ≡ most ⌝ }
@@ -143,8 +143,8 @@ fn put_hits(pool: &[i32], s: SlotNumber, r: Rect, places: &mut [usize; MOST]) ->
     count
 }
 
-// FindLeaf from the node at s down, which has the level given: "FindLeaf visits children in stored order". It goes only below entries that hold
-// the pair's rectangle: a cover that does not hold it has no such pair below. Where a child has nothing, it comes back to the next.
+// FindLeaf from the node at s down, which has the level given: "FindLeaf visits children in stored order". It goes only below entries that
+// hold the pair's rectangle: a cover that does not hold it has no such pair below. Where a child has nothing, it comes back to the next.
 fn find_in(pool: &[i32], r: Record, level: usize, s: SlotNumber) -> usize
     requires { ⌜ L.validLength (now pool) ≡ true ⌝ }
     requires { ⌜ Tree (L.read (now pool)) level s ⌝ }

@@ -11,7 +11,8 @@ use Rattle.find_leaf.proofs.find_leaf.Statement.{statement}
 use Rattle.find_leaf.proofs.find_leaf.Tie as tie
 
 abbrev Inv-loop : tie.InvT-loop
-Inv-loop pool nodes₀ places₀ h s₀ w l₀ nodes places s l = GoesDown (read pool) h s₀ w (record { found = true; nodes = nodes; places = places }) s l
+Inv-loop pool nodes₀ places₀ h s₀ w l₀ nodes places s l =
+    GoesDown (read pool) h s₀ w (record { found = true; nodes = nodes; places = places }) s l
 
 abbrev μ-loop : tie.MeasureT-loop
 μ-loop pool nodes₀ places₀ h s₀ w l₀ nodes places s l = l

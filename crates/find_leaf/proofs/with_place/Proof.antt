@@ -15,7 +15,9 @@ add-result c =
     })
 
 returns : tie.Need-returns
-returns c = let s = c .before in let b = c .bits-below in rw (b .ensures, shifted (s .args .i) (s .args .level) (s .pre .1 .1 .0) (s .pre .1 .0)) refl
+returns c =
+    let s = c .before in
+    rw (c .bits-below .ensures, shifted (s .args .i) (s .args .level) (s .pre .1 .1 .0) (s .pre .1 .0)) refl
 
 pub with-place-spec : {M : Type 1} → statement M
 with-place-spec = tie.close (tie.spec (λ c κs. search needs) (λ c. search needs) add-result returns)
