@@ -10,9 +10,7 @@ use Rattle.rules.specs.Pool.{slot}
 use Rattle.rules.specs.Delete.{Place, Path, place}
 use Rattle.find_leaf.specs.declared.Way.{Way}
 use Rattle.find_leaf.specs.Ways.{pathOf, UpTo, Gives}
-
-abbrev nodeIn : Way → ℕ → Place
-nodeIn w k = place (getD (w .nodes) k (slot 0)) (getD (w .places) k 0)
+use Rattle.find_leaf.proofs.Down.{nodeIn}
 
 -- ways with the same path have the same place at each level of it
 path-same : (v w : Way) (l : ℕ) → pathOf l v ≡ pathOf l w → (k : ℕ) → k < l → nodeIn v k ≡ nodeIn w k

@@ -1,23 +1,33 @@
--- What FindLeaf gives for the entries of a node from a place on, and below one entry. `findLeaf` of the rules joins this over a node.
-use mathlib.Core.Bool.{true, false}
-use mathlib.Core.Option.{Option, none}
-use Prim.Native.Nat.{ℕ}
-use lib.ListN.{drop}
+-- What FindLeaf looks for in a node: the number in a leaf, and in an inner node the entries that hold the pair's rectangle.
+use mathlib.Core.Path.{_≡_}
+use mathlib.Core.Bool.{Bool, _&&_}
+use mathlib.Core.List.{List}
+use Prim.Native.Nat.{ℕ, _≤_}
+use lib.ListN.{length, take}
+use lib.Signed.{leZ}
+use Rattle.rules.specs.declared.Rect.{Rect}
+use Rattle.rules.specs.declared.RecordNumber.{RecordNumber}
 use Rattle.rules.specs.declared.SlotNumber.{SlotNumber}
-use Rattle.rules.specs.declared.Record.{Record}
 use Rattle.rules.specs.declared.Entry.{Entry}
-use Rattle.rules.specs.Geometry.{meets}
-use Rattle.rules.specs.Pool.{Pool, entriesAt, childOf}
-use Rattle.rules.specs.Delete.{Path, findEntry, findChild, findLeaf}
+use Rattle.rules.specs.Lists.{those, upFrom, same}
+use Rattle.rules.specs.Numbers.{most}
+use Rattle.rules.specs.Pool.{Pool, entriesAt, entryAt, numberOf}
 
--- FL2 over the entries from place i on of the leaf at s
-unfoldable pub findEntryFrom : Pool → Record → SlotNumber → ℕ → Option Path
-findEntryFrom p r s i = findEntry r s i (drop i (entriesAt p s))
+abbrev pub hasNumber : RecordNumber → Entry → Bool
+hasNumber k e = same (k .0) (numberOf e .0)
 
--- FL1 over the entries from place i on of the inner node at s, whose children have the level given
-unfoldable pub findChildFrom : Pool → Record → ℕ → SlotNumber → ℕ → Option Path
-findChildFrom p r level s i = findChild (λ t. findLeaf p r level t) (r .rect) s i (drop i (entriesAt p s))
+-- a holds b
+unfoldable pub contains : Rect → Rect → Bool
+contains a b =
+    leZ (a .lowX) (b .lowX) && leZ (a .lowY) (b .lowY)
+    && leZ (b .highX) (a .highX) && leZ (b .highY) (a .highY)
 
--- .. and below one entry: it goes only into a child whose rectangle meets the pair's
-unfoldable pub findBelow : Pool → Record → ℕ → Entry → Option Path
-findBelow p r level e = elim (meets (e .rect) (r .rect)) [ true ↦ findLeaf p r level (childOf e) | false ↦ none ]
+-- the places of the entries of the node at s that hold the rectangle, in stored order
+unfoldable pub holding : Pool → SlotNumber → Rect → List ℕ
+holding p s r = those (λ i. contains (entryAt p s i .rect) r) (upFrom 0 (length (entriesAt p s)))
+
+-- .. as the code has them: the first so many of some places
+pub record HitsOf (p : Pool) (s : SlotNumber) (r : Rect) (places : List ℕ) (count : ℕ) : Type 0 where
+  pub few : count ≤ most
+  pub long : length places ≡ most
+  pub are : take count places ≡ holding p s r

@@ -1,19 +1,24 @@
-// FindLeaf, over any words of a valid length: the way down to the first exact pair. The node function calls the entries function, which
-// calls the function of one entry, which calls the node function again; the level and the entries left fall.
+// FindLeaf, in a whole pool: the way down to the first exact pair. It is recursive with the level falling; from call to call the way is one
+// number, and it is written out level by level only where it is asked for.
 ghost use mathlib.Core.Path.{_≡_};
-ghost use mathlib.Core.Bool.{true};
-ghost use mathlib.Core.List.{_∷_};
-ghost use mathlib.Core.Option.{none, some};
-ghost use Prim.Native.Nat.{_+_, _-_, _≤_, _<_};
+ghost use mathlib.Core.Bool.{true, cond};
+ghost use Prim.Native.Nat.{_+_, _*_, _/_, _%_, _^_, _≤_, _<_};
 ghost use lib.ListN.{length};
+ghost use Rattle.rules.specs.Lists.{oneOf};
+ghost use Rattle.rules.specs.Numbers.{most};
 ghost use Rattle.rules.specs.Layout as L;
 ghost use Rattle.rules.specs.Pool as P;
 ghost use Rattle.rules.specs.Delete as D;
-ghost use Rattle.sound_laws.specs.Tree.{Whole};
-ghost use Rattle.find_leaf.specs.Ways.{pathOf, UpTo, Gives};
-ghost use Rattle.find_leaf.specs.State.{findEntryFrom, findChildFrom, findBelow};
+ghost use Rattle.pool.specs.Slots.{InPool};
+ghost use Rattle.sound_laws.specs.Tree.{Tree, Whole};
+ghost use Rattle.find_leaf.specs.Ways.{Gives};
+ghost use Rattle.find_leaf.specs.Packed.{bitsBelow, packedWay};
+ghost use Rattle.find_leaf.specs.State.{contains, hasNumber, HitsOf};
+use rules::MOST;
 use rules::MOST_HEIGHT;
 use rules::Record;
+use rules::RecordNumber;
+use rules::Rect;
 use rules::SlotNumber;
 
 // The way down to a pair: for each level, from 1 on, the node that is passed and the entry's place in it.
@@ -23,114 +28,181 @@ pub struct Way {
     pub places: [usize; MOST_HEIGHT],
 }
 
-// ---- ways
+// ---- a way as one number
 
-// No way: the pair is not there.
-fn nowhere() -> Way
-    ensures { λ w. ⌜ Gives none 0 w ⌝ }
-{
-    Way {
-        found: false,
-        nodes: [SlotNumber(0); MOST_HEIGHT],
-        places: [0; MOST_HEIGHT],
-    }
-}
+// 0 for none; else 2^31, and three bits of the place at each level, the leaf's lowest. A number comes back from a call in a register; a
+// `Way` would be copied at each level.
+const FOUND: usize = 2147483648;
 
-// The way w, which goes on below the level given, with place i of the node at s in front of it.
-fn placed(w: Way, level: usize, s: SlotNumber, i: usize) -> Way
-    requires { ⌜ UpTo (level - 1) w ⌝ }
+const PLACE_BITS: usize = 3;
+
+// How many bits are below those of a level's place.
+fn bits_below(level: usize) -> usize
     requires { ⌜ 1 ≤ level ⌝ }
     requires { ⌜ level ≤ 8 ⌝ }
-    ensures { λ r. ⌜ Gives (some (D.place s i ∷ pathOf (level - 1) w)) level r ⌝ }
+    ensures { λ n. ⌜ n ≡ bitsBelow level ⌝ }
 {
-    let mut nodes = w.nodes;
-    let mut places = w.places;
-    let at = level - 1;
-    nodes[at] = s;
-    places[at] = i;
+    PLACE_BITS * (level - 1)
+}
+
+// The way w, which goes on below the level given, with place i in front of it.
+fn with_place(w: usize, level: usize, i: usize) -> usize
+    requires { ⌜ 1 ≤ level ⌝ }
+    requires { ⌜ level ≤ 8 ⌝ }
+    requires { ⌜ i < 8 ⌝ }
+    requires { ⌜ w < 4294967296 ⌝ }
+    ensures { λ v. ⌜ v ≡ w + i * 2 ^ bitsBelow level ⌝ }
+{
+    w + (i << bits_below(level))
+}
+
+// The place that it has at a level.
+fn place_in(w: usize, level: usize) -> usize
+    requires { ⌜ 1 ≤ level ⌝ }
+    requires { ⌜ level ≤ 8 ⌝ }
+    ensures { λ i. ⌜ i ≡ w / 2 ^ bitsBelow level % 8 ⌝ }
+{
+    (w >> bits_below(level)) % MOST
+}
+
+// ---- FL2: a leaf
+
+// Whether some entry of the leaf at s has the number. All are looked at and nothing branches on one: a branch that the processor guesses
+// wrong costs more than the comparisons that it would save.
+fn has_number(pool: &[i32], s: SlotNumber, k: RecordNumber) -> bool
+    requires { ⌜ InPool (now pool) s ⌝ }
+    ensures { λ b. ⌜ b ≡ oneOf (hasNumber k) (P.entriesAt (L.read (now (pool .entry))) s) ⌝ }
+{
+    let n = pool::count_of(pool, s);
+    let mut any = false;
+    let mut i: usize = 0;
+    while i < n {
+        let m = nodes::number_at(pool, s, i);
+        any = any | geometry::same(k.0, m.0);
+        i += 1;
+    }
+    any
+}
+
+// The first of its entries that is the pair. Most leaves have no entry of the number.
+fn find_entry(pool: &[i32], r: Record, s: SlotNumber) -> usize
+    requires { ⌜ InPool (now pool) s ⌝ }
+    ensures { λ w. ⌜ w ≡ packedWay (D.findLeaf (L.read (now (pool .entry))) r 1 s) ⌝ }
+{
+    if !has_number(pool, s, r.number) {
+        return 0;
+    }
+    let n = pool::count_of(pool, s);
+    let mut at: usize = 0;
+    while at < n {
+        let e = pool::entry_of(pool, s, at);
+        if geometry::same_pair(r, nodes::record_of(e)) {
+            return FOUND + at;
+        }
+        at += 1;
+    }
+    0
+}
+
+// ---- FL1: an inner node
+
+// Whether a holds b.
+fn contains(a: Rect, b: Rect) -> bool
+    ensures { λ t. ⌜ t ≡ contains a b ⌝ }
+{
+    let low = geometry::and(geometry::le(a.lowX, b.lowX), geometry::le(a.lowY, b.lowY));
+    geometry::and(
+        geometry::and(low, geometry::le(b.highX, a.highX)),
+        geometry::le(b.highY, a.highY),
+    )
+}
+
+fn one_if(b: bool) -> usize
+    ensures is { λ n. ⌜ n ≡ cond b 1 0 ⌝ }
+    ensures most { λ n. ⌜ n ≤ 1 ⌝ }
+{
+    if b { 1 } else { 0 }
+}
+
+// The places of the entries that hold the rectangle are put in front, in stored order; it says how many there are, and what stands after
+// them means nothing. Each place is written down, and the next goes over one that does not hold it: so nothing branches on the outcome,
+// which the processor would often guess wrong.
+fn put_hits(pool: &[i32], s: SlotNumber, r: Rect, places: &mut [usize; MOST]) -> usize
+    requires { ⌜ InPool (now pool) s ⌝ }
+    requires { ⌜ length (now places) ≡ most ⌝ }
+    ensures { λ n. ⌜ HitsOf (L.read (now (pool .entry))) s r (now (places .exit)) n ⌝ }
+{
+    let n = pool::count_of(pool, s);
+    let mut count: usize = 0;
+    let mut i: usize = 0;
+    while i < n {
+        places[count] = i;
+        count += one_if(contains(pool::rect_of(pool, s, i), r));
+        i += 1;
+    }
+    count
+}
+
+// FindLeaf from the node at s down, which has the level given: "FindLeaf visits children in stored order". It goes only below entries that
+// hold the pair's rectangle: a cover that does not hold it has no such pair below. Where a child has nothing, it comes back to the next.
+fn find_in(pool: &[i32], r: Record, level: usize, s: SlotNumber) -> usize
+    requires { ⌜ L.validLength (now pool) ≡ true ⌝ }
+    requires { ⌜ Tree (L.read (now pool)) level s ⌝ }
+    requires { ⌜ level ≤ 8 ⌝ }
+    ensures { λ w. ⌜ w ≡ packedWay (D.findLeaf (L.read (now (pool .entry))) r level s) ⌝ }
+{
+    if level == 1 {
+        return find_entry(pool, r, s);
+    }
+    let mut places = [0usize; MOST];
+    let count = put_hits(pool, s, r.rect, &mut places);
+    let mut k: usize = 0;
+    while k < count {
+        let i = places[k];
+        let w = find_in(pool, r, level - 1, pool::child_of(pool, s, i));
+        if w != 0 {
+            return with_place(w, level, i);
+        }
+        k += 1;
+    }
+    0
+}
+
+// ---- FindLeaf
+
+// "FindLeaf visits children in stored order; the first exact pair found goes."
+pub fn find_leaf(pool: &[i32], r: Record) -> Way
+    requires { ⌜ L.validLength (now pool) ≡ true ⌝ }
+    requires { ⌜ Whole (L.read (now pool)) ⌝ }
+    ensures { λ w. ⌜ Gives (D.pathTo (L.read (now (pool .entry))) r) (L.read (now (pool .entry)) .height) w ⌝ }
+{
+    let mut nodes = [SlotNumber(0); MOST_HEIGHT];
+    let mut places = [0usize; MOST_HEIGHT];
+    let h = pool::height_of(pool);
+    let mut s = pool::root_of(pool);
+    let w = find_in(pool, r, h, s);
+    if w == 0 {
+        return Way {
+            found: false,
+            nodes,
+            places,
+        };
+    }
+    let mut l = h;
+    while 1 < l {
+        let i = place_in(w, l);
+        nodes[l - 1] = s;
+        places[l - 1] = i;
+        s = pool::child_of(pool, s, i);
+        l -= 1;
+    }
+    nodes[0] = s;
+    places[0] = place_in(w, 1);
     Way {
         found: true,
         nodes,
         places,
     }
-}
-
-// ---- FindLeaf
-
-// FL2: the first that is the pair, of the entries from place i on of the leaf at s, which has n.
-fn find_entry(pool: &[i32], r: Record, s: SlotNumber, i: usize, n: usize) -> Way
-    requires { ⌜ L.validLength (now pool) ≡ true ⌝ }
-    requires { ⌜ n ≡ length (P.entriesAt (L.read (now pool)) s) ⌝ }
-    ensures { λ w. ⌜ Gives (findEntryFrom (L.read (now (pool .entry))) r s i) 1 w ⌝ }
-{
-    if n <= i {
-        return nowhere();
-    }
-    let e = nodes::entry_at(pool, s, i);
-    if geometry::same_pair(r, nodes::record_of(e)) {
-        return placed(nowhere(), 1, s, i);
-    }
-    find_entry(pool, r, s, i + 1, n)
-}
-
-// FindLeaf from the node at s down, which has the level given.
-fn find_in(pool: &[i32], r: Record, level: usize, s: SlotNumber) -> Way
-    requires { ⌜ L.validLength (now pool) ≡ true ⌝ }
-    requires { ⌜ level ≤ 8 ⌝ }
-    ensures { λ w. ⌜ Gives (D.findLeaf (L.read (now (pool .entry))) r level s) level w ⌝ }
-{
-    if level == 0 {
-        return nowhere();
-    }
-    let n = nodes::count_at(pool, s);
-    if level == 1 {
-        return find_entry(pool, r, s, 0, n);
-    }
-    find_from(pool, r, level - 1, s, 0, n)
-}
-
-// .. over the entries from place i on of the inner node at s, which has n: "FindLeaf visits children in stored order". What they lead to has
-// the level below. Where a child has nothing, it comes back to the next entry.
-fn find_from(pool: &[i32], r: Record, below: usize, s: SlotNumber, i: usize, n: usize) -> Way
-    requires { ⌜ L.validLength (now pool) ≡ true ⌝ }
-    requires { ⌜ below < 8 ⌝ }
-    requires { ⌜ n ≡ length (P.entriesAt (L.read (now pool)) s) ⌝ }
-    ensures { λ w. ⌜ Gives (findChildFrom (L.read (now (pool .entry))) r below s i) (below + 1) w ⌝ }
-{
-    if n <= i {
-        return nowhere();
-    }
-    let way = find_below(pool, r, below, s, i);
-    if way.found {
-        return placed(way, below + 1, s, i);
-    }
-    find_from(pool, r, below, s, i + 1, n)
-}
-
-// FL1: .. below the entry at place i alone. It goes only into a child whose rectangle meets the pair's; the pointer of any other is not
-// read.
-fn find_below(pool: &[i32], r: Record, below: usize, s: SlotNumber, i: usize) -> Way
-    requires { ⌜ L.validLength (now pool) ≡ true ⌝ }
-    requires { ⌜ below ≤ 8 ⌝ }
-    requires { ⌜ i < length (P.entriesAt (L.read (now pool)) s) ⌝ }
-    ensures { λ w. ⌜ Gives (findBelow (L.read (now (pool .entry))) r below (P.entryAt (L.read (now (pool .entry))) s i)) below w ⌝ }
-{
-    let q = nodes::rect_at(pool, s, i);
-    if !geometry::meets(q, r.rect) {
-        return nowhere();
-    }
-    let c = nodes::child_at(pool, s, i);
-    find_in(pool, r, below, c)
-}
-
-// "FindLeaf visits children in stored order; the first exact pair found goes."
-pub fn find_leaf(pool: &[i32], r: Record) -> Way
-    requires { ⌜ L.validLength (now pool) ≡ true ⌝ }
-    requires { ⌜ L.read (now pool) .height ≤ 8 ⌝ }
-    ensures { λ w. ⌜ Gives (D.pathTo (L.read (now (pool .entry))) r) (L.read (now (pool .entry)) .height) w ⌝ }
-{
-    let h = pool::height_of(pool);
-    find_in(pool, r, h, pool::root_of(pool))
 }
 
 // "pair held": FindLeaf finds a pair exactly where some leaf has it.
@@ -139,6 +211,6 @@ pub fn holds(pool: &[i32], r: Record) -> bool
     requires { ⌜ Whole (L.read (now pool)) ⌝ }
     ensures { λ b. ⌜ b ≡ P.held (L.read (now (pool .entry))) r ⌝ }
 {
-    let w = find_leaf(pool, r);
-    w.found
+    let h = pool::height_of(pool);
+    find_in(pool, r, h, pool::root_of(pool)) != 0
 }

@@ -52,8 +52,7 @@ find-leaf-requires : tie.Need-find-leaf-requires
 find-leaf-requires c κs =
     let start = c .before .before .before .before .before .before .before .before .before in (
       (start .pre .0) .right,
-      (low-enough (start .args .pool .now) ((start .pre .0) .right)
-          (ready-whole (start .args .pool .now) (start .args .free) (start .pre .0))),
+      ready-whole (start .args .pool .now) (start .args .free) (start .pre .0),
     )
 
 returns-4 : tie.Need-returns-4
