@@ -52,7 +52,7 @@ climb-is p way zero = refl
 climb-is p way (suc m) =
     ap (relieve (place (nodeOn (way .nodes) (suc m)) (placeOn (way .places) (suc m))) (nodeOn (way .nodes) m)) (climb-is p way m)
 
-condense-leaf : (p : Pool) (way : Way) → condense p (pathOf 1 way) ≡ condensed (takeOut p (place (nodeOn (way .nodes) 0) (placeOn (way .places) 0))) []
+pub condense-leaf : (p : Pool) (way : Way) → condense p (pathOf 1 way) ≡ condensed (takeOut p (place (nodeOn (way .nodes) 0) (placeOn (way .places) 0))) []
 unfolding condense pathOf
 condense-leaf p way = refl
 
@@ -74,17 +74,17 @@ module _ (p : Pool) (r : Record) (way : Way) where
   abbrev at : ℕ → ℕ
   at l = placeOn (way .places) l
 
-  record OnWay (l : ℕ) : Type 0 where
-    tree : Tree p (suc l) (top l)
-    once : Once (slotsIn p (suc l) (top l))
-    leads : Leads p r (suc l) (top l) (pathOf (suc l) way)
+  pub record OnWay (l : ℕ) : Type 0 where
+    pub tree : Tree p (suc l) (top l)
+    pub once : Once (slotsIn p (suc l) (top l))
+    pub leads : Leads p r (suc l) (top l) (pathOf (suc l) way)
 
   places-more : (l : ℕ) → pathOf (suc l) way ≡ place (top l) (at l) ∷ pathOf l way
   unfolding pathOf
   places-more l = refl
 
   -- the entry that is passed is there
-  on-there : (l : ℕ) → OnWay l → at l < length (entriesAt p (top l))
+  pub on-there : (l : ℕ) → OnWay l → at l < length (entriesAt p (top l))
   unfolding Leads
   on-there zero o =
       let e = sym (places-more 0) ∙ o .leads .1 in
@@ -95,7 +95,7 @@ module _ (p : Pool) (r : Record) (way : Way) where
       let same = first-at e in
       omega (arith, o .leads .3, same)
 
-  on-child : (l : ℕ) → OnWay (suc l) → (childOf (entryAt p (top (suc l)) (at (suc l))) ≡ top l)
+  pub on-child : (l : ℕ) → OnWay (suc l) → (childOf (entryAt p (top (suc l)) (at (suc l))) ≡ top l)
       × Leads p r (suc l) (childOf (entryAt p (top (suc l)) (at (suc l)))) (pathOf (suc l) way)
   unfolding Leads
   on-child l o =
@@ -126,11 +126,11 @@ module _ (p : Pool) (r : Record) (way : Way) where
       go (yes k) f = f k
       go (no k) f = let z : suc h ≡ l = omega arith in subst OnWay z o
 
-  on-shrunk : (l : ℕ) → OnWay l → Shrunk p (suc l) (top l) r (condense p (pathOf (suc l) way))
+  pub on-shrunk : (l : ℕ) → OnWay l → Shrunk p (suc l) (top l) r (condense p (pathOf (suc l) way))
   on-shrunk l o = condense-shrunk p r (suc l) (top l) (pathOf (suc l) way) (o .tree) (o .once) (o .leads)
 
   -- where the tree below has shrunk, the node above is as it was, and can be written
-  on-next : length (p .slots) ≤ mostSlots → (l : ℕ) → suc (suc l) ≤ mostSlots → OnWay (suc l)
+  pub on-next : length (p .slots) ≤ mostSlots → (l : ℕ) → suc (suc l) ≤ mostSlots → OnWay (suc l)
       → ChildAt (condense p (pathOf (suc l) way) .pool) (top (suc l)) (at (suc l)) (top l)
   unfolding entryAt
   on-next few l low o =
@@ -175,7 +175,7 @@ module _ (p : Pool) (way : Way) (h : ℕ) (d : ComesDown p h way) where
       let n = leads-from p (d .pair) (suc l) (p .root) (pathOf (suc l) way) k in
       sym (head-node (sym (places-more p (d .pair) way l) ∙ n .2))
 
-  down-on : (l : ℕ) → l < h → OnWay p (d .pair) way l
+  pub down-on : (l : ℕ) → l < h → OnWay p (d .pair) way l
   down-on l k = on-way p (d .pair) way (h - 1) whole l (omega arith)
     where
       is : h ≡ suc (h - 1)

@@ -1,6 +1,6 @@
 -- Delete as the code has it: the count, CondenseTree, the entries set aside, the root. Each step leaves what the next one asks.
 use mathlib.Core.Path.{_≡_, refl, sym, ap, subst, subst₂, _∙_}
-use mathlib.Core.Bool.{true}
+use mathlib.Core.Bool.{true, false}
 use mathlib.Core.List.{List, []}
 use mathlib.Core.Option.{Option, none, some}
 use Prim.Native.Nat.{ℕ, _-_, _≤_}
@@ -8,14 +8,14 @@ use native.Mathlib.Omega.{arith}
 use lib.ListN.{length}
 use lib.IntN.{ℤ}
 use Rattle.rules.specs.declared.Record.{Record}
-use Rattle.rules.specs.Pool.{Pool, stored, putRecords}
+use Rattle.rules.specs.Pool.{Pool, nodeAt, entriesAt, stored, putRecords}
 use Rattle.rules.specs.Layout.{read}
 use Rattle.rules.specs.Insert.{Change, Done, NoneFree, ours}
 use Rattle.rules.specs.Delete.{Path, Condensed, pathTo, condense, shorten, shortened, reinsert, deleteRecord}
 use Rattle.rules_laws.proofs.Orders.{never-both}
 use Rattle.rules_laws.proofs.Splits.{ours-lawful}
 use Rattle.rules_laws.proofs.Parts.{counted, those-all}
-use Rattle.pool.specs.Slots.{Fit}
+use Rattle.pool.specs.Slots.{Fit, InPool}
 use Rattle.free_slots.specs.declared.FreeSlots.{FreeSlots}
 use Rattle.free_slots.specs.Known.{Known}
 use Rattle.free_slots.proofs.Known.{known-records}
@@ -23,12 +23,14 @@ use Rattle.sound_laws.specs.Tree.{Whole}
 use Rattle.sound_laws.proofs.Heights.{height-eight}
 use Rattle.insert_laws.specs.Standing.{Standing}
 use Rattle.insert_laws.proofs.Standing.{standing-once}
-use Rattle.delete_laws.specs.Way.{Leads, EachWay, Found}
+use Rattle.insert_laws.proofs.Whole.{whole-standing}
+use Rattle.delete_laws.specs.Way.{Leads, EachWay, Found, leafOf, KeepsEnough}
 use Rattle.delete_laws.specs.Shrunk.{Shrunk, Waiting, PutBack, EachPool}
 use Rattle.delete_laws.proofs.Finds.{find-leads}
 use Rattle.delete_laws.proofs.Held.{held-is, find-held}
 use Rattle.delete_laws.proofs.Again.{reinsert-puts}
 use Rattle.delete_laws.proofs.Delete.{short-done, short-none, back-is, stands, way-leads, out, out-is, shrunk, waiting, delete-found}
+use Rattle.delete_laws.proofs.Keeps.{delete-kept}
 use Rattle.find_leaf.specs.declared.Way.{Way}
 use Rattle.find_leaf.specs.Ways.{pathOf, Long, Gives}
 use Rattle.insert.specs.declared.Outcome.{Outcome}
@@ -37,9 +39,11 @@ use Rattle.insert.specs.Left.{HoldsPool}
 use Rattle.insert.proofs.Records.{records-few}
 use Rattle.delete.specs.declared.Asides.{Asides}
 use Rattle.delete.specs.Removed.{Removes}
-use Rattle.delete.specs.Aside.{asidesOf, Has, ComesDown}
-use Rattle.delete.proofs.Nodes.{few-read}
+use Rattle.delete.specs.Aside.{asidesOf, Has, ComesDown, thinAt, StillKnown}
+use Rattle.delete.proofs.Nodes.{few-read, in-pool}
 use Rattle.delete.proofs.Listed.{listed-length}
+use Rattle.delete.proofs.Climb.{nodeOn, down-high, leaf-rewritable}
+use Rattle.delete.proofs.Stops.{thin-keeps, way-leaf}
 
 shows-some : (o : Option Path) (l : ℕ) (way : Way) → way .found ≡ true → Gives o l way → (o ≡ some (pathOf l way)) × Long way
 shows-some none l way t h = never-both t (h .0)
@@ -83,7 +87,7 @@ module _ {w₀ : List ℤ} {r : Record} {way : Way} (g : ToDelete w₀ r way) wh
   abbrev less : Pool
   less = putRecords p (p .records - 1)
 
-  finds : pathTo p r ≡ some path
+  pub finds : pathTo p r ≡ some path
   finds = shows-some (pathTo p r) (p .height) way (g .found) (g .shows) .0
 
   led : Leads p r (p .height) (p .root) path
@@ -100,6 +104,25 @@ module _ {w₀ : List ℤ} {r : Record} {way : Way} (g : ToDelete w₀ r way) wh
 
   pub records-small : p .records ≤ 2147483647
   records-small = omega (arith, records-few w₀ (g .fit .right) (g .whole))
+
+  -- the leaf at the end of the way
+  whole-way : ComesDown p (p .height) way
+  whole-way = record {
+    pair = r;
+    tree = g .whole .tree;
+    once = standing-once p [] (whole-standing p (g .whole));
+    leads = led;
+    long = shows-some (pathTo p r) (p .height) way (g .found) (g .shows) .1;
+    high = high;
+  }
+
+  pub leaf-found : InPool w₀ (nodeOn (way .nodes) 0)
+  leaf-found = in-pool (g .fit) (leaf-rewritable p way (p .height) whole-way (few-read (g .fit)) .slot)
+
+  pub found-keeps : thinAt p (nodeOn (way .nodes) 0) ≡ false → KeepsEnough p (p .height) (leafOf path)
+  found-keeps thick =
+      subst (KeepsEnough p (p .height)) (sym (way-leaf way (p .height) (down-high p way (p .height) whole-way)))
+      (thin-keeps p (nodeOn (way .nodes) 0) thick)
 
   -- the count goes down by one
   module _ {h : ℕ} {w₁ : List ℤ} (u : CountedOff w₀ h w₁) where
@@ -118,7 +141,33 @@ module _ {w₀ : List ℤ} {r : Record} {way : Way} (g : ToDelete w₀ r way) wh
     pub down-known : (f : FreeSlots) → Known p f → Known (read w₁) f
     down-known f k = subst (λ (q : Pool). Known q f) (sym (u .less)) (known-records p f k (p .records - 1))
 
-    -- CondenseTree is done
+    -- ---- a leaf that is not thin
+
+    pub leaf-in : Fit w₁ → InPool w₁ (nodeOn (way .nodes) 0)
+    leaf-in f = in-pool f (leaf-rewritable (read w₁) way h down-way (few-read f) .slot)
+
+    module _ (thick : thinAt (read w₁) (nodeOn (way .nodes) 0) ≡ false) where
+      all-keeps : KeepsEnough p (p .height) (leafOf path)
+      unfolding thinAt putRecords entriesAt nodeAt
+      all-keeps = found-keeps (subst (λ (q : Pool). thinAt q (nodeOn (way .nodes) 0) ≡ false) (u .less) thick)
+
+      pub way-keeps : KeepsEnough (read w₁) h (leafOf (pathOf h way))
+      unfolding putRecords entriesAt nodeAt
+      way-keeps = subst₂ (λ (q : Pool) (l : ℕ). KeepsEnough q l (leafOf (pathOf l way))) (sym (u .less)) (sym (u .level)) all-keeps
+
+      pub kept-made : (f : FreeSlots) → Known p f → (w₂ : List ℤ) → read w₂ ≡ condense (read w₁) (pathOf h way) .pool → Fit w₂
+          → StillKnown (read w₁) (read w₂) → Removes w₀ (deleteRecord ours p r) (Made f) w₂
+      kept-made f k w₂ e fit known =
+          let is : read w₂ ≡ condense less path .pool = e ∙ (λ i. condense (u .less i) (pathOf (u .level i) way) .pool) in
+          let done = delete-kept ours ours-lawful p (g .whole) r path finds all-keeps in
+          subst (λ (c : Change). Removes w₀ c (Made f) w₂) (sym done) (record {
+            fit = fit;
+            is = is;
+            known = subst (λ (q : Pool). Known q f) is (known f (down-known f k));
+          })
+
+    -- ---- CondenseTree is done
+
     module _ {a : Asides} {w₂ : List ℤ} (d : Has (condense (read w₁) (pathOf h way)) a w₂) where
       abbrev done : Condensed
       done = out ours ours-lawful p (g .whole) r path led

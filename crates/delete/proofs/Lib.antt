@@ -4,6 +4,7 @@ pub mod Nodes
 pub mod Listed
 pub mod Relieved
 pub mod Climb
+pub mod Stops
 pub mod Backs
 pub mod Shorts
 pub mod Deleted

@@ -54,14 +54,15 @@ tree-rewritable p few l s low d =
 
 -- ---- an entry goes out
 
-module _ {w : List ℤ} {s : SlotNumber} (f : Fit w) (g : A.Rewritable (read w) s) where
+module _ {w : List ℤ} {s : SlotNumber} (f : Fit w) (g : Slot (read w) s) where
   here-fine : Fine (nodeAt (read w) s)
-  here-fine = let i = in-pool f (g .slot) in subst Fine (sym (slot-node i)) (node-fine (slotWords w s))
+  here-fine = let i = in-pool f g in subst Fine (sym (slot-node i)) (node-fine (slotWords w s))
 
-  here-kind : (k : ℕ) → k < length (entriesAt (read w) s) → Kind (nodeAt (read w) s .level) (getD (entriesAt (read w) s) k noEntry)
+  pub here-kind : (k : ℕ) → k < length (entriesAt (read w) s) → Kind (nodeAt (read w) s .level) (getD (entriesAt (read w) s) k noEntry)
   unfolding entriesAt
   here-kind k h = each-at (Kind (nodeAt (read w) s .level)) (nodeAt (read w) s .entries) k noEntry h (here-fine .kinds)
 
+module _ {w : List ℤ} {s : SlotNumber} (f : Fit w) (g : A.Rewritable (read w) s) where
   module _ (i n : ℕ) (es rest : List Entry) (there : i < length (entriesAt (read w) s)) (size : n ≡ length (entriesAt (read w) s))
       (front : take (length (entriesAt (read w) s)) es ≡ entriesAt (read w) s) (closed : take (n - 1) rest ≡ without i (take n es)) where
     rest-is : take (n - 1) rest ≡ without i (entriesAt (read w) s)
@@ -79,7 +80,7 @@ module _ {w : List ℤ} {s : SlotNumber} (f : Fit w) (g : A.Rewritable (read w) 
 
     pub rest-kind : (level : ℕ) → level ≡ nodeAt (read w) s .level → KindAll level rest (n - 1)
     rest-kind level e = record {
-      kind = λ j h. let k = rest-at j h in rw e (subst (Kind (nodeAt (read w) s .level)) (k .2) (here-kind (k .0) (k .1)));
+      kind = λ j h. let k = rest-at j h in rw e (subst (Kind (nodeAt (read w) s .level)) (k .2) (here-kind f (g .slot) (k .0) (k .1)));
     }
 
     pub taken-out : (level : ℕ) → level ≡ nodeAt (read w) s .level → putNode (read w) s (node level (take (n - 1) rest)) ≡ takeOut (read w) (place s i)

@@ -1,18 +1,22 @@
 -- The entries set aside as the code has them, and what the steps up the way ask of the pool.
 use mathlib.Core.Path.{_≡_}
+use mathlib.Core.Bool.{Bool, not, _&&_}
 use mathlib.Core.Logic.{_≢_}
 use mathlib.Core.List.{List, [], _∷_}
 use Prim.Native.Nat.{ℕ, zero, suc, _≤_, _<_}
+use lib.Dec.{leb, ltb}
 use lib.ListN.{length, getD}
 use lib.IntN.{ℤ}
 use Rattle.rules.specs.declared.SlotNumber.{SlotNumber}
 use Rattle.rules.specs.declared.Record.{Record}
 use Rattle.rules.specs.declared.Entry.{Entry}
-use Rattle.rules.specs.Numbers.{mostSlots}
-use Rattle.rules.specs.Pool.{Pool, noEntry, nodeAt, entriesAt, entryAt, childOf}
+use Rattle.rules.specs.Numbers.{least, mostSlots}
+use Rattle.rules.specs.Geometry.{sameRect}
+use Rattle.rules.specs.Pool.{Pool, noEntry, nodeAt, entriesAt, entryAt, childOf, coverOf}
 use Rattle.rules.specs.Delete.{Aside, Condensed}
 use Rattle.pool.specs.Slots.{SmallAll}
-use Rattle.free_slots.specs.Known.{moreSlot}
+use Rattle.free_slots.specs.declared.FreeSlots.{FreeSlots}
+use Rattle.free_slots.specs.Known.{Known, moreSlot}
 use Rattle.sound_laws.specs.Tree.{slotsIn, Once, Slot, Tree}
 use Rattle.delete_laws.specs.Way.{Leads}
 use Rattle.find_leaf.specs.declared.Way.{Way}
@@ -68,3 +72,17 @@ pub record ComesDown (p : Pool) (h : ℕ) (way : Way) : Type 0 where
   pub leads : Leads p pair h (p .root) (pathOf h way)
   pub long : Long way
   pub high : h ≤ 8
+
+-- ---- where nothing is set aside
+
+-- the leaf at s would be left with too few entries, and is not the root
+unfoldable pub thinAt : Pool → SlotNumber → Bool
+thinAt p s = leb (length (entriesAt p s)) least && ltb 1 (p .height)
+
+-- entry i of the node at s is not "the smallest holding" its child's entries
+unfoldable pub wideAt : Pool → SlotNumber → ℕ → Bool
+wideAt p s i = not (sameRect (coverOf (entriesAt p (childOf (entryAt p s i)))) (entryAt p s i .rect))
+
+-- what is known of the free slots is still known
+abbrev pub StillKnown : Pool → Pool → Type 0
+StillKnown p q = (f : FreeSlots) → Known p f → Known q f

@@ -13,11 +13,12 @@ ghost use Rattle.pool.specs.Slots.{Fit, InPool};
 ghost use Rattle.free_slots.specs.Known.{Known};
 ghost use Rattle.sound_laws.specs.Tree.{Whole};
 ghost use Rattle.insert_laws.specs.Standing.{Standing};
+ghost use Rattle.delete_laws.specs.Way.{leafOf, KeepsEnough};
 ghost use Rattle.delete_laws.specs.Shrunk.{Waiting, condensed};
 ghost use Rattle.find_leaf.specs.Ways.{Gives, pathOf};
 ghost use Rattle.insert.specs.Left.{HoldsPool};
 ghost use Rattle.delete.specs.Removed.{Removes};
-ghost use Rattle.delete.specs.Aside.{asidesOf, Roomy, Has, Rewritable, ChildAt, ComesDown, withFree};
+ghost use Rattle.delete.specs.Aside.{asidesOf, Roomy, Has, Rewritable, ChildAt, ComesDown, withFree, thinAt, wideAt, StillKnown};
 use find_leaf::Way;
 use free_slots::FreeSlots;
 use insert::Outcome;
@@ -25,6 +26,7 @@ use rules::Entry;
 use rules::LEAST;
 use rules::MOST_HEIGHT;
 use rules::NINE;
+use rules::Pointer;
 use rules::Record;
 use rules::SlotNumber;
 
@@ -151,6 +153,61 @@ fn relieve(pool: &mut [i32], s: SlotNumber, i: usize, t: SlotNumber, asides: Asi
     asides
 }
 
+// ---- where nothing is set aside
+
+// Whether a leaf would be left with too few entries, and leave its parent: only then is anything set aside. A root that is a leaf may have
+// any number.
+pub fn thin(pool: &[i32], leaf: SlotNumber) -> bool
+    requires { ⌜ InPool (now pool) leaf ⌝ }
+    ensures { λ r. ⌜ r ≡ thinAt (L.read (now (pool .entry))) leaf ⌝ }
+{
+    (pool::count_of(pool, leaf) <= LEAST) & (1 < pool::height_of(pool))
+}
+
+// CT4 at place i of the node at s, whose child is t: its cover is made tight. Whether that changed it: a cover that is tight is not written
+// again.
+fn tightened(pool: &mut [i32], s: SlotNumber, i: usize, t: SlotNumber) -> bool
+    requires { ⌜ Fit (now pool) ⌝ }
+    requires { ⌜ ChildAt (L.read (now pool)) s i t ⌝ }
+    ensures is { λ _. ⌜ L.read (now (pool .exit)) ≡ P.tighten (L.read (now (pool .entry))) s i ⌝ }
+    ensures fit { λ _. ⌜ Fit (now (pool .exit)) ⌝ }
+    ensures changed { λ r. ⌜ r ≡ wideAt (L.read (now (pool .entry))) s i ⌝ }
+{
+    let rect = nodes::cover_of(pool, t);
+    let old = pool::rect_of(pool, s, i);
+    if geometry::same_rect(rect, old) {
+        return false;
+    }
+    let tight = Entry {
+        rect,
+        pointer: Pointer::Child(t),
+    };
+    pool::put_entry_of(pool, s, i, tight);
+    true
+}
+
+// D2 and CT4 for a leaf that is not thin: the pair goes out, and covers are made tight up the way, as far as they change. Above a cover
+// that stays as it was the nodes are as they were, and their covers were tight.
+fn tighten_up(pool: &mut [i32], way: Way, height: usize)
+    requires { ⌜ Fit (now pool) ⌝ }
+    requires { ⌜ ComesDown (L.read (now pool)) height way ⌝ }
+    requires { ⌜ KeepsEnough (L.read (now pool)) height (leafOf (pathOf height way)) ⌝ }
+    ensures is { λ _. ⌜ L.read (now (pool .exit)) ≡ D.condense (L.read (now (pool .entry))) (pathOf height way) .pool ⌝ }
+    ensures fit { λ _. ⌜ Fit (now (pool .exit)) ⌝ }
+    ensures free { λ _. ⌜ StillKnown (L.read (now (pool .entry))) (L.read (now (pool .exit))) ⌝ }
+{
+    let nodes = way.nodes;
+    let places = way.places;
+    take_out(pool, nodes[0], places[0]);
+    let mut l: usize = 1;
+    while l < height {
+        if !tightened(pool, nodes[l], places[l], nodes[l - 1]) {
+            return;
+        }
+        l += 1;
+    }
+}
+
 // ---- CondenseTree
 
 // Nothing is set aside yet.
@@ -238,8 +295,9 @@ fn shorten(pool: &mut [i32], free: FreeSlots) -> FreeSlots
     free
 }
 
-// D1 to D4 for a pair that is held, by the way that FindLeaf found to it. Where this is refused, the pool is left half done, and the caller
-// writes over it: a caller that cannot know that there are enough slots keeps a copy.
+// D1 to D4 for a pair that is held, by the way that FindLeaf found to it. From a leaf that is not thin nothing is set aside: no slot is
+// taken or freed, and the root stays. Where this is refused, the pool is left half done, and the caller writes over it: a caller that
+// cannot know that there are enough slots keeps a copy.
 pub fn delete_record(pool: &mut [i32], r: Record, way: Way, free: FreeSlots) -> Outcome
     requires { ⌜ Fit (now pool) ⌝ }
     requires { ⌜ Whole (L.read (now pool)) ⌝ }
@@ -251,6 +309,11 @@ pub fn delete_record(pool: &mut [i32], r: Record, way: Way, free: FreeSlots) -> 
     let n = pool::records_of(pool);
     let height = pool::height_of(pool);
     pool::put_records(pool, n - 1);
+    let nodes = way.nodes;
+    if !thin(pool, nodes[0]) {
+        tighten_up(pool, way, height);
+        return Outcome::Made(free);
+    }
     let asides = condense(pool, way, height, free);
     let Outcome::Made(after) = reinsert(pool, asides) else {
         return Outcome::Refused;

@@ -30,7 +30,7 @@ use Rattle.delete_laws.proofs.Narrow.{relieve-shrunk}
 -- ---- up the way
 
 module _ (p : Pool) where
-  condense-one : (a : Place) → condense p (a ∷ []) ≡ condensed (takeOut p a) []
+  pub condense-one : (a : Place) → condense p (a ∷ []) ≡ condensed (takeOut p a) []
   unfolding condense
   condense-one a = refl
 
@@ -45,6 +45,15 @@ module _ (p : Pool) where
   leads-from r (suc zero) s way h = (h .0, [], h .1)
   leads-from r (suc (suc l)) s way h = (h .0, h .1, h .2)
 
+  -- one level up: the node above is relieved of what the way below left
+  pub condense-up : (r : Record) (l : ℕ) (s : SlotNumber) (i : ℕ) (way rest : Path) → way ≡ place s i ∷ rest
+      → Leads p r (suc l) (childOf (entryAt p s i)) rest → condense p way ≡ relieve (place s i) (childOf (entryAt p s i)) (condense p rest)
+  condense-up r l s i way rest e h =
+      let t = childOf (entryAt p s i) in
+      let n = leads-from r (suc l) t rest h in
+      ap (condense p) e ∙ ap (λ (z : Path). condense p (place s i ∷ z)) (n .2) ∙ condense-more (place s i) (place t (n .0)) (n .1)
+      ∙ ap (λ (z : Path). relieve (place s i) t (condense p z)) (sym (n .2))
+
   pub condense-shrunk : (r : Record) (l : ℕ) (s : SlotNumber) (way : Path) → Tree p l s → Once (slotsIn p l s) → Leads p r l s way
       → Shrunk p l s r (condense p way)
   unfolding Leads
@@ -54,13 +63,9 @@ module _ (p : Pool) where
   condense-shrunk r (suc (suc l)) s way d once h =
       let x = entryAt p s (h .0) in
       let m = among-here p l s d (h .0) (h .3) (h .0) (h .3) in
-      let n = leads-from r (suc l) (childOf x) (h .1) (h .4) in
       let below = condense-shrunk r (suc l) (childOf x) (h .1) (child-entry p l s d (h .0) (h .3) .child) (once-child p l s once x m) (h .4) in
-      let is : condense p way ≡ relieve (place s (h .0)) (childOf x) (condense p (h .1)) =
-      ap (condense p) (h .2) ∙ ap (λ (z : Path). condense p (place s (h .0) ∷ z)) (n .2)
-      ∙ condense-more (place s (h .0)) (place (childOf x) (n .0)) (n .1)
-      ∙ ap (λ (z : Path). relieve (place s (h .0)) (childOf x) (condense p z)) (sym (n .2)) in
-      subst (Shrunk p (suc (suc l)) s r) (sym is) (relieve-shrunk p l s d (h .0) (h .3) once r (condense p (h .1)) below)
+      subst (Shrunk p (suc (suc l)) s r) (sym (condense-up r l s (h .0) way (h .1) (h .2) (h .4)))
+      (relieve-shrunk p l s d (h .0) (h .3) once r (condense p (h .1)) below)
 
 -- ---- a record's weight
 

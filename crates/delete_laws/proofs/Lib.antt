@@ -10,4 +10,5 @@ pub mod Again
 pub mod Spare
 pub mod Short
 pub mod Delete
+pub mod Keeps
 pub mod Update

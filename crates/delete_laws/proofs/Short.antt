@@ -46,6 +46,21 @@ module _ (p : Pool) where
   unfolding shorten
   shorten-more h k = rw (h, k, shorten)
 
+  -- a root that is a leaf, or has two entries, stays
+  pub shorten-two : Tree p (p .height) (p .root) → (2 ≤ p .height → 2 ≤ length (entriesAt p (p .root))) → shorten p ≡ p
+  shorten-two d two = go (isLeaf (nodeAt p (p .root))) refl (eqb (length (entriesAt p (p .root))) 1) refl
+    where
+      level : nodeAt p (p .root) .level ≡ p .height
+      level = tree-node p (p .height) (p .root) d .level
+
+      go : (b : Bool) → isLeaf (nodeAt p (p .root)) ≡ b → (o : Bool) → eqb (length (entriesAt p (p .root))) 1 ≡ o → shorten p ≡ p
+      go true h o k = shorten-leaf h
+      go false h false k = shorten-more h k
+      go false h true k =
+          let not-one : p .height ≢ 1 = λ e. never-both (leaf-is (nodeAt p (p .root)) .1 (level ∙ e)) h in
+          let high : 2 ≤ p .height = omega (arith, not-one, tree-positive p (p .height) (p .root) d) in
+          absurd (omega (arith, two high, eqb-true (length (entriesAt p (p .root))) 1 k))
+
   module _ (w : Standing p []) where
     unchanged : (2 ≤ p .height → 2 ≤ length (entriesAt p (p .root))) → Shortened p p
     unchanged two = record { stands = w; two = two; high = omega arith; spare = omega arith; records = refl; count = λ f. refl }

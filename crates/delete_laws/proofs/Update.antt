@@ -4,6 +4,7 @@ use mathlib.Core.Path.{_≡_, refl, sym, subst, _∙_}
 use mathlib.Core.Logic.{_≢_}
 use mathlib.Core.Bool.{Bool, true}
 use mathlib.Core.List.{[], _∷_}
+use mathlib.Core.Option.{some}
 use Prim.Native.Nat.{suc, _+_, _-_, _*_, _≤_}
 use native.Mathlib.Omega.{arith}
 use lib.ListN.{length}
@@ -12,18 +13,20 @@ use Rattle.rules.specs.declared.Record.{Record}
 use Rattle.rules.specs.Lists.{those}
 use Rattle.rules.specs.Numbers.{goodNumber}
 use Rattle.rules.specs.Geometry.{valid}
-use Rattle.rules.specs.Pool.{Pool, stored, held, freeCount}
+use Rattle.rules.specs.Pool.{Pool, stored, held, freeCount, putRecords}
 use Rattle.rules.specs.Sound.{soundPool}
 use Rattle.rules.specs.Insert.{Choice, Change, Done, NoneFree, insertRecord}
 use Rattle.rules.specs.Lawful.{Lawful}
-use Rattle.rules.specs.Delete.{deleteRecord, updateRecord}
+use Rattle.rules.specs.Delete.{Path, pathTo, condense, deleteRecord, updateRecord}
 use Rattle.sound_laws.specs.Tree.{Whole}
 use Rattle.sound_laws.proofs.Sound.{whole-sound}
 use Rattle.insert_laws.proofs.Whole.{insert-whole, insert-stored}
 use Rattle.insert_laws.proofs.Slots.{insert-fits}
+use Rattle.delete_laws.specs.Way.{leafOf, KeepsEnough}
 use Rattle.delete_laws.specs.Shrunk.{EachPool, Sure, SlotRoom, deleteRoom}
 use Rattle.delete_laws.proofs.Held.{held-number}
 use Rattle.delete_laws.proofs.Delete.{delete-room, delete-whole, delete-stored}
+use Rattle.delete_laws.proofs.Keeps.{kept-high, kept-free, delete-kept}
 
 -- "inserts the new rectangle under the same number"
 abbrev pub renewed : Record → Rect → Record
@@ -83,3 +86,14 @@ module _ (c : Choice) (p : Pool) (old : Record) (new : Rect) where
             insert-fits c lawful q (delete-whole c lawful p w old q h) (renewed old new) v (held-number p w old y)
             (omega (arith, room, k .high, k .left)) (sym (update-done q h) ∙ u)
         go NoneFree h = subst (Sure (SlotRoom p (2 * (p .height - 1)))) h sure
+
+  -- where the leaf keeps enough, a delete takes no slot, and an update those of its insert
+  module _ (lawful : Lawful c) (w : Whole p) (y : held p old ≡ true) (v : valid new ≡ true) (way : Path) (finds : pathTo p old ≡ some way)
+      (keeps : KeepsEnough p (p .height) (leafOf way)) where
+    pub update-kept : suc (p .height) ≤ freeCount p → updateRecord c p old new ≢ NoneFree
+    update-kept room u =
+        let q = condense (putRecords p (p .records - 1)) way .pool in
+        let is = delete-kept c lawful p w old way finds keeps in
+        insert-fits c lawful q (delete-whole c lawful p w old q is) (renewed old new) v (held-number p w old y)
+        (omega (arith, room, kept-high c lawful p w old way finds keeps, kept-free c lawful p w old way finds keeps))
+        (sym (update-done q is) ∙ u)

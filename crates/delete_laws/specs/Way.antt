@@ -2,11 +2,12 @@
 use mathlib.Core.Path.{_≡_}
 use mathlib.Core.List.{[], _∷_}
 use mathlib.Core.Option.{Option, none, some}
-use Prim.Native.Nat.{ℕ, zero, suc, _<_}
+use Prim.Native.Nat.{ℕ, zero, suc, _≤_, _<_}
 use lib.ListN.{length}
 use Rattle.rules.specs.declared.SlotNumber.{SlotNumber}
 use Rattle.rules.specs.declared.Record.{Record}
-use Rattle.rules.specs.Pool.{Pool, entriesAt, entryAt, childOf, recordOf}
+use Rattle.rules.specs.Pool.{Pool, slot, entriesAt, entryAt, childOf, recordOf}
+use Rattle.rules.specs.Numbers.{least}
 use Rattle.rules.specs.Delete.{Path, place}
 
 -- from the node at s, of the level given, the way passes an entry that is there in each node, and the leaf's is the pair
@@ -25,3 +26,13 @@ EachWay Good (some way) = Good way
 abbrev pub Found : Option Path → Type 0
 Found none = ⊥
 Found (some way) = Unit {0}
+
+-- the leaf at the end of a way
+unfoldable pub leafOf : Path → SlotNumber
+leafOf [] = slot 0
+leafOf (a ∷ []) = a .node
+leafOf (a ∷ b ∷ way) = leafOf (b ∷ way)
+
+-- a leaf at the end of l levels that is the root, or keeps enough entries when one goes out: then no node leaves its parent
+abbrev pub KeepsEnough : Pool → ℕ → SlotNumber → Type 0
+KeepsEnough p l s = 2 ≤ l → least < length (entriesAt p s)

@@ -1,7 +1,7 @@
 -- A turn in words: what is refused leaves the words; what a change leaves is sound again, since insert, delete and update leave a whole pool.
-use mathlib.Core.Path.{_≡_, refl, sym, subst, _∙_}
+use mathlib.Core.Path.{_≡_, refl, sym, ap, subst, _∙_}
 use mathlib.Core.Logic.{_≢_}
-use mathlib.Core.Bool.{Bool, true, false}
+use mathlib.Core.Bool.{Bool, true, false, cond}
 use mathlib.Core.List.{List, []}
 use Prim.Native.Nat.{ℕ, suc, _+_, _-_, _*_, _≤_}
 use native.Mathlib.Omega.{arith}
@@ -10,6 +10,7 @@ use lib.ListN.{length}
 use lib.IntN.{ℤ}
 use borrow.Author.Tests.{ltb-false}
 use Rattle.rules.specs.declared.Rect.{Rect}
+use Rattle.rules.specs.declared.SlotNumber.{SlotNumber}
 use Rattle.rules.specs.declared.Record.{Record}
 use Rattle.rules.specs.declared.Asked.{Asked}
 use Rattle.rules.specs.declared.Asked.the-variants.{Insert, Delete, Update}
@@ -20,7 +21,7 @@ use Rattle.rules.specs.Layout.{read}
 use Rattle.rules.specs.Numbers.{goodNumber}
 use Rattle.rules.specs.Geometry.{valid}
 use Rattle.rules.specs.Insert.{ours, Change, Done, NoneFree, insertRecord}
-use Rattle.rules.specs.Delete.{deleteRecord, updateRecord}
+use Rattle.rules.specs.Delete.{pathTo, deleteRecord, updateRecord}
 use Rattle.rules.specs.Request.{Turn, turn, afterChange, request}
 use Rattle.pool.specs.Slots.{Fit}
 use Rattle.sound_laws.specs.Tree.{Whole}
@@ -28,15 +29,20 @@ use Rattle.free_slots.specs.declared.FreeSlots.{FreeSlots}
 use Rattle.free_slots.specs.Known.{Known}
 use Rattle.delete_laws.specs.Shrunk.{EachPool, roomFor, deleteRoom}
 use Rattle.delete_laws.proofs.Spare.{room-least}
+use Rattle.find_leaf.specs.declared.Way.{Way}
+use Rattle.find_leaf.specs.Ways.{pathOf, Gives}
 use Rattle.insert.specs.declared.Outcome.{Outcome}
 use Rattle.insert.specs.declared.Outcome.the-variants.{Made, Refused}
 use Rattle.insert.specs.Left.{HoldsPool, Leaves}
 use Rattle.delete.specs.Removed.{Removes}
-use Rattle.request.specs.Serving.{Ready, Changes, ChangesTo, replied, came, TakenBack, enoughFor, otherHeld}
+use Rattle.delete.specs.Aside.{thinAt}
+use Rattle.delete.proofs.Deleted.{ToDelete, finds, found-keeps}
+use Rattle.request.specs.Serving.{Ready, Changes, ChangesTo, replied, came, TakenBack, enoughFor, leafAt, roomFrom, otherHeld}
 use Rattle.rules_laws.proofs.Splits.{ours-lawful}
 use Rattle.insert_laws.proofs.Whole.{insert-whole}
 use Rattle.delete_laws.proofs.Delete.{delete-whole, delete-fits, pool-left}
-use Rattle.delete_laws.proofs.Update.{update-whole, update-fits}
+use Rattle.delete_laws.proofs.Keeps.{kept-fits}
+use Rattle.delete_laws.proofs.Update.{update-whole, update-fits, update-kept}
 use Rattle.request.proofs.Rows.{insert-0, delete-0, update-0}
 use Rattle.request.proofs.Sounds.{sound-fit, sound-tree, fit-sound}
 
@@ -124,7 +130,24 @@ pub back-small : (n h : ℕ) → n ≤ 14 → h ≤ 8 → n * (h + n) ≤ 308
 unfolding roomFor
 back-small n h a b = room-least n 14 8 h a b
 
+-- a thin leaf, or another
+module _ (p : Pool) (s : SlotNumber) (more : ℕ) where
+  pub room-is : (t : Bool) → thinAt p s ≡ t → cond t (enoughFor (p .height)) more ≡ roomFrom p s more
+  unfolding roomFrom
+  room-is t e = ap (λ (b : Bool). cond b (enoughFor (p .height)) more) (sym e)
+
+  room-thin : (n : ℕ) → thinAt p s ≡ true → roomFrom p s more ≤ n → enoughFor (p .height) ≤ n
+  room-thin n e h = subst (λ (k : ℕ). k ≤ n) (sym (room-is true e)) h
+
+  room-thick : (n : ℕ) → thinAt p s ≡ false → roomFrom p s more ≤ n → more ≤ n
+  room-thick n e h = subst (λ (k : ℕ). k ≤ n) (sym (room-is false e)) h
+
 -- ---- the three changes
+
+-- what a delete is asked with
+pub to-delete : (w : List ℤ) (f : FreeSlots) → Ready w f → (p : Record) (way : Way) → way .found ≡ true
+    → Gives (pathTo (read w) p) (read w .height) way → ToDelete w p way
+to-delete w f r p way found shows = record { fit = ready-fit w f r; whole = ready-whole w f r; found = found; shows = shows }
 
 module _ (p : Pool) (f : FreeSlots) (many : f .count ≡ freeCount p) (n : enoughFor (p .height) ≤ f .count) where
   less-enough : deleteRoom (p .height) ≤ freeCount p
@@ -149,24 +172,40 @@ module _ (w : List ℤ) (f : FreeSlots) (r : Ready w f) where
         (inserted w f r (insertRecord ours (read w) p)
         (pool-left Whole (insertRecord ours (read w) p) (insert-whole ours ours-lawful (read w) (ready-whole w f r) p a b)) o v e h)
 
-    module _ (d : held (read w) p ≡ true) (kept : List ℤ) (copied : ltb (f .count) (enoughFor (read w .height)) ≡ true → kept ≡ w) where
-      pub delete-changes : (o : Outcome) (v : List ℤ) → Removes w (deleteRecord ours (read w) p) o v
-          → (u : List ℤ) → length u ≡ length w → TakenBack o v kept u → ChangesTo w (Delete p) (came o f) u
-      delete-changes o v h u e back filled room =
+    module _ (d : held (read w) p ≡ true) (way : Way) (g : ToDelete w p way) (kept : List ℤ) where
+      abbrev leaf : SlotNumber
+      leaf = leafAt way
+
+      pub delete-changes : (ltb (f .count) (roomFrom (read w) leaf 0) ≡ true → kept ≡ w) → (o : Outcome) (v : List ℤ)
+          → Removes w (deleteRecord ours (read w) p) o v → (u : List ℤ) → length u ≡ length w → TakenBack o v kept u
+          → ChangesTo w (Delete p) (came o f) u
+      delete-changes copied o v h u e back filled room =
           subst (λ (t : Turn). Changes (length w) t (came o f) u) (sym (delete-0 (read w) filled room p a b d))
-          (removed w f r (enoughFor (read w .height)) kept copied (deleteRecord ours (read w) p)
-          (pool-left Whole (deleteRecord ours (read w) p) (delete-whole ours ours-lawful (read w) (ready-whole w f r) p)) enough o v h u e back)
+          (removed w f r (roomFrom (read w) leaf 0) kept copied (deleteRecord ours (read w) p)
+          (pool-left Whole (deleteRecord ours (read w) p) (delete-whole ours ours-lawful (read w) (ready-whole w f r) p))
+          (λ n. enough n (thinAt (read w) leaf) refl) o v h u e back)
         where
-          enough : enoughFor (read w .height) ≤ f .count → deleteRecord ours (read w) p ≢ NoneFree
-          enough n = delete-fits ours (read w) p (ready-whole w f r) ours-lawful (less-enough (read w) f (r .known .many) n)
+          enough : roomFrom (read w) leaf 0 ≤ f .count → (t : Bool) → thinAt (read w) leaf ≡ t → deleteRecord ours (read w) p ≢ NoneFree
+          enough n true thin =
+              delete-fits ours (read w) p (ready-whole w f r) ours-lawful
+              (less-enough (read w) f (r .known .many) (room-thin (read w) leaf 0 (f .count) thin n))
+          enough n false thick =
+              kept-fits ours ours-lawful (read w) (ready-whole w f r) p (pathOf (read w .height) way) (finds g) (found-keeps g thick)
 
       module _ (new : Rect) (c : valid new ≡ true) (other : otherHeld (read w) p new ≡ false) where
-        pub update-changes : (o : Outcome) (v : List ℤ) → Removes w (updateRecord ours (read w) p new) o v
-            → (u : List ℤ) → length u ≡ length w → TakenBack o v kept u → ChangesTo w (Update p new) (came o f) u
-        update-changes o v h u e back filled room =
+        pub update-changes : (more : ℕ) → suc (read w .height) ≤ more → (ltb (f .count) (roomFrom (read w) leaf more) ≡ true → kept ≡ w)
+            → (o : Outcome) (v : List ℤ) → Removes w (updateRecord ours (read w) p new) o v → (u : List ℤ) → length u ≡ length w
+            → TakenBack o v kept u → ChangesTo w (Update p new) (came o f) u
+        update-changes more high copied o v h u e back filled room =
             subst (λ (t : Turn). Changes (length w) t (came o f) u) (sym (update-0 (read w) filled room p new a c b d other))
-            (removed w f r (enoughFor (read w .height)) kept copied (updateRecord ours (read w) p new)
-            (pool-left Whole (updateRecord ours (read w) p new) (update-whole ours (read w) p new ours-lawful (ready-whole w f r) d c)) enough o v h u e back)
+            (removed w f r (roomFrom (read w) leaf more) kept copied (updateRecord ours (read w) p new)
+            (pool-left Whole (updateRecord ours (read w) p new) (update-whole ours (read w) p new ours-lawful (ready-whole w f r) d c))
+            (λ n. enough n (thinAt (read w) leaf) refl) o v h u e back)
           where
-            enough : enoughFor (read w .height) ≤ f .count → updateRecord ours (read w) p new ≢ NoneFree
-            enough n = update-fits ours (read w) p new ours-lawful (ready-whole w f r) d c (all-enough (read w) f (r .known .many) n)
+            enough : roomFrom (read w) leaf more ≤ f .count → (t : Bool) → thinAt (read w) leaf ≡ t → updateRecord ours (read w) p new ≢ NoneFree
+            enough n true thin =
+                update-fits ours (read w) p new ours-lawful (ready-whole w f r) d c
+                (all-enough (read w) f (r .known .many) (room-thin (read w) leaf more (f .count) thin n))
+            enough n false thick =
+                update-kept ours (read w) p new ours-lawful (ready-whole w f r) d c (pathOf (read w .height) way) (finds g)
+                (found-keeps g thick) (omega (arith, r .known .many, high, room-thick (read w) leaf more (f .count) thick n))

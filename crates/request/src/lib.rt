@@ -14,12 +14,12 @@ ghost use Rattle.rules.specs.Delete as D;
 ghost use Rattle.rules.specs.Answers as T;
 ghost use Rattle.rules.specs.Request as R;
 ghost use Rattle.rules.specs.Call.{isRequest};
-ghost use Rattle.pool.specs.Slots.{Fit};
+ghost use Rattle.pool.specs.Slots.{Fit, InPool};
 ghost use Rattle.free_slots.specs.Known.{Known};
 ghost use Rattle.sound_laws.specs.Tree.{Whole};
 ghost use Rattle.find_leaf.specs.Ways.{Gives};
 ghost use Rattle.delete.specs.Removed.{Removes};
-ghost use Rattle.request.specs.Serving.{Ready, Serves, ChangesTo, ServesTo, replied, came, TakenBack, enoughFor, otherHeld};
+ghost use Rattle.request.specs.Serving.{Ready, Serves, ChangesTo, ServesTo, replied, came, TakenBack, enoughFor, leafAt, roomFrom, otherHeld};
 use find_leaf::Way;
 use free_slots::FreeSlots;
 use insert::Outcome;
@@ -125,13 +125,13 @@ pub fn copy(source: &[i32], target: &mut [i32])
     }
 }
 
-// The pool is kept in the workspace where slots are scarce: a change that is refused halfway is then taken back from there.
-fn keep(pool: &[i32], work: &mut [i32], scarce: bool)
+// The pool is kept in the workspace where a change may be refused halfway: it is then taken back from there.
+fn keep(pool: &[i32], work: &mut [i32], halfway: bool)
     requires { ⌜ length (now pool) ≡ length (now work) ⌝ }
     ensures long { λ _. ⌜ length (now (work .exit)) ≡ length (now (work .entry)) ⌝ }
-    ensures kept { λ _. ⌜ (scarce ≡ true → now (work .exit) ≡ now (pool .entry)) ⌝ }
+    ensures kept { λ _. ⌜ (halfway ≡ true → now (work .exit) ≡ now (pool .entry)) ⌝ }
 {
-    if scarce {
+    if halfway {
         copy(pool, work);
     }
 }
@@ -212,6 +212,20 @@ fn scarce(pool: &[i32], free: FreeSlots) -> bool
     free.count < n * (h + n) + (h + n + 1)
 }
 
+// Whether a change that takes out the pair at the end of the way may be refused halfway. Only from a thin leaf is anything put back; from
+// another a delete takes no slot, and `more` free slots are enough for what comes after it.
+fn risky(pool: &[i32], way: Way, free: FreeSlots, more: usize) -> bool
+    requires { ⌜ InPool (now pool) (leafAt way) ⌝ }
+    requires { ⌜ L.read (now pool) .height ≤ 8 ⌝ }
+    ensures { λ r. ⌜ r ≡ ltb (free .count) (roomFrom (L.read (now (pool .entry))) (leafAt way) more) ⌝ }
+{
+    let nodes = way.nodes;
+    if delete::thin(pool, nodes[0]) {
+        return scarce(pool, free);
+    }
+    free.count < more
+}
+
 // 3, 4 and 5, and then the pair goes out.
 fn delete(pool: &mut [i32], work: &mut [i32], r: Record, free: FreeSlots) -> Served
     requires { ⌜ Ready (now pool) free ⌝ }
@@ -231,7 +245,7 @@ fn delete(pool: &mut [i32], work: &mut [i32], r: Record, free: FreeSlots) -> Ser
     if !way.found {
         return told(Reply::NotHeld, free);
     }
-    keep(pool, work, scarce(pool, free));
+    keep(pool, work, risky(pool, way, free, 0));
     let o = delete::delete_record(pool, r, way, free);
     take_back(pool, work, o);
     came_to(o, free)
@@ -293,7 +307,11 @@ fn update(pool: &mut [i32], work: &mut [i32], old: Record, new: Rect, free: Free
     if other_held(pool, old, new) {
         return told(Reply::Held, free);
     }
-    keep(pool, work, scarce(pool, free));
+    keep(
+        pool,
+        work,
+        risky(pool, way, free, pool::height_of(pool) + 1),
+    );
     let o = replace(pool, old, new, way, free);
     take_back(pool, work, o);
     came_to(o, free)

@@ -3,7 +3,8 @@ use Rattle.rules_laws.proofs.Bools.{not-true, not-false}
 use Rattle.rules.specs.declared.Asked.the-variants.{Delete}
 use Rattle.rules.specs.declared.Reply.the-variants.{BadRectangle, BadNumber, NotHeld}
 use Rattle.find_leaf.proofs.Held.{shows-held, low-enough}
-use Rattle.request.proofs.Turns.{ready-fit, ready-whole, row-applies, delete-changes}
+use Rattle.delete.proofs.Deleted.{leaf-found}
+use Rattle.request.proofs.Turns.{ready-fit, ready-whole, row-applies, to-delete, delete-changes}
 use Rattle.request.proofs.Rows.{delete-3, delete-4, delete-5}
 use borrow.Author.Needs.{needs}
 use Rattle.request.proofs.delete.Statement.{statement}
@@ -57,12 +58,15 @@ returns-3 c =
       refl,
     )
 
-scarce-requires : tie.Need-scarce-requires
-scarce-requires c κs =
-    let start = c .before .before .before .before .before .before .before .before .before .before .before .before in (
-      (start .pre .0) .right,
-      (low-enough (start .args .pool .now) ((start .pre .0) .right)
-          (ready-whole (start .args .pool .now) (start .args .free) (start .pre .0))),
+risky-requires : tie.Need-risky-requires
+risky-requires c κs =
+    let start = c .before .before .before .before .before .before .before .before .before .before .before .before in
+    let find-leaf = c .before .before .before .before .find-leaf in
+    let if3 = c .before .before .if3 in (
+      leaf-found (to-delete (start .args .pool .now) (start .args .free) (start .pre .0) (start .args .r) (find-leaf .result)
+          (not-false _ (if3 .left)) (find-leaf .ensures)),
+      low-enough (start .args .pool .now) ((start .pre .0) .right)
+          (ready-whole (start .args .pool .now) (start .args .free) (start .pre .0)),
     )
 
 keep-requires : tie.Need-keep-requires
@@ -93,15 +97,15 @@ take-back-requires c κs =
 
 returns-4 : tie.Need-returns-4
 returns-4 c =
-    let at-scarce = c .before .before .before .before .before .before .before .before .before .before in
-    let start = at-scarce .before .before .before .before .before .before .before .before .before .before .before .before .before in
-    let valid = at-scarce .before .before .before .before .before .before .before .before .before .before .valid in
-    let if1 = at-scarce .before .before .before .before .before .before .before .before .before .if1 in
-    let good-number = at-scarce .before .before .before .before .before .before .before .before .good-number in
-    let if2 = at-scarce .before .before .before .before .before .before .before .if2 in
-    let find-leaf = at-scarce .before .before .before .before .before .find-leaf in
-    let if3 = at-scarce .before .before .before .if3 in
-    let scarce = at-scarce .scarce in
+    let at-risky = c .before .before .before .before .before .before .before .before .before .before in
+    let start = at-risky .before .before .before .before .before .before .before .before .before .before .before .before .before in
+    let valid = at-risky .before .before .before .before .before .before .before .before .before .before .valid in
+    let if1 = at-risky .before .before .before .before .before .before .before .before .before .if1 in
+    let good-number = at-risky .before .before .before .before .before .before .before .before .good-number in
+    let if2 = at-risky .before .before .before .before .before .before .before .if2 in
+    let find-leaf = at-risky .before .before .before .before .before .find-leaf in
+    let if3 = at-risky .before .before .before .if3 in
+    let risky = at-risky .risky in
     let keep = c .before .before .before .before .before .before .before .before .before .keep in
     let delete-record = c .before .before .before .before .before .before .delete-record in
     let take-back = c .before .before .take-back in
@@ -110,7 +114,9 @@ returns-4 c =
           (sym (valid .ensures) ∙ not-false _ (if1 .left)) (sym (good-number .ensures) ∙ not-false _ (if2 .left))
           (sym (shows-held _ (start .args .r) (find-leaf .result) (ready-whole (start .args .pool .now) (start .args .free) (start .pre .0))
           (find-leaf .ensures))
-          ∙ not-false _ (if3 .left)) _ (λ e. keep .ensures .1 (scarce .ensures ∙ e)) _ _ (delete-record .ensures) _ (search needs)
+          ∙ not-false _ (if3 .left)) (find-leaf .result)
+          (to-delete (start .args .pool .now) (start .args .free) (start .pre .0) (start .args .r) (find-leaf .result) (not-false _ (if3 .left))
+          (find-leaf .ensures)) _ (λ e. keep .ensures .1 (risky .ensures ∙ e)) _ _ (delete-record .ensures) _ (search needs)
           (take-back .ensures),
       keep .ensures .0,
     )
@@ -129,7 +135,7 @@ delete-spec =
     (λ c κs. search needs)
     (λ c. search needs)
     returns-3
-    scarce-requires
+    risky-requires
     keep-requires
     delete-record-requires
     take-back-requires
