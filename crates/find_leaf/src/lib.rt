@@ -1,7 +1,7 @@
 // FindLeaf, in a whole pool: the way down to the first exact pair. It is recursive with the level falling; from call to call the way is one
 // number, and it is written out level by level only where it is asked for.
 ghost use mathlib.Core.Path.{_≡_};
-ghost use mathlib.Core.Bool.{true, cond};
+ghost use mathlib.Core.Bool.{true};
 ghost use Prim.Native.Nat.{_+_, _*_, _/_, _%_, _^_, _≤_, _<_};
 ghost use lib.ListN.{length};
 ghost use Rattle.rules.specs.Lists.{oneOf};
@@ -14,6 +14,7 @@ ghost use Rattle.sound_laws.specs.Tree.{Tree, Whole};
 ghost use Rattle.find_leaf.specs.Ways.{Gives};
 ghost use Rattle.find_leaf.specs.Packed.{bitsBelow, packedWay};
 ghost use Rattle.find_leaf.specs.State.{contains, hasNumber, HitsOf};
+use geometry::one_if;
 use rules::MOST;
 use rules::MOST_HEIGHT;
 use rules::Record;
@@ -115,13 +116,6 @@ fn contains(a: Rect, b: Rect) -> bool
         geometry::and(low, geometry::le(b.highX, a.highX)),
         geometry::le(b.highY, a.highY),
     )
-}
-
-fn one_if(b: bool) -> usize
-    ensures is { λ n. ⌜ n ≡ cond b 1 0 ⌝ }
-    ensures most { λ n. ⌜ n ≤ 1 ⌝ }
-{
-    if b { 1 } else { 0 }
 }
 
 // The places of the entries that hold the rectangle are put in front, in stored order; it says how many there are, and what stands after

@@ -1,7 +1,7 @@
 // Rectangles of whole millimetres and their measures, as document 01 has them. It knows nothing of nodes or pools.
 // A measure that cannot be negative is a u64; d can be, and is counted from -8,000,000,000,000,000,000.
 ghost use mathlib.Core.Path.{_≡_};
-ghost use mathlib.Core.Bool.{true, not, _&&_, _||_};
+ghost use mathlib.Core.Bool.{true, cond, not, _&&_, _||_};
 ghost use Prim.Native.Nat.{_≤_};
 ghost use lib.IntN.{pos, subℕ, _-ℤ_};
 ghost use lib.Signed.{leZ};
@@ -32,6 +32,14 @@ pub fn less_then(less: bool, more: bool, next: bool) -> bool
     ensures { λ r. ⌜ r ≡ (less || (not more && next)) ⌝ }
 {
     or(less, and(!more, next))
+}
+
+// 1 where it is so, 0 where it is not: a sum in place of a branch.
+pub fn one_if(b: bool) -> usize
+    ensures is { λ r. ⌜ r ≡ cond b 1 0 ⌝ }
+    ensures most { λ r. ⌜ r ≤ 1 ⌝ }
+{
+    if b { 1 } else { 0 }
 }
 
 pub fn le(a: i32, b: i32) -> bool

@@ -15,6 +15,7 @@ ghost use Rattle.pool.specs.Slots.{InPool};
 ghost use Rattle.found_items.specs.Items.{itemsFrom, Pointing};
 ghost use Rattle.search.specs.State.{meetsAt, foundAt, meetingPlaces};
 ghost use Rattle.search.specs.Walk.{walked, ItemRoom, Went};
+use geometry::one_if;
 use rules::MOST;
 use rules::Rect;
 use rules::SlotNumber;
@@ -26,14 +27,6 @@ pub struct Walked {
 }
 
 // ---- one node
-
-// 1 where it is so, 0 where it is not: a sum in place of a branch.
-fn one_if(b: bool) -> usize
-    ensures is { λ r. ⌜ r ≡ cond b 1 0 ⌝ }
-    ensures most { λ r. ⌜ r ≤ 1 ⌝ }
-{
-    if b { 1 } else { 0 }
-}
 
 // How far the next place moves on at the entry at place i: by 1 where it meets the window, "touching counts", otherwise not.
 fn met(pool: &[i32], window: Rect, s: SlotNumber, i: usize) -> usize
