@@ -1,6 +1,6 @@
 -- Where words stand in a list is asked a word at a time, or a part at a time: of two parts, one after the other, each where it begins.
 use mathlib.Core.Path.{_≡_, refl, sym, ap, ap₂, _∙_}
-use mathlib.Core.Bool.{Bool, true, false, _&&_, and-assoc}
+use mathlib.Core.Bool.{Bool, true, _&&_, and-assoc}
 use mathlib.Core.List.{List, [], _∷_, _++_, map}
 use Prim.Native.Nat.{ℕ, zero, suc, _+_, _*_, _-_, _≤_, _<_, min}
 use native.Mathlib.Nat.{mul-suc, mul-le-mul-left}
@@ -47,7 +47,8 @@ stand-all vs w e = ap (λ (n : ℕ). sameWords vs (take n w)) e ∙ ap (sameWord
 -- ---- zeros
 
 module _ (w : List ℤ) (i to : ℕ) where
-  pub zeros-more : i < to → to ≤ length w → stand (zeros (to - i)) w i ≡ (same (pos 0) (wordAt w i) && stand (zeros (to - (i + 1))) w (i + 1))
+  pub zeros-more : i < to → to ≤ length w
+      → stand (zeros (to - i)) w i ≡ (same (pos 0) (wordAt w i) && stand (zeros (to - (i + 1))) w (i + 1))
   zeros-more h l =
       let e : to - i ≡ suc (to - (i + 1)) = omega arith in
       ap (λ (n : ℕ). stand (zeros n) w i) e ∙ stand-cons (pos 0) (zeros (to - (i + 1))) w i (omega arith)

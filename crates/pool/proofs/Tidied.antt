@@ -112,7 +112,8 @@ module _ {w : List ℤ} {s : SlotNumber} (p : InPool w s) where
       ∙ ap (λ (r : Rect). r .lowX ∷ r .lowY ∷ r .highX ∷ r .highY ∷ pointerWord q ∷ []) (slot-rect p i h))
       ∙ words-stand w at (pointerWord q) fits
 
-  pub pointer-one : (i : ℕ) → i < length (entriesAt (read w) s) → leZ (pos 1) (wordAt w (pointerPlace s i)) ≡ leZ (pos 1) (pointerWord (entryAt (read w) s i .pointer))
+  pub pointer-one : (i : ℕ) → i < length (entriesAt (read w) s)
+      → leZ (pos 1) (wordAt w (pointerPlace s i)) ≡ leZ (pos 1) (pointerWord (entryAt (read w) s i .pointer))
   pointer-one i h = one-pointer _ _ ∙ ap (λ q. leZ (pos 1) (pointerWord q)) (sym (slot-pointer p i h))
 
   pub leaf-entry : (i : ℕ) → i < length (entriesAt (read w) s) → eqb (nodeAt (read w) s .level) 1 ≡ true
@@ -130,16 +131,21 @@ module _ {w : List ℤ} {s : SlotNumber} (p : InPool w s) where
   pub leaf-entries : eqb (nodeAt (read w) s .level) 1 ≡ true
       → stand (joined (map entryWords (entriesAt (read w) s))) w (slotStart s + slotHead) ≡ true
   unfolding entryAt entryFrom
-  leaf-entries e = parts-all entrySize entryWords entry-size w (slotStart s + slotHead) noEntry (entriesAt (read w) s) entries-fit (λ i h. leaf-entry i h e)
+  leaf-entries e =
+      parts-all entrySize entryWords entry-size w (slotStart s + slotHead) noEntry (entriesAt (read w) s) entries-fit
+      (λ i h. leaf-entry i h e)
 
   -- the entries of an inner node from place i on
+  abbrev pub standFrom : ℕ → Bool
+  standFrom i = stand (joined (map entryWords (drop i (entriesAt (read w) s)))) w (entryPlace s i)
+
   pub child-entries : (i : ℕ) → i < length (entriesAt (read w) s) → eqb (nodeAt (read w) s .level) 1 ≡ false
-      → stand (joined (map entryWords (drop i (entriesAt (read w) s)))) w (entryPlace s i)
-      ≡ (leZ (pos 0) (wordAt w (pointerPlace s i)) && stand (joined (map entryWords (drop (i + 1) (entriesAt (read w) s)))) w (entryPlace s (i + 1)))
+      → standFrom i ≡ (leZ (pos 0) (wordAt w (pointerPlace s i)) && standFrom (i + 1))
   unfolding entryAt entryFrom
   child-entries i h e =
-      parts-more entrySize entryWords entry-size w (slotStart s + slotHead) noEntry (entriesAt (read w) s) i h (omega (arith, room p, slot-few p))
-      ∙ ap (λ (b : Bool). b && stand (joined (map entryWords (drop (i + 1) (entriesAt (read w) s)))) w (entryPlace s (i + 1))) (child-entry i h e)
+      parts-more entrySize entryWords entry-size w (slotStart s + slotHead) noEntry (entriesAt (read w) s) i h
+      (omega (arith, room p, slot-few p))
+      ∙ ap (λ (b : Bool). b && standFrom (i + 1)) (child-entry i h e)
 
 -- ---- a slot
 
@@ -209,17 +215,21 @@ nothing-is w r =
 -- the head's words stand, and each slot's
 pub nothing-each : (w : List ℤ) → validLength w ≡ true
     → (nothingElse w ≡ true)
-    ↔ ((stand (headWords (read w)) w 0 ≡ true) × ((s : SlotNumber) → InPool w s → stand (nodeWords (nodeAt (read w) s)) w (slotStart s) ≡ true))
+    ↔ ((stand (headWords (read w)) w 0 ≡ true)
+    × ((s : SlotNumber) → InPool w s → stand (nodeWords (nodeAt (read w) s)) w (slotStart s) ≡ true))
 unfolding nodeAt
 nothing-each w r =
     let ns = read w .slots in
     let fits : headSize + slotSize * length ns ≤ length w = omega (arith, right-size w r, read-slots w) in (
-      λ h. let q = and-both _ _ (nothing-is w r ∙ h) in
-          (q .0, λ s p. parts-each slotSize nodeWords node-size w headSize freeNode ns fits (q .1) (s .0 - 1) (omega (arith, p .low, p .high, read-slots w))),
+      λ h. let q = and-both _ _ (nothing-is w r ∙ h) in (
+        q .0,
+        λ s p. parts-each slotSize nodeWords node-size w headSize freeNode ns fits (q .1) (s .0 - 1)
+            (omega (arith, p .low, p .high, read-slots w)),
+      ),
       λ h. sym (nothing-is w r) ∙ both-and _ _ (h .0) (parts-all slotSize nodeWords node-size w headSize freeNode ns fits
           (λ j l. let e : slot (suc j) .0 - 1 ≡ j = omega arith in
-              subst (λ (i : ℕ). stand (nodeWords (getD ns i freeNode)) w (headSize + slotSize * i) ≡ true) e
-              (h .1 (slot (suc j)) (record { right = r; low = omega arith; high = omega (arith, read-slots w) })))),
+          subst (λ (i : ℕ). stand (nodeWords (getD ns i freeNode)) w (headSize + slotSize * i) ≡ true) e
+          (h .1 (slot (suc j)) (record { right = r; low = omega arith; high = omega (arith, read-slots w) })))),
     )
 
 -- ---- a free slot
@@ -229,7 +239,8 @@ unfolding nodeWords padded joined
 free-words = refl
 
 -- a slot whose words are those of a free one is free
-pub zero-free : (w : List ℤ) (s : SlotNumber) → InPool w s → stand (nodeWords freeNode) w (slotStart s) ≡ true → nodeAt (read w) s ≡ freeNode
+pub zero-free : (w : List ℤ) (s : SlotNumber) → InPool w s → stand (nodeWords freeNode) w (slotStart s) ≡ true
+    → nodeAt (read w) s ≡ freeNode
 unfolding entriesAt same natural
 zero-free w s p h =
     let q = and-both _ _ (sym (node-stands freeNode w (slotStart s) (omega (arith, room p))) ∙ h) in

@@ -1,5 +1,5 @@
--- One look at a node's entries. Where low is not above high, an entry lies in range where the cover of all does: so all rectangles are valid
--- where each is upright and the cover is valid. In a leaf, such entries with pointers of 1 or more are the sound ones.
+-- One look at a node's entries. Where low is not above high, an entry lies in range where the cover of all does: so all rectangles are
+-- valid where each is upright and the cover is valid. In a leaf, such entries with pointers of 1 or more are the sound ones.
 use mathlib.Core.Path.{_≡_, refl, sym, ap, ap₂, subst, _∙_}
 use mathlib.Core.Bool.{Bool, true, false, cond, _&&_, and-assoc, and-true}
 use mathlib.Core.List.{List, [], _∷_, foldl, List·Memᴰ·head, List·Memᴰ·tail}
@@ -18,10 +18,10 @@ use Rattle.rules.specs.Lists.{every}
 use Rattle.rules.specs.Numbers.{inRange, goodNumber}
 use Rattle.rules.specs.Geometry.{valid, smaller, larger, cover, coverAll}
 use Rattle.rules.specs.Choose.{rectFrom}
-use Rattle.rules.specs.Pool.{Pool, number, noEntry, nodeAt, entriesAt, entryAt, entryFrom, numberOf, rects, coverOf}
+use Rattle.rules.specs.Pool.{Pool, number, noEntry, nodeAt, entriesAt, entryAt, entryFrom, rects, coverOf}
 use Rattle.rules.specs.Layout.{pointerWord, pointerPlace, wordAt, read}
 use Rattle.rules_laws.proofs.Bools.{and-both, both-and}
-use Rattle.rules_laws.proofs.Orders.{never-both, at-most-on, at-most-self}
+use Rattle.rules_laws.proofs.Orders.{never-both, at-most-on}
 use Rattle.rules_laws.proofs.Everies.{every-is}
 use Rattle.rules_laws.proofs.Places.{Among, place-of}
 use Rattle.geometry.proofs.Measures.{valid-parts, parts-valid, cover-valid}
@@ -37,10 +37,10 @@ use Rattle.sound.specs.Walked.{upright, plainEntry}
 use Rattle.sound.proofs.Everies.{every-more, every-none}
 
 -- two tests that hold together
-pub alike : (a b : Bool) → (a ≡ true → b ≡ true) → (b ≡ true → a ≡ true) → a ≡ b
-alike true b f g = sym (f refl)
-alike false true f g = g refl
-alike false false f g = refl
+pub same-test : (a b : Bool) → (a ≡ true → b ≡ true) → (b ≡ true → a ≡ true) → a ≡ b
+same-test true b f g = sym (f refl)
+same-test false true f g = g refl
+same-test false false f g = refl
 
 -- ---- rectangles
 
@@ -58,27 +58,32 @@ upright-parts : (r : Rect) → upright r ≡ true → (leZ (r .lowX) (r .highX) 
 unfolding upright
 upright-parts r h = and-both _ _ h
 
+-- of an interval that is held in another: both ends are in range
+ends-between : (a b c d : ℤ) → inRange a ≡ true → leZ a b ≡ true → leZ b c ≡ true → leZ c d ≡ true → inRange d ≡ true
+    → (inRange b ≡ true) × (inRange c ≡ true)
+ends-between a b c d p h k l q = (
+  range-between a b d p h (at-most-on b c d k l) q,
+  range-between a c d p (at-most-on a b c h k) l q,
+)
+
 held-valid : (a b : Rect) → HoldsRect a b → valid a ≡ true → upright b ≡ true → valid b ≡ true
 held-valid a b h v u =
     let q = valid-parts a v in
     let o = upright-parts b u in
-    parts-valid (record {
-      lowX = range-between (a .lowX) (b .lowX) (a .highX) (q .lowX) (h .lowX) (at-most-on (b .lowX) (b .highX) (a .highX) (o .0) (h .highX)) (q .highX);
-      lowY = range-between (a .lowY) (b .lowY) (a .highY) (q .lowY) (h .lowY) (at-most-on (b .lowY) (b .highY) (a .highY) (o .1) (h .highY)) (q .highY);
-      highX = range-between (a .lowX) (b .highX) (a .highX) (q .lowX) (at-most-on (a .lowX) (b .lowX) (b .highX) (h .lowX) (o .0)) (h .highX) (q .highX);
-      highY = range-between (a .lowY) (b .highY) (a .highY) (q .lowY) (at-most-on (a .lowY) (b .lowY) (b .highY) (h .lowY) (o .1)) (h .highY) (q .highY);
-      x = o .0;
-      y = o .1;
-    })
+    let x = ends-between (a .lowX) (b .lowX) (b .highX) (a .highX) (q .lowX) (h .lowX) (o .0) (h .highX) (q .highX) in
+    let y = ends-between (a .lowY) (b .lowY) (b .highY) (a .highY) (q .lowY) (h .lowY) (o .1) (h .highY) (q .highY) in
+    parts-valid (record { lowX = x .0; lowY = y .0; highX = x .1; highY = y .1; x = o .0; y = o .1 })
 
 valid-upright : (r : Rect) → valid r ≡ true → upright r ≡ true
 unfolding upright
 valid-upright r v = let q = valid-parts r v in both-and _ _ (q .x) (q .y)
 
-fold-valid : (r : Rect) (es : List Entry) → valid r ≡ true → ((e : Entry) → Among e es → valid (e .rect) ≡ true) → valid (foldl cover r (rects es)) ≡ true
+fold-valid : (r : Rect) (es : List Entry) → valid r ≡ true
+    → ((e : Entry) → Among e es → valid (e .rect) ≡ true) → valid (foldl cover r (rects es)) ≡ true
 unfolding rects
 fold-valid r [] v each = v
-fold-valid r (e ∷ es) v each = fold-valid (cover r (e .rect)) es (cover-valid r (e .rect) v (each e (List·Memᴰ·head refl))) (λ f m. each f (List·Memᴰ·tail m))
+fold-valid r (e ∷ es) v each =
+    fold-valid (cover r (e .rect)) es (cover-valid r (e .rect) v (each e (List·Memᴰ·head refl))) (λ f m. each f (List·Memᴰ·tail m))
 
 covers-valid : (es : List Entry) → 1 ≤ length es → ((e : Entry) → Among e es → valid (e .rect) ≡ true) → valid (coverOf es) ≡ true
 unfolding coverOf coverAll rects
@@ -107,21 +112,21 @@ unfolding plainEntry
 is-plain e h k = both-and _ _ h k
 
 pub plain-all : (es : List Entry) → 1 ≤ length es → (every uprightEntry es && valid (coverOf es)) ≡ every plainEntry es
-plain-all es h = alike (every uprightEntry es && valid (coverOf es)) (every plainEntry es) to back
+plain-all es h = same-test (every uprightEntry es && valid (coverOf es)) (every plainEntry es) to back
   where
     to : (every uprightEntry es && valid (coverOf es)) ≡ true → every plainEntry es ≡ true
     to t =
         let q = and-both (every uprightEntry es) (valid (coverOf es)) t in
         every-is plainEntry es .1 (λ e m.
-            let u = upright-is e (every-is uprightEntry es .0 (q .0) e m) in
-            is-plain e (held-valid (coverOf es) (e .rect) (cover-of-holds m) (q .1) (u .0)) (u .1))
+        let u = upright-is e (every-is uprightEntry es .0 (q .0) e m) in
+        is-plain e (held-valid (coverOf es) (e .rect) (cover-of-holds m) (q .1) (u .0)) (u .1))
 
     back : every plainEntry es ≡ true → (every uprightEntry es && valid (coverOf es)) ≡ true
     back t =
-        let each : (e : Entry) → Among e es → (valid (e .rect) ≡ true) × (leZ (pos 1) (pointerWord (e .pointer)) ≡ true) = λ e m. plain-is e (every-is plainEntry es .0 t e m) in
+        let each = every-is plainEntry es .0 t in
         both-and (every uprightEntry es) (valid (coverOf es))
-        (every-is uprightEntry es .1 (λ e m. is-upright e (valid-upright (e .rect) (each e m .0)) (each e m .1)))
-        (covers-valid es h (λ e m. each e m .0))
+        (every-is uprightEntry es .1 (λ e m. let p = plain-is e (each e m) in is-upright e (valid-upright (e .rect) (p .0)) (p .1)))
+        (covers-valid es h (λ e m. plain-is e (each e m) .0))
 
 -- ---- an entry at a time
 
@@ -133,7 +138,8 @@ module _ (p : Pool) (s : SlotNumber) (i : ℕ) where
 
 module _ (es : List Entry) (i : ℕ) (plain : Bool) where
   pub plain-step : (good next : Bool) → i < length es → good ≡ uprightEntry (getD es i noEntry) → next ≡ (plain && good)
-      → (plain && every uprightEntry (drop i es)) ≡ every uprightEntry es → (next && every uprightEntry (drop (i + 1) es)) ≡ every uprightEntry es
+      → (plain && every uprightEntry (drop i es)) ≡ every uprightEntry es
+      → (next && every uprightEntry (drop (i + 1) es)) ≡ every uprightEntry es
   plain-step good next h e f rest =
       ap (λ (b : Bool). b && every uprightEntry (drop (i + 1) es)) (f ∙ ap (λ (b : Bool). plain && b) e)
       ∙ and-assoc plain (uprightEntry (getD es i noEntry)) (every uprightEntry (drop (i + 1) es))

@@ -1,11 +1,10 @@
 -- Slots met one list after the other: what is unmet and marked is so of both lists together.
 use mathlib.Core.Path.{_≡_, refl, subst, _∙_}
-use mathlib.Core.Logic.{_≢_}
 use mathlib.Core.List.{List, [], _∷_, _++_}
-use Prim.Native.Nat.{ℕ, _+_, _-_, _≤_, _<_}
+use Prim.Native.Nat.{ℕ, _+_, _-_, _≤_}
 use native.Mathlib.Decide.{decLe}
 use native.Mathlib.Omega.{arith}
-use lib.ListN.{length, getD, set, length-set}
+use lib.ListN.{length, set, length-set}
 use lib.Seq.{getD-set-same, getD-set-other}
 use Rattle.rules.specs.declared.SlotNumber.{SlotNumber}
 use Rattle.rules.specs.Pool.{sameSlot}
@@ -29,7 +28,9 @@ module _ (xs ys : List SlotNumber) {a : List ℕ} where
 
   module _ {b : List ℕ} (f : Marked xs a b) where
     pub unmet-back : Unmet (xs ++ ys) a → Unmet ys b
-    unmet-back h = record { each = λ t l m. omega (arith, h .each t l (omega (arith, times-append t xs ys)), times-append t xs ys, f .each t l) }
+    unmet-back h = record {
+      each = λ t l m. omega (arith, h .each t l (omega (arith, times-append t xs ys)), times-append t xs ys, f .each t l);
+    }
 
     pub unmet-both : Unmet xs a → Unmet ys b → Unmet (xs ++ ys) a
     unmet-both h k = record { each = λ t l m. go t l m (decLe 1 (times t ys)) }

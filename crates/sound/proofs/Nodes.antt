@@ -1,20 +1,20 @@
 -- The node check and the entry check, a step at a time, as the code has them. A tree is its top, met first, and the trees that its entries
 -- lead to, met one after the other.
-use mathlib.Core.Path.{_≡_, refl, sym, ap, subst, _∙_}
+use mathlib.Core.Path.{_≡_, refl, sym, subst, _∙_}
 use mathlib.Core.Logic.{_⊎_, inl, inr}
 use mathlib.Core.Bool.{Bool, true, false}
-use mathlib.Core.List.{List, [], _∷_, _++_, map, List·Memᴰ·head, List·Memᴰ·tail, List·Memᴰ·not-nil, List·Memᴰ·cases-cons, List·Memᴰ·eq-of-singleton}
+use mathlib.Core.List.{List, [], _∷_, _++_, List·Memᴰ·head, List·Memᴰ·tail, List·Memᴰ·not-nil, List·Memᴰ·cases-cons, List·Memᴰ·eq-of-singleton}
 use Prim.Native.Nat.{ℕ, zero, suc, _+_, _-_, _≤_, _<_}
 use native.Mathlib.Omega.{arith}
 use native.Mathlib.Numerals.{add-one}
-use lib.ListN.{length, getD, set, drop, drop-of-length-le}
+use lib.ListN.{length, set, drop, drop-of-length-le}
 use lib.Seq.{drop-cons}
 use lib.IntN.{ℤ}
 use borrow.Author.Tests.{ne-eqb}
 use Rattle.rules.specs.declared.Rect.{Rect}
 use Rattle.rules.specs.declared.SlotNumber.{SlotNumber}
 use Rattle.rules.specs.declared.Entry.{Entry}
-use Rattle.rules.specs.Lists.{every, joined}
+use Rattle.rules.specs.Lists.{every}
 use Rattle.rules.specs.Pool.{Node, Pool, noEntry, nodeAt, entriesAt, entryAt, entryFrom, childOf, rects, coverOf, isLeaf}
 use Rattle.rules.specs.Numbers.{least, mostSlots}
 use Rattle.rules.specs.Geometry.{sameRect}
@@ -29,11 +29,11 @@ use Rattle.pool.specs.Slots.{InPool}
 use Rattle.pool.specs.Standing.{stand}
 use Rattle.pool.proofs.Parts.{few, slot-few, rect-entry}
 use Rattle.pool.proofs.Written.{read-slots}
-use Rattle.sound_laws.specs.Tree.{slotsIn, Slot, NodeIn, Tree}
+use Rattle.sound_laws.specs.Tree.{slotsIn, NodeIn}
 use Rattle.sound_laws.proofs.Same.{same-rect}
 use Rattle.sound_laws.proofs.Tests.{slot-is}
-use Rattle.sound_laws.proofs.Walk.{slots-leaf, slots-inner, no-tree, leaf-of, inner-of, leaf-tree, inner-tree, tree-node, top-among, below-among, among-cases}
-use Rattle.sound.specs.Walked.{plainEntry, slotsBelow, markOf, Unmet, Marked, Answers, TidySlot, Fitting, TidyTree, SoundNode, SoundEntries, SoundRoot}
+use Rattle.sound_laws.proofs.Walk.{slots-leaf, slots-inner, leaf-of, inner-of, leaf-tree, inner-tree, tree-node, top-among, below-among, among-cases}
+use Rattle.sound.specs.Walked.{plainEntry, slotsBelow, markOf, Unmet, Answers, TidySlot, Fitting, TidyTree, SoundNode, SoundEntries, NodeAnswer, EntriesAnswer, RootAnswer}
 use Rattle.sound.proofs.Looks.{leaf-plain, plain-leaf}
 use Rattle.sound.proofs.Marks.{one-unmet, unmet-one, one-marked, unmet-none, marked-none, unmet-front, unmet-back, unmet-both, marked-both}
 
@@ -68,7 +68,10 @@ module _ (w : List ℤ) (below : ℕ) where
   abbrev belowOf : Entry → List SlotNumber
   belowOf e = slotsIn (read w) below (childOf e)
 
-  none-answers : (a : List ℕ) → Answers (SoundEntries w below []) (slotsBelow (read w) below []) a a true
+  abbrev restOf : List Entry → List SlotNumber
+  restOf es = slotsBelow (read w) below es
+
+  none-answers : (a : List ℕ) → EntriesAnswer w below [] a a true
   none-answers a = rw (joined-none belowOf) (record {
     yes = λ e f m. absurd (List·Memᴰ·not-nil m);
     unmet = λ e. unmet-none a;
@@ -77,21 +80,21 @@ module _ (w : List ℤ) (below : ℕ) where
   })
 
   module _ (e : Entry) (es : List Entry) where
-    front : {c : List ℕ} → Unmet (slotsBelow (read w) below (e ∷ es)) c → Unmet (belowOf e ++ slotsBelow (read w) below es) c
+    front : {c : List ℕ} → Unmet (restOf (e ∷ es)) c → Unmet (belowOf e ++ restOf es) c
     front u = rw (joined-more belowOf e es) at u
 
-    first-refused : {r : Bool} {a b : List ℕ} → r ≡ false → Answers (SoundNode w below (childOf e) (e .rect)) (belowOf e) a b r
-        → Answers (SoundEntries w below (e ∷ es)) (slotsBelow (read w) below (e ∷ es)) a b false
-    first-refused q n = refused (λ h u. never-both (n .all (h e (List·Memᴰ·head refl)) (unmet-front (belowOf e) (slotsBelow (read w) below es) (front u))) q)
+    first-refused : {r : Bool} {a b : List ℕ} → r ≡ false → NodeAnswer w below (childOf e) (e .rect) a b r
+        → EntriesAnswer w below (e ∷ es) a b false
+    first-refused q n = refused (λ h u. never-both (n .all (h e (List·Memᴰ·head refl)) (unmet-front (belowOf e) (restOf es) (front u))) q)
 
-    first-goes : {r q : Bool} {a b c : List ℕ} → q ≡ true → Answers (SoundNode w below (childOf e) (e .rect)) (belowOf e) a b q
-        → Answers (SoundEntries w below es) (slotsBelow (read w) below es) b c r
-        → Answers (SoundEntries w below (e ∷ es)) (slotsBelow (read w) below (e ∷ es)) a c r
+    first-goes : {r q : Bool} {a b c : List ℕ} → q ≡ true → NodeAnswer w below (childOf e) (e .rect) a b q
+        → EntriesAnswer w below es b c r
+        → EntriesAnswer w below (e ∷ es) a c r
     first-goes {r} t n m = record {
       yes = λ k f i. each k f (List·Memᴰ·cases-cons i);
-      unmet = λ k. rw (joined-more belowOf e es) (unmet-both (belowOf e) (slotsBelow (read w) below es) (n .marked t) (n .unmet t) (m .unmet k));
-      marked = λ k. rw (joined-more belowOf e es) (marked-both (belowOf e) (slotsBelow (read w) below es) (n .marked t) (m .marked k));
-      all = λ h u. m .all (λ f i. h f (List·Memᴰ·tail i)) (unmet-back (belowOf e) (slotsBelow (read w) below es) (n .marked t) (front u));
+      unmet = λ k. rw (joined-more belowOf e es) (unmet-both (belowOf e) (restOf es) (n .marked t) (n .unmet t) (m .unmet k));
+      marked = λ k. rw (joined-more belowOf e es) (marked-both (belowOf e) (restOf es) (n .marked t) (m .marked k));
+      all = λ h u. m .all (λ f i. h f (List·Memᴰ·tail i)) (unmet-back (belowOf e) (restOf es) (n .marked t) (front u));
     }
       where
         each : r ≡ true → (f : Entry) → (f ≡ e) ⊎ Among f es → SoundNode w below (childOf f) (f .rect)
@@ -108,8 +111,7 @@ entry-rect p s i = rect-entry (entriesAt p s) i
 module _ (w : List ℤ) (below : ℕ) (s : SlotNumber) (i : ℕ) where
   -- what is asked of the entries from place j on, answered by r
   abbrev pub EntriesFrom : ℕ → List ℕ → List ℕ → Bool → Type 0
-  EntriesFrom j a b r =
-      Answers (SoundEntries w below (drop j (entriesAt (read w) s))) (slotsBelow (read w) below (drop j (entriesAt (read w) s))) a b r
+  EntriesFrom j a b r = EntriesAnswer w below (drop j (entriesAt (read w) s)) a b r
 
   pub entries-end : (a : List ℕ) → length (entriesAt (read w) s) ≤ i → EntriesFrom i a a true
   entries-end a h = rw (drop-of-length-le (entriesAt (read w) s) {i = i} h) (none-answers w below a)
@@ -126,8 +128,8 @@ module _ (w : List ℤ) (below : ℕ) (s : SlotNumber) (i : ℕ) where
           let d = h (entryAt (read w) s i) (List·Memᴰ·head refl) .below .tree in
           never-both (slot-is (read w) c .1 (rw is (tree-node (read w) below (childOf (entryAt (read w) s i)) d .slot))) n))
 
-      module _ (r : Rect) (rect : r ≡ entryAt (read w) s i .rect) {a b : List ℕ} {q : Bool} (n : Answers (SoundNode w below c r) (slotsIn (read w) below c) a b q) where
-        node-here : Answers (SoundNode w below (childOf (entryAt (read w) s i)) (entryAt (read w) s i .rect)) (slotsIn (read w) below (childOf (entryAt (read w) s i))) a b q
+      module _ (r : Rect) (rect : r ≡ entryAt (read w) s i .rect) {a b : List ℕ} {q : Bool} (n : NodeAnswer w below c r a b q) where
+        node-here : NodeAnswer w below (childOf (entryAt (read w) s i)) (entryAt (read w) s i .rect) a b q
         node-here = rw (is, rect) at n
 
         pub entry-refused : q ≡ false → EntriesFrom i a b false
@@ -170,7 +172,8 @@ module _ {w : List ℤ} {s : SlotNumber} (k : InPool w s) where
   top-unmet : (l : ℕ) → 1 ≤ l → {a : List ℕ} → Unmet (slotsIn (read w) l s) a → Unmet (s ∷ []) a
   top-unmet zero h u = absurd (omega arith)
   top-unmet (suc zero) h u = rw (slots-leaf (read w) s) at u
-  top-unmet (suc (suc l)) h u = unmet-front (s ∷ []) (slotsBelow (read w) (suc l) (entriesAt (read w) s)) (rw (slots-inner (read w) s l) at u)
+  top-unmet (suc (suc l)) h u =
+      unmet-front (s ∷ []) (slotsBelow (read w) (suc l) (entriesAt (read w) s)) (rw (slots-inner (read w) s l) at u)
 
   pub not-met : (l : ℕ) → 1 ≤ l → {a b : List ℕ} {r : Bool} → r ≡ false → Answers (Fitting w l s) (s ∷ []) a b r
       → Answers (TidyTree w l s) (slotsIn (read w) l s) a b false
@@ -194,11 +197,14 @@ module _ {w : List ℤ} {s : SlotNumber} (k : InPool w s) where
 
   -- an inner node
   module _ (l : ℕ) {a b c : List ℕ} {q r : Bool} (t : q ≡ true) (m : Answers (Fitting w (suc (suc l)) s) (s ∷ []) a b q)
-      (n : Answers (SoundEntries w (suc l) (entriesAt (read w) s)) (slotsBelow (read w) (suc l) (entriesAt (read w) s)) b c r) where
+      (n : EntriesAnswer w (suc l) (entriesAt (read w) s) b c r) where
     tidy-below : r ≡ true → (u : SlotNumber)
         → (u ≡ s) ⊎ ((e : Entry) × Among e (entriesAt (read w) s) × Among u (slotsIn (read w) (suc l) (childOf e))) → TidySlot w u
     tidy-below h u (inl e) = rw e (m .yes t .tidy)
     tidy-below h u (inr i) = n .yes h (i .0) (i .1) .below .tidy u (i .2)
+
+    abbrev rest : List SlotNumber
+    rest = slotsBelow (read w) (suc l) (entriesAt (read w) s)
 
     entries-back : TidyTree w (suc (suc l)) s → SoundEntries w (suc l) (entriesAt (read w) s)
     entries-back h e i =
@@ -218,31 +224,32 @@ module _ {w : List ℤ} {s : SlotNumber} (k : InPool w s) where
         });
         tidy = λ u i. tidy-below h u (among-cases (read w) l s u i);
       };
-      unmet = λ h. rw (slots-inner (read w) s l) (unmet-both (s ∷ []) (slotsBelow (read w) (suc l) (entriesAt (read w) s)) (m .marked t) (m .unmet t) (n .unmet h));
-      marked = λ h. rw (slots-inner (read w) s l) (marked-both (s ∷ []) (slotsBelow (read w) (suc l) (entriesAt (read w) s)) (m .marked t) (n .marked h));
-      all = λ h u. n .all (entries-back h) (unmet-back (s ∷ []) (slotsBelow (read w) (suc l) (entriesAt (read w) s)) (m .marked t) (rw (slots-inner (read w) s l) at u));
+      unmet = λ h. rw (slots-inner (read w) s l) (unmet-both (s ∷ []) rest (m .marked t) (m .unmet t) (n .unmet h));
+      marked = λ h. rw (slots-inner (read w) s l) (marked-both (s ∷ []) rest (m .marked t) (n .marked h));
+      all = λ h u. n .all (entries-back h) (unmet-back (s ∷ []) rest (m .marked t) (rw (slots-inner (read w) s l) at u));
     }
 
-  pub inner-answers : (l : ℕ) → 2 ≤ l → {a b c : List ℕ} {q r : Bool} → q ≡ true → Answers (Fitting w l s) (s ∷ []) a b q → EntriesFrom w (l - 1) s 0 0 b c r
+  pub inner-answers : (l : ℕ) → 2 ≤ l → {a b c : List ℕ} {q r : Bool} → q ≡ true → Answers (Fitting w l s) (s ∷ []) a b q
+      → EntriesFrom w (l - 1) s 0 0 b c r
       → Answers (TidyTree w l s) (slotsIn (read w) l s) a c r
   inner-answers zero h t m n = absurd (omega arith)
   inner-answers (suc zero) h t m n = absurd (omega arith)
   inner-answers (suc (suc l)) h {b = b} {c = c} {r = r} t m n =
       let e : suc (suc l) - 1 ≡ suc l = omega arith in
-      inner-at l t m (subst (λ (x : ℕ). Answers (SoundEntries w x (entriesAt (read w) s)) (slotsBelow (read w) x (entriesAt (read w) s)) b c r) e n)
+      inner-at l t m (subst (λ (x : ℕ). EntriesAnswer w x (entriesAt (read w) s) b c r) e n)
 
 -- ---- .. below an entry: as many entries as it needs, and the cover that is wanted
 
 module _ {w : List ℤ} {l : ℕ} {s : SlotNumber} {want : Rect} {a b : List ℕ} where
-  pub too-few : length (entriesAt (read w) s) < least → Answers (SoundNode w l s want) (slotsIn (read w) l s) a b false
+  pub too-few : length (entriesAt (read w) s) < least → NodeAnswer w l s want a b false
   too-few h = refused (λ n u. omega (arith, n .enough))
 
   module _ (cover : Rect) (is : cover ≡ coverOf (entriesAt (read w) s)) where
-    pub not-tight : sameRect want cover ≡ false → Answers (SoundNode w l s want) (slotsIn (read w) l s) a b false
+    pub not-tight : sameRect want cover ≡ false → NodeAnswer w l s want a b false
     not-tight e = refused (λ n u. never-both (same-rect want cover .1 (n .tight ∙ sym is)) e)
 
-    pub as-node : least ≤ length (entriesAt (read w) s) → sameRect want cover ≡ true → {r : Bool} → Answers (TidyTree w l s) (slotsIn (read w) l s) a b r
-        → Answers (SoundNode w l s want) (slotsIn (read w) l s) a b r
+    pub as-node : least ≤ length (entriesAt (read w) s) → sameRect want cover ≡ true
+        → {r : Bool} → Answers (TidyTree w l s) (slotsIn (read w) l s) a b r → NodeAnswer w l s want a b r
     as-node h e t = asked-as (λ y. record { below = y; enough = h; tight = same-rect want cover .0 e ∙ is }) (λ n. n .below) t
 
 -- a node above the leaves
@@ -253,9 +260,9 @@ no-leaf n l e h = ne-eqb (n .level) 1 (λ k. omega arith)
 -- ---- .. and at the root
 
 module _ {w : List ℤ} {l : ℕ} {s : SlotNumber} {a b : List ℕ} where
-  pub too-few-root : 2 ≤ l → length (entriesAt (read w) s) < 2 → Answers (SoundRoot w l s) (slotsIn (read w) l s) a b false
+  pub too-few-root : 2 ≤ l → length (entriesAt (read w) s) < 2 → RootAnswer w l s a b false
   too-few-root h few = refused (λ n u. omega (arith, n .two h))
 
   pub as-root : (2 ≤ l → 2 ≤ length (entriesAt (read w) s)) → {r : Bool} → Answers (TidyTree w l s) (slotsIn (read w) l s) a b r
-      → Answers (SoundRoot w l s) (slotsIn (read w) l s) a b r
+      → RootAnswer w l s a b r
   as-root h t = asked-as (λ y. record { below = y; two = h }) (λ n. n .below) t

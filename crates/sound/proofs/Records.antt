@@ -34,11 +34,13 @@ unfolding recordCounts those joined
 records-none = refl
 
 module _ (p : Pool) (s : ℕ) where
-  pub records-more : 1 ≤ s → s ≤ length (p .slots) → recordCounts (drop (s - 1) (p .slots)) ≡ recordCount (nodeAt p (slot s)) + recordCounts (drop (s + 1 - 1) (p .slots))
+  pub records-more : 1 ≤ s → s ≤ length (p .slots)
+      → recordCounts (drop (s - 1) (p .slots)) ≡ recordCount (nodeAt p (slot s)) + recordCounts (drop (s + 1 - 1) (p .slots))
   unfolding nodeAt
   records-more low high =
       let e : suc (s - 1) ≡ s + 1 - 1 = omega arith in
-      ap recordCounts (drop-cons (p .slots) (s - 1) freeNode (omega arith) ∙ ap (λ (k : ℕ). getD (p .slots) (s - 1) freeNode ∷ drop k (p .slots)) e)
+      ap recordCounts (drop-cons (p .slots) (s - 1) freeNode (omega arith)
+      ∙ ap (λ (k : ℕ). getD (p .slots) (s - 1) freeNode ∷ drop k (p .slots)) e)
       ∙ records-cons (getD (p .slots) (s - 1) freeNode) (drop (s + 1 - 1) (p .slots))
 
   pub records-end : length (p .slots) < s → recordCounts (drop (s - 1) (p .slots)) ≡ 0

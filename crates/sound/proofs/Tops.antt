@@ -9,17 +9,16 @@ use native.Mathlib.Omega.{arith}
 use lib.Dec.{leb, eqb}
 use lib.ListN.{length, getD, replicate}
 use lib.IntN.{ℤ}
-use borrow.Author.Tests.{leb-true, le-leb, eqb-true, eq-eqb, ne-eqb}
+use borrow.Author.Tests.{leb-true, le-leb, eqb-true, eq-eqb}
 use Rattle.rules.specs.declared.SlotNumber.{SlotNumber}
 use Rattle.rules.specs.Lists.{every}
-use Rattle.rules.specs.Numbers.{mostSlots}
 use Rattle.rules.specs.Pool.{Node, Pool, slot, freeNode, slotNumbers, nodeAt, stored}
 use Rattle.rules.specs.Layout.{slotStart, validLength, nodeWords, headWords, read}
 use Rattle.rules.specs.Sound.{isSlot, recordsSound, soundPool, nothingElse, sound}
 use Rattle.rules_laws.proofs.Bools.{and-both, both-and}
 use Rattle.rules_laws.proofs.Orders.{never-both}
 use Rattle.rules_laws.proofs.Everies.{every-is}
-use Rattle.rules_laws.proofs.Places.{Among, getD-alike}
+use Rattle.rules_laws.proofs.Places.{getD-alike}
 use Rattle.pool.specs.Slots.{InPool}
 use Rattle.pool.specs.Standing.{stand}
 use Rattle.pool.proofs.Written.{read-slots}
@@ -27,23 +26,23 @@ use Rattle.pool.proofs.Tidied.{nothing-each, zero-free}
 use Rattle.nodes.proofs.Slots.{most-slots, within, asked-within}
 use Rattle.sound_laws.specs.Tree.{treeSlots, times, Slot, Used, Whole}
 use Rattle.sound_laws.proofs.Tests.{or-is, slot-is}
-use Rattle.sound_laws.proofs.Times.{times-among, among-times}
+use Rattle.sound_laws.proofs.Times.{times-among}
 use Rattle.sound_laws.proofs.Flat.{slots-are}
 use Rattle.sound_laws.proofs.Walk.{tree-node, within-used}
 use Rattle.sound_laws.proofs.Whole.{height-positive, reached-used, all-once}
 use Rattle.sound_laws.proofs.Sound.{sound-is-whole}
 use Rattle.sound_laws.proofs.Heights.{height-eight}
-use Rattle.sound.specs.Walked.{markOf, Unmet, Marked, Answers, TidySlot, SoundRoot, metOrZero, headSound}
+use Rattle.sound.specs.Walked.{markOf, Unmet, Marked, TidySlot, SoundRoot, RootAnswer, metOrZero, headSound}
 use Rattle.sound.proofs.Everies.{slots-at}
-use Rattle.sound.proofs.Looks.{alike}
+use Rattle.sound.proofs.Looks.{same-test}
 
 -- no slot is marked before the walk
 abbrev pub unmarked : List ℕ
 unmarked = replicate 4096 0
 
 -- what the walk from the root is asked, and answers
-abbrev pub RootAnswer : List ℤ → List ℕ → Bool → Type 0
-RootAnswer w after r = Answers (SoundRoot w (read w .height) (read w .root)) (treeSlots (read w)) unmarked after r
+abbrev pub TopAnswer : List ℤ → List ℕ → Bool → Type 0
+TopAnswer w after r = RootAnswer w (read w .height) (read w .root) unmarked after r
 
 -- ---- the tests
 
@@ -57,16 +56,21 @@ head-parts w h =
     let t = and-both (leb 1 (p .height)) (leb (p .height) 8) (r .1) in
     (r .0, (leb-true 1 (p .height) (t .0), leb-true (p .height) 8 (t .1)), q .1)
 
-parts-head : (w : List ℤ) → stand (headWords (read w)) w 0 ≡ true → 1 ≤ read w .height → read w .height ≤ 8 → isSlot (read w) (read w .root) ≡ true
-    → headSound w ≡ true
+parts-head : (w : List ℤ) → stand (headWords (read w)) w 0 ≡ true → 1 ≤ read w .height → read w .height ≤ 8
+    → isSlot (read w) (read w .root) ≡ true → headSound w ≡ true
 unfolding headSound
 parts-head w h low high root = rw (h, le-leb 1 (read w .height) low, le-leb (read w .height) 8 high, root)
 
-met-is : (w : List ℤ) (seen : List ℕ) (s : SlotNumber) → metOrZero w seen s ≡ true → markOf seen s ≡ 0 → stand (nodeWords freeNode) w (slotStart s) ≡ true
-unfolding metOrZero
-met-is w seen s h e = or-is (not (eqb (markOf seen s) 0)) (stand (nodeWords freeNode) w (slotStart s)) .0 h (ap not (eq-eqb (markOf seen s) 0 e))
+-- the words of the slot are all zero
+abbrev Zero : List ℤ → SlotNumber → Type 0
+Zero w s = stand (nodeWords freeNode) w (slotStart s) ≡ true
 
-is-met : (w : List ℤ) (seen : List ℕ) (s : SlotNumber) → (markOf seen s ≡ 0 → stand (nodeWords freeNode) w (slotStart s) ≡ true) → metOrZero w seen s ≡ true
+met-is : (w : List ℤ) (seen : List ℕ) (s : SlotNumber) → metOrZero w seen s ≡ true → markOf seen s ≡ 0 → Zero w s
+unfolding metOrZero
+met-is w seen s h e =
+    or-is (not (eqb (markOf seen s) 0)) (stand (nodeWords freeNode) w (slotStart s)) .0 h (ap not (eq-eqb (markOf seen s) 0 e))
+
+is-met : (w : List ℤ) (seen : List ℕ) (s : SlotNumber) → (markOf seen s ≡ 0 → Zero w s) → metOrZero w seen s ≡ true
 unfolding metOrZero
 is-met w seen s f = go (eqb (markOf seen s) 0) refl
   where
@@ -88,7 +92,9 @@ met-at w seen i h r e =
 records-are : (w : List ℤ) → (recordsSound (read w) ≡ true → read w .records ≡ length (stored (read w)))
     × (read w .records ≡ length (stored (read w)) → recordsSound (read w) ≡ true)
 unfolding recordsSound
-records-are w = let p = read w in (λ h. sym (eqb-true (length (stored p)) (p .records) h), λ e. eq-eqb (length (stored p)) (p .records) (sym e))
+records-are w =
+    let p = read w in
+    (λ h. sym (eqb-true (length (stored p)) (p .records) h), λ e. eq-eqb (length (stored p)) (p .records) (sym e))
 
 mark-none : (t : SlotNumber) → markOf unmarked t ≡ 0
 mark-none t = getD-alike 4096 (t .0 - 1) 0
@@ -106,7 +112,7 @@ module _ (w : List ℤ) (right : validLength w ≡ true) where
 
   -- ---- what is said yes to is sound
 
-  module _ (head : headSound w ≡ true) {after : List ℕ} (walk : RootAnswer w after true)
+  module _ (head : headSound w ≡ true) {after : List ℕ} (walk : TopAnswer w after true)
       (rest : every (metOrZero w after) (slotNumbers (read w)) ≡ true) where
     abbrev p : Pool
     p = read w
@@ -119,7 +125,7 @@ module _ (w : List ℤ) (right : validLength w ≡ true) where
     mark-is {s} k = omega (arith, walk .marked refl .each s (k .low), mark-none s)
 
     -- a slot of the tree, or one that is all zero
-    zero-or-met : {s : SlotNumber} → Slot p s → times s (treeSlots p) ≡ 0 → stand (nodeWords freeNode) w (slotStart s) ≡ true
+    zero-or-met : {s : SlotNumber} → Slot p s → times s (treeSlots p) ≡ 0 → Zero w s
     zero-or-met {s} k e = met-is w after s (every-is (metOrZero w after) (slotNumbers p) .0 rest s (slots-are p s .1 k)) (mark-is k ∙ e)
 
     free-at : {s : SlotNumber} → Slot p s → times s (treeSlots p) ≡ 0 → nodeAt p s ≡ freeNode
@@ -130,7 +136,8 @@ module _ (w : List ℤ) (right : validLength w ≡ true) where
     once-at {s} u (no h) = absurd (omega (arith, u .used, ap (λ (n : Node). n .level) (free-at (u .slot) (omega arith))))
 
     free-when : {s : SlotNumber} → Slot p s → nodeAt p s .level ≡ 0 → Dec (1 ≤ times s (treeSlots p)) → nodeAt p s ≡ freeNode
-    free-when {s} k e (yes h) = absurd (omega (arith, within-used p (p .height) (p .root) s (asked .below .tree) (times-among s (treeSlots p) h) .used))
+    free-when {s} k e (yes h) =
+        absurd (omega (arith, within-used p (p .height) (p .root) s (asked .below .tree) (times-among s (treeSlots p) h) .used))
     free-when {s} k e (no h) = free-at k (omega arith)
 
     tidy-at : {s : SlotNumber} → Slot p s → Dec (1 ≤ times s (treeSlots p)) → TidySlot w s
@@ -168,7 +175,8 @@ module _ (w : List ℤ) (right : validLength w ≡ true) where
 
     sound-head : headSound w ≡ true
     sound-head =
-        parts-head w (nothing-each w right .0 (parts .0) .0) (height-positive (read w) is-whole) (height-eight (read w) is-whole (most-slots w right))
+        parts-head w (nothing-each w right .0 (parts .0) .0) (height-positive (read w) is-whole)
+        (height-eight (read w) is-whole (most-slots w right))
         (slot-is (read w) (read w .root) .1 (tree-node (read w) (read w .height) (read w .root) (is-whole .tree) .slot))
 
     sound-root : SoundRoot w (read w .height) (read w .root)
@@ -185,8 +193,7 @@ module _ (w : List ℤ) (right : validLength w ≡ true) where
         let k = slots-are (read w) s .0 m in
         is-met w after s (λ e. go k (omega (arith, marked .each s (k .low), mark-none s)) (decLe 1 (nodeAt (read w) s .level))))
       where
-        go : {s : SlotNumber} → Slot (read w) s → times s (treeSlots (read w)) ≡ 0 → Dec (1 ≤ nodeAt (read w) s .level)
-            → stand (nodeWords freeNode) w (slotStart s) ≡ true
+        go : {s : SlotNumber} → Slot (read w) s → times s (treeSlots (read w)) ≡ 0 → Dec (1 ≤ nodeAt (read w) s .level) → Zero w s
         go {s} k e (yes u) = absurd (omega (arith, is-whole .once s (record { slot = k; used = u })))
         go {s} k e (no u) = rw (is-whole .free s k (omega arith)) at (all-tidy k)
 
@@ -196,18 +203,19 @@ module _ (w : List ℤ) (right : validLength w ≡ true) where
   -- ---- the questions, one after the other
 
   unsound : (sound w ≡ true → ⊥) → false ≡ sound w
-  unsound n = alike false (sound w) (λ e. never-both e refl) (λ h. absurd (n h))
+  unsound n = same-test false (sound w) (λ e. never-both e refl) (λ h. absurd (n h))
 
   pub head-refused : headSound w ≡ false → false ≡ sound w
   head-refused e = unsound (λ h. never-both (sound-head h) e)
 
-  pub root-refused : {after : List ℕ} {r : Bool} → RootAnswer w after r → r ≡ false → false ≡ sound w
+  pub root-refused : {after : List ℕ} {r : Bool} → TopAnswer w after r → r ≡ false → false ≡ sound w
   root-refused walk e = unsound (λ h. never-both (walk .all (sound-root h) (sound-unmet h)) e)
 
-  pub rest-refused : {after : List ℕ} {r : Bool} → RootAnswer w after r → r ≡ true → every (metOrZero w after) (slotNumbers (read w)) ≡ false → false ≡ sound w
+  pub rest-refused : {after : List ℕ} {r : Bool} → TopAnswer w after r → r ≡ true
+      → every (metOrZero w after) (slotNumbers (read w)) ≡ false → false ≡ sound w
   rest-refused walk t e = unsound (λ h. never-both (sound-rest h (walk .marked t)) e)
 
-  pub records-last : {after : List ℕ} {r : Bool} → headSound w ≡ true → RootAnswer w after r → r ≡ true → every (metOrZero w after) (slotNumbers (read w)) ≡ true
-      → recordsSound (read w) ≡ sound w
+  pub records-last : {after : List ℕ} {r : Bool} → headSound w ≡ true → TopAnswer w after r → r ≡ true
+      → every (metOrZero w after) (slotNumbers (read w)) ≡ true → recordsSound (read w) ≡ sound w
   records-last {after} head walk t rest =
-      alike (recordsSound (read w)) (sound w) (yes-sound head (subst (RootAnswer w after) t walk) rest) sound-records
+      same-test (recordsSound (read w)) (sound w) (yes-sound head (subst (TopAnswer w after) t walk) rest) sound-records

@@ -86,6 +86,16 @@ pub record SoundRoot (w : List ℤ) (l : ℕ) (s : SlotNumber) : Type 0 where
   pub below : TidyTree w l s
   pub two : 2 ≤ l → 2 ≤ length (entriesAt (read w) s)
 
+-- what the node check, the entry check and the root's check answer
+abbrev pub NodeAnswer : List ℤ → ℕ → SlotNumber → Rect → List ℕ → List ℕ → Bool → Type 0
+NodeAnswer w l s want seen after r = Answers (SoundNode w l s want) (slotsIn (read w) l s) seen after r
+
+abbrev pub EntriesAnswer : List ℤ → ℕ → List Entry → List ℕ → List ℕ → Bool → Type 0
+EntriesAnswer w below es seen after r = Answers (SoundEntries w below es) (slotsBelow (read w) below es) seen after r
+
+abbrev pub RootAnswer : List ℤ → ℕ → SlotNumber → List ℕ → List ℕ → Bool → Type 0
+RootAnswer w l s seen after r = Answers (SoundRoot w l s) (slotsIn (read w) l s) seen after r
+
 -- ---- the rest
 
 -- "free slots are all zero": the slot was met, or its words are

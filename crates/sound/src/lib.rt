@@ -1,6 +1,6 @@
-// Soundness of a pool, over any words of a valid length, in one walk from the root. The node check calls the entry check and the entry check
-// calls the node check; the level and the entries left fall. Each slot that is met is marked, and one that is met again is refused: so the
-// walk looks at a node once, whatever the words are. Then every slot has to have been met, or to be all zero.
+// Soundness of a pool, over any words of a valid length, in one walk from the root. The node check calls the entry check and the entry
+// check calls the node check; the level and the entries left fall. Each slot that is met is marked, and one that is met again is refused:
+// so the walk looks at a node once, whatever the words are. Then every slot has to have been met, or to be all zero.
 ghost use mathlib.Core.Path.{_≡_};
 ghost use mathlib.Core.Bool.{true, false, not, _&&_, _||_};
 ghost use mathlib.Core.List.{[], _∷_};
@@ -14,8 +14,7 @@ ghost use Rattle.rules.specs.Pool as P;
 ghost use Rattle.rules.specs.Sound as S;
 ghost use Rattle.pool.specs.Slots.{InPool};
 ghost use Rattle.pool.specs.Standing.{stand};
-ghost use Rattle.sound_laws.specs.Tree.{slotsIn};
-ghost use Rattle.sound.specs.Walked.{Answers, Fitting, SoundEntries, SoundNode, SoundRoot, headSound, metOrZero, plainEntry, recordCount, recordCounts, slotsBelow, upright};
+ghost use Rattle.sound.specs.Walked.{Answers, EntriesAnswer, Fitting, NodeAnswer, RootAnswer, headSound, metOrZero, plainEntry, recordCount, recordCounts, upright};
 use rules::LEAST;
 use rules::MOST_HEIGHT;
 use rules::MOST_SLOTS;
@@ -84,11 +83,17 @@ fn meet(pool: &[i32], seen: &mut [u32; MOST_SLOTS], level: usize, s: SlotNumber)
 
 // "A node is sound when its entries are": the node at s, not the root, at the level given, whose parent's entry has the rectangle `want`.
 // "with a count of 3 to 8", "its rectangle is the smallest holding that node's entries". A leaf's entries are looked at once, all together.
-fn node_sound(pool: &[i32], seen: &mut [u32; MOST_SLOTS], level: usize, s: SlotNumber, want: Rect) -> bool
+fn node_sound(
+    pool: &[i32],
+    seen: &mut [u32; MOST_SLOTS],
+    level: usize,
+    s: SlotNumber,
+    want: Rect,
+) -> bool
     requires { ⌜ InPool (now pool) s ⌝ }
     requires { ⌜ length (now seen) ≡ mostSlots ⌝ }
     requires { ⌜ 1 ≤ level ⌝ }
-    ensures { λ r. ⌜ Answers (SoundNode (now (pool .entry)) level s want) (slotsIn (L.read (now (pool .entry))) level s) (now (seen .entry)) (now (seen .exit)) r ⌝ }
+    ensures { λ r. ⌜ NodeAnswer (now (pool .entry)) level s want (now (seen .entry)) (now (seen .exit)) r ⌝ }
 {
     if !meet(pool, seen, level, s) {
         return false;
@@ -108,15 +113,22 @@ fn node_sound(pool: &[i32], seen: &mut [u32; MOST_SLOTS], level: usize, s: SlotN
     entries_sound(pool, seen, level - 1, s, 0, n)
 }
 
-// "an inner entry is sound when its pointer is a slot from 1 to N whose node is sound and one level lower, and its rectangle is the smallest
-// holding that node's entries": the entries from place i on of the node at s, which has n. What they lead to has the level below.
-fn entries_sound(pool: &[i32], seen: &mut [u32; MOST_SLOTS], below: usize, s: SlotNumber, i: usize, n: usize) -> bool
+// "an inner entry is sound when its pointer is a slot from 1 to N whose node is sound and one level lower, and its rectangle is the
+// smallest holding that node's entries": the entries from place i on of the node at s, which has n. What they lead to has the level below.
+fn entries_sound(
+    pool: &[i32],
+    seen: &mut [u32; MOST_SLOTS],
+    below: usize,
+    s: SlotNumber,
+    i: usize,
+    n: usize,
+) -> bool
     requires { ⌜ InPool (now pool) s ⌝ }
     requires { ⌜ length (now seen) ≡ mostSlots ⌝ }
     requires { ⌜ 1 ≤ below ⌝ }
     requires { ⌜ P.isLeaf (P.nodeAt (L.read (now pool)) s) ≡ false ⌝ }
     requires { ⌜ n ≡ length (P.entriesAt (L.read (now pool)) s) ⌝ }
-    ensures { λ r. ⌜ Answers (SoundEntries (now (pool .entry)) below (drop i (P.entriesAt (L.read (now (pool .entry))) s))) (slotsBelow (L.read (now (pool .entry))) below (drop i (P.entriesAt (L.read (now (pool .entry))) s))) (now (seen .entry)) (now (seen .exit)) r ⌝ }
+    ensures { λ r. ⌜ EntriesAnswer (now (pool .entry)) below (drop i (P.entriesAt (L.read (now (pool .entry))) s)) (now (seen .entry)) (now (seen .exit)) r ⌝ }
 {
     if n <= i {
         return true;
@@ -133,23 +145,23 @@ fn entries_sound(pool: &[i32], seen: &mut [u32; MOST_SLOTS], below: usize, s: Sl
 }
 
 // "but for the root 0 to 8 if a leaf and 2 to 8 otherwise": no entry has a rectangle for it.
-fn root_sound(pool: &[i32], seen: &mut [u32; MOST_SLOTS], level: usize, s: SlotNumber) -> bool
+fn root_sound(pool: &[i32], seen: &mut [u32; MOST_SLOTS], height: usize, s: SlotNumber) -> bool
     requires { ⌜ InPool (now pool) s ⌝ }
     requires { ⌜ length (now seen) ≡ mostSlots ⌝ }
-    requires { ⌜ 1 ≤ level ⌝ }
-    ensures { λ r. ⌜ Answers (SoundRoot (now (pool .entry)) level s) (slotsIn (L.read (now (pool .entry))) level s) (now (seen .entry)) (now (seen .exit)) r ⌝ }
+    requires { ⌜ 1 ≤ height ⌝ }
+    ensures { λ r. ⌜ RootAnswer (now (pool .entry)) height s (now (seen .entry)) (now (seen .exit)) r ⌝ }
 {
-    if !meet(pool, seen, level, s) {
+    if !meet(pool, seen, height, s) {
         return false;
     }
     let n = pool::count_of(pool, s);
-    if level == 1 {
+    if height == 1 {
         return root_leaf_sound(pool, s, n);
     }
     if n < 2 {
         return false;
     }
-    entries_sound(pool, seen, level - 1, s, 0, n)
+    entries_sound(pool, seen, height - 1, s, 0, n)
 }
 
 // A root that is a leaf may be empty.

@@ -1,3 +1,4 @@
+-- The node check and the entry check call each other: 10 for each level, and between two levels the entries that are left.
 use borrow.Author.Needs.{needs}
 use mathlib.Core.Path.{refl, sym, _∙_}
 use Prim.Native.Nat.{_+_, _*_, _-_, _≤_}
@@ -82,117 +83,183 @@ node-sound-calls t = (
   entries-sound.Post,
 )
 
--- src/lib.rt:122:9
 entries-sound-returns : (t : ℕ) → entries-sound-lts.Need-returns (entries-sound-calls t) (entries-sound-at t) entries-sound.Post
-entries-sound-returns t c = entries-end (c .before .args .pool .now) (c .before .args .below) (c .before .args .s) (c .before .args .i) (c .before .args .seen .now)
-    (omega (arith, c .before .pre .1 .1 .1 .1 .1, c .if1 .taken))
+entries-sound-returns t c =
+    let start = c .before in
+    entries-end (start .args .pool .now) (start .args .below) (start .args .s) (start .args .i) (start .args .seen .now)
+    (omega (arith, start .pre .1 .1 .1 .1 .1, c .if1 .taken))
 
--- src/lib.rt:124:9
 entries-sound-child-of-requires : (t : ℕ) → entries-sound-lts.Need-child-of-requires (entries-sound-calls t) (entries-sound-at t) entries-sound.Post
-entries-sound-child-of-requires t c κs = (c .before .pre .1 .0, (omega (arith, c .before .pre .1 .1 .1 .1 .1, c .if1 .left), c .before .pre .1 .1 .1 .1 .0))
+entries-sound-child-of-requires t c κs =
+    let start = c .before in
+    (start .pre .1 .0, (omega (arith, start .pre .1 .1 .1 .1 .1, c .if1 .left), start .pre .1 .1 .1 .1 .0))
 
--- src/lib.rt:125:9
 entries-sound-is-slot-requires : (t : ℕ) → entries-sound-lts.Need-is-slot-requires (entries-sound-calls t) (entries-sound-at t) entries-sound.Post
 entries-sound-is-slot-requires t c κs = search needs
 
--- src/lib.rt:126:9
 entries-sound-returns-2 : (t : ℕ) → entries-sound-lts.Need-returns-2 (entries-sound-calls t) (entries-sound-at t) entries-sound.Post
-entries-sound-returns-2 t c = let w = c .before .before .before .before .args .pool .now in
-    let s = c .before .before .before .before .args .s in
-    let i = c .before .before .before .before .args .i in
-    let here : i < length (entriesAt (read w) s) = omega (arith, c .before .before .before .before .pre .1 .1 .1 .1 .1, c .before .before .before .if1 .left) in
-    entry-no-slot w (c .before .before .before .before .args .below) s i here (c .before .before .child-of .result) (c .before .before .child-of .ensures)
-    (sym (c .before .is-slot .ensures) ∙ not-true _ (c .if2 .taken)) (c .before .before .before .before .args .seen .now)
+entries-sound-returns-2 t c =
+    let start = c .before .before .before .before in
+    let if1 = c .before .before .before .if1 in
+    let child-of = c .before .before .child-of in
+    let w = start .args .pool .now in
+    let s = start .args .s in
+    let i = start .args .i in
+    let here : i < length (entriesAt (read w) s) = omega (arith, start .pre .1 .1 .1 .1 .1, if1 .left) in
+    entry-no-slot w (start .args .below) s i here (child-of .result) (child-of .ensures)
+    (sym (c .before .is-slot .ensures) ∙ not-true _ (c .if2 .taken)) (start .args .seen .now)
 
--- src/lib.rt:128:9
 entries-sound-rect-of-requires : (t : ℕ) → entries-sound-lts.Need-rect-of-requires (entries-sound-calls t) (entries-sound-at t) entries-sound.Post
-entries-sound-rect-of-requires t c κs = (c .before .before .before .before .pre .1 .0, omega (arith, c .before .before .before .before .pre .1 .1 .1 .1 .1, c .before .before .before .if1 .left))
+entries-sound-rect-of-requires t c κs =
+    let start = c .before .before .before .before in
+    let if1 = c .before .before .before .if1 in
+    (start .pre .1 .0, omega (arith, start .pre .1 .1 .1 .1 .1, if1 .left))
 
--- src/lib.rt:129:9
-entries-sound-node-sound-requires : (t : ℕ) → entries-sound-lts.Need-node-sound-requires (entries-sound-calls t) (entries-sound-at t) entries-sound.Post
-entries-sound-node-sound-requires t c κs = let slot = sym (c .before .before .before .is-slot .ensures) ∙ not-false _ (c .before .before .if2 .left) in (
-      omega (arith, c .before .before .before .before .before .before .pre .0),
-      (asked-within (c .before .before .before .before .before .before .args .pool .now) (c .before .before .before .before .child-of .result) (c .before .before .before .before .before .before .pre .1 .0 .right) slot, (c .before .before .before .before .before .before .pre .1 .1 .0, c .before .before .before .before .before .before .pre .1 .1 .1 .0)),
+entries-sound-node-sound-requires : (t : ℕ)
+    → entries-sound-lts.Need-node-sound-requires (entries-sound-calls t) (entries-sound-at t) entries-sound.Post
+entries-sound-node-sound-requires t c κs =
+    let start = c .before .before .before .before .before .before in
+    let child-of = c .before .before .before .before .child-of in
+    let is-slot = c .before .before .before .is-slot in
+    let if2 = c .before .before .if2 in
+    let slot = sym (is-slot .ensures) ∙ not-false _ (if2 .left) in (
+      omega (arith, start .pre .0),
+      (
+        asked-within (start .args .pool .now) (child-of .result) (start .pre .1 .0 .right) slot,
+        (start .pre .1 .1 .0, start .pre .1 .1 .1 .0),
+      ),
     )
 
--- src/lib.rt:130:9
 entries-sound-returns-3 : (t : ℕ) → entries-sound-lts.Need-returns-3 (entries-sound-calls t) (entries-sound-at t) entries-sound.Post
-entries-sound-returns-3 t c = let w = c .before .before .before .before .before .before .before .before .args .pool .now in
-    let s = c .before .before .before .before .before .before .before .before .args .s in
-    let i = c .before .before .before .before .before .before .before .before .args .i in
-    let here : i < length (entriesAt (read w) s) = omega (arith, c .before .before .before .before .before .before .before .before .pre .1 .1 .1 .1 .1, c .before .before .before .before .before .before .before .if1 .left) in
-    entry-refused w (c .before .before .before .before .before .before .before .before .args .below) s i here (c .before .before .before .before .before .before .child-of .result) (c .before .before .before .before .before .before .child-of .ensures) (c .before .before .before .rect-of .result)
-    (c .before .before .before .rect-of .ensures ∙ entry-rect (read w) s i) (c .before .node-sound .ensures) (not-true _ (c .if3 .taken))
+entries-sound-returns-3 t c =
+    let start = c .before .before .before .before .before .before .before .before in
+    let if1 = c .before .before .before .before .before .before .before .if1 in
+    let child-of = c .before .before .before .before .before .before .child-of in
+    let rect-of = c .before .before .before .rect-of in
+    let w = start .args .pool .now in
+    let s = start .args .s in
+    let i = start .args .i in
+    let here : i < length (entriesAt (read w) s) = omega (arith, start .pre .1 .1 .1 .1 .1, if1 .left) in
+    entry-refused w (start .args .below) s i here (child-of .result) (child-of .ensures) (rect-of .result)
+    (rect-of .ensures ∙ entry-rect (read w) s i) (c .before .node-sound .ensures) (not-true _ (c .if3 .taken))
 
--- src/lib.rt:132:41
 entries-sound-add-entries-sound : (t : ℕ) → entries-sound-lts.Need-add-entries-sound (entries-sound-calls t) (entries-sound-at t) entries-sound.Post
-entries-sound-add-entries-sound t c = omega (arith, c .before .before .before .before .before .before .before .before .before .pre .1 .1 .1 .1 .1, c .before .before .before .before .before .before .before .before .if1 .left, slot-few (c .before .before .before .before .before .before .before .before .before .pre .1 .0))
+entries-sound-add-entries-sound t c =
+    let start = c .before .before .before .before .before .before .before .before .before in
+    let if1 = c .before .before .before .before .before .before .before .before .if1 in
+    omega (arith, start .pre .1 .1 .1 .1 .1, if1 .left, slot-few (start .pre .1 .0))
 
--- src/lib.rt:132:5
-entries-sound-entries-sound-requires : (t : ℕ) → entries-sound-lts.Need-entries-sound-requires (entries-sound-calls t) (entries-sound-at t) entries-sound.Post
-entries-sound-entries-sound-requires t c κs = (omega (arith, c .before .before .before .before .before .before .before .before .before .pre .0, c .before .before .before .before .before .before .before .before .if1 .left),
-    (c .before .before .before .before .before .before .before .before .before .pre .1 .0, (c .before .before .node-sound .ensures .marked (not-false _ (c .before .if3 .left)) .size ∙ c .before .before .before .before .before .before .before .before .before .pre .1 .1 .0, (c .before .before .before .before .before .before .before .before .before .pre .1 .1 .1 .0, (c .before .before .before .before .before .before .before .before .before .pre .1 .1 .1 .1 .0, c .before .before .before .before .before .before .before .before .before .pre .1 .1 .1 .1 .1)))))
+entries-sound-entries-sound-requires : (t : ℕ)
+    → entries-sound-lts.Need-entries-sound-requires (entries-sound-calls t) (entries-sound-at t) entries-sound.Post
+entries-sound-entries-sound-requires t c κs =
+    let start = c .before .before .before .before .before .before .before .before .before in
+    let if1 = c .before .before .before .before .before .before .before .before .if1 in
+    let node-sound = c .before .before .node-sound in (
+      omega (arith, start .pre .0, if1 .left),
+      (
+        start .pre .1 .0,
+        (
+          node-sound .ensures .marked (not-false _ (c .before .if3 .left)) .size ∙ start .pre .1 .1 .0,
+          (start .pre .1 .1 .1 .0, (start .pre .1 .1 .1 .1 .0, start .pre .1 .1 .1 .1 .1)),
+        ),
+      ),
+    )
 
--- src/lib.rt:113:1
 entries-sound-returns-4 : (t : ℕ) → entries-sound-lts.Need-returns-4 (entries-sound-calls t) (entries-sound-at t) entries-sound.Post
-entries-sound-returns-4 t c = let w = c .before .before .before .before .before .before .before .before .before .before .args .pool .now in
-    let s = c .before .before .before .before .before .before .before .before .before .before .args .s in
-    let i = c .before .before .before .before .before .before .before .before .before .before .args .i in
-    let here : i < length (entriesAt (read w) s) = omega (arith, c .before .before .before .before .before .before .before .before .before .before .pre .1 .1 .1 .1 .1, c .before .before .before .before .before .before .before .before .before .if1 .left) in
-    entry-goes w (c .before .before .before .before .before .before .before .before .before .before .args .below) s i here (c .before .before .before .before .before .before .before .before .child-of .result) (c .before .before .before .before .before .before .before .before .child-of .ensures) (c .before .before .before .before .before .rect-of .result)
-    (c .before .before .before .before .before .rect-of .ensures ∙ entry-rect (read w) s i) (c .before .before .before .node-sound .ensures) (not-false _ (c .before .before .if3 .left)) (c .entries-sound .ensures)
+entries-sound-returns-4 t c =
+    let start = c .before .before .before .before .before .before .before .before .before .before in
+    let if1 = c .before .before .before .before .before .before .before .before .before .if1 in
+    let child-of = c .before .before .before .before .before .before .before .before .child-of in
+    let rect-of = c .before .before .before .before .before .rect-of in
+    let node-sound = c .before .before .before .node-sound in
+    let if3 = c .before .before .if3 in
+    let w = start .args .pool .now in
+    let s = start .args .s in
+    let i = start .args .i in
+    let here : i < length (entriesAt (read w) s) = omega (arith, start .pre .1 .1 .1 .1 .1, if1 .left) in
+    entry-goes w (start .args .below) s i here (child-of .result) (child-of .ensures) (rect-of .result)
+    (rect-of .ensures ∙ entry-rect (read w) s i) (node-sound .ensures) (not-false _ (if3 .left)) (c .entries-sound .ensures)
 
--- src/lib.rt:93:9
 node-sound-meet-requires : (t : ℕ) → node-sound-lts.Need-meet-requires (node-sound-calls t) (node-sound-at t) node-sound.Post
 node-sound-meet-requires t c κs = (c .before .pre .1 .0, c .before .pre .1 .1 .0)
 
--- src/lib.rt:94:9
 node-sound-returns : (t : ℕ) → node-sound-lts.Need-returns (node-sound-calls t) (node-sound-at t) node-sound.Post
-node-sound-returns t c = refused-part refl (λ n. n .below) (not-met (c .before .before .before .pre .1 .0) (c .before .before .before .args .level) (c .before .before .before .pre .1 .1 .1) (not-true _ (c .if1 .taken)) (c .before .meet .ensures))
+node-sound-returns t c =
+    let start = c .before .before .before in
+    refused-part refl (λ n. n .below)
+    (not-met (start .pre .1 .0) (start .args .level) (start .pre .1 .1 .1) (not-true _ (c .if1 .taken)) (c .before .meet .ensures))
 
--- src/lib.rt:96:9
 node-sound-count-of-requires : (t : ℕ) → node-sound-lts.Need-count-of-requires (node-sound-calls t) (node-sound-at t) node-sound.Post
 node-sound-count-of-requires t c κs = c .before .before .before .pre .1 .0
 
--- src/lib.rt:98:9
 node-sound-returns-2 : (t : ℕ) → node-sound-lts.Need-returns-2 (node-sound-calls t) (node-sound-at t) node-sound.Post
 node-sound-returns-2 t c = too-few (omega (arith, c .before .count-of .ensures .0, c .if2 .taken))
 
--- src/lib.rt:100:9
 node-sound-look-requires : (t : ℕ) → node-sound-lts.Need-look-requires (node-sound-calls t) (node-sound-at t) node-sound.Post
-node-sound-look-requires t c κs = (c .before .before .before .before .before .pre .1 .0, omega (arith, c .before .count-of .ensures .0, c .if2 .left))
+node-sound-look-requires t c κs =
+    let start = c .before .before .before .before .before in
+    (start .pre .1 .0, omega (arith, c .before .count-of .ensures .0, c .if2 .left))
 
--- src/lib.rt:102:9
 node-sound-same-rect-requires : (t : ℕ) → node-sound-lts.Need-same-rect-requires (node-sound-calls t) (node-sound-at t) node-sound.Post
 node-sound-same-rect-requires t c κs = search needs
 
--- src/lib.rt:103:9
 node-sound-returns-3 : (t : ℕ) → node-sound-lts.Need-returns-3 (node-sound-calls t) (node-sound-at t) node-sound.Post
-node-sound-returns-3 t c = not-tight (c .before .before .before .look .result .cover) (c .before .before .before .look .ensures .0) (sym (c .before .same-rect .ensures) ∙ not-true _ (c .if3 .taken))
+node-sound-returns-3 t c =
+    let look = c .before .before .before .look in
+    not-tight (look .result .cover) (look .ensures .0) (sym (c .before .same-rect .ensures) ∙ not-true _ (c .if3 .taken))
 
--- src/lib.rt:106:9
 node-sound-returns-4 : (t : ℕ) → node-sound-lts.Need-returns-4 (node-sound-calls t) (node-sound-at t) node-sound.Post
-node-sound-returns-4 t c = as-node (c .before .before .before .before .look .result .cover) (c .before .before .before .before .look .ensures .0) (omega (arith, c .before .before .before .before .before .before .count-of .ensures .0, c .before .before .before .before .before .if2 .left))
-    (sym (c .before .before .same-rect .ensures) ∙ not-false _ (c .before .if3 .left))
-    (rw (c .if4 .taken) (leaf-answers (c .before .before .before .before .before .before .before .before .before .before .pre .1 .0) (not-false _ (c .before .before .before .before .before .before .before .if1 .left)) (rw (c .if4 .taken) at (c .before .before .before .before .before .before .before .before .meet .ensures)) (c .before .before .before .before .look .result .plain) (c .before .before .before .before .look .ensures .1)))
+node-sound-returns-4 t c =
+    let start = c .before .before .before .before .before .before .before .before .before .before in
+    let meet = c .before .before .before .before .before .before .before .before .meet in
+    let if1 = c .before .before .before .before .before .before .before .if1 in
+    let count-of = c .before .before .before .before .before .before .count-of in
+    let if2 = c .before .before .before .before .before .if2 in
+    let look = c .before .before .before .before .look in
+    let same-rect = c .before .before .same-rect in
+    as-node (look .result .cover) (look .ensures .0) (omega (arith, count-of .ensures .0, if2 .left))
+    (sym (same-rect .ensures) ∙ not-false _ (c .before .if3 .left))
+    (rw (c .if4 .taken)
+    (leaf-answers (start .pre .1 .0) (not-false _ (if1 .left)) (rw (c .if4 .taken) at (meet .ensures)) (look .result .plain)
+    (look .ensures .1)))
 
--- src/lib.rt:108:31
 node-sound-sub-entries-sound : (t : ℕ) → node-sound-lts.Need-sub-entries-sound (node-sound-calls t) (node-sound-at t) node-sound.Post
-node-sound-sub-entries-sound t c = omega (arith, c .before .before .before .before .before .before .before .before .before .before .before .pre .1 .1 .1)
+node-sound-sub-entries-sound t c =
+    let start = c .before .before .before .before .before .before .before .before .before .before .before in
+    omega (arith, start .pre .1 .1 .1)
 
--- src/lib.rt:108:5
 node-sound-entries-sound-requires : (t : ℕ) → node-sound-lts.Need-entries-sound-requires (node-sound-calls t) (node-sound-at t) node-sound.Post
-node-sound-entries-sound-requires t c κs = let two : 2 ≤ c .before .before .before .before .before .before .before .before .before .before .before .args .level = omega (arith, c .before .if4 .left, c .before .before .before .before .before .before .before .before .before .before .before .pre .1 .1 .1) in (
-      omega (arith, c .before .before .before .before .before .before .before .before .before .before .before .pre .0, c .before .before .before .before .before .before .before .before .before .before .before .pre .1 .1 .1, c .before .before .before .before .before .before .before .count-of .ensures .1),
-      (c .before .before .before .before .before .before .before .before .before .before .before .pre .1 .0, (c .before .before .before .before .before .before .before .before .before .meet .ensures .marked (not-false _ (c .before .before .before .before .before .before .before .before .if1 .left)) .size ∙ c .before .before .before .before .before .before .before .before .before .before .before .pre .1 .1 .0, (omega arith, (no-leaf _ (c .before .before .before .before .before .before .before .before .before .before .before .args .level) (c .before .before .before .before .before .before .before .before .before .meet .ensures .yes (not-false _ (c .before .before .before .before .before .before .before .before .if1 .left)) .level) two, c .before .before .before .before .before .before .before .count-of .ensures .0)))),
+node-sound-entries-sound-requires t c κs =
+    let start = c .before .before .before .before .before .before .before .before .before .before .before in
+    let meet = c .before .before .before .before .before .before .before .before .before .meet in
+    let if1 = c .before .before .before .before .before .before .before .before .if1 in
+    let count-of = c .before .before .before .before .before .before .before .count-of in
+    let two : 2 ≤ start .args .level = omega (arith, c .before .if4 .left, start .pre .1 .1 .1) in (
+      omega (arith, start .pre .0, start .pre .1 .1 .1, count-of .ensures .1),
+      (
+        start .pre .1 .0,
+        (
+          meet .ensures .marked (not-false _ (if1 .left)) .size ∙ start .pre .1 .1 .0,
+          (omega arith, (no-leaf _ (start .args .level) (meet .ensures .yes (not-false _ (if1 .left)) .level) two, count-of .ensures .0)),
+        ),
+      ),
     )
 
--- src/lib.rt:87:1
 node-sound-returns-5 : (t : ℕ) → node-sound-lts.Need-returns-5 (node-sound-calls t) (node-sound-at t) node-sound.Post
-node-sound-returns-5 t c = let two : 2 ≤ c .before .before .before .before .before .before .before .before .before .before .before .before .args .level = omega (arith, c .before .before .if4 .left, c .before .before .before .before .before .before .before .before .before .before .before .before .pre .1 .1 .1) in
-    as-node (c .before .before .before .before .before .before .look .result .cover) (c .before .before .before .before .before .before .look .ensures .0) (omega (arith, c .before .before .before .before .before .before .before .before .count-of .ensures .0, c .before .before .before .before .before .before .before .if2 .left))
-    (sym (c .before .before .before .before .same-rect .ensures) ∙ not-false _ (c .before .before .before .if3 .left))
-    (inner-answers (c .before .before .before .before .before .before .before .before .before .before .before .before .pre .1 .0) (c .before .before .before .before .before .before .before .before .before .before .before .before .args .level) two (not-false _ (c .before .before .before .before .before .before .before .before .before .if1 .left)) (c .before .before .before .before .before .before .before .before .before .before .meet .ensures) (c .entries-sound .ensures))
+node-sound-returns-5 t c =
+    let start = c .before .before .before .before .before .before .before .before .before .before .before .before in
+    let meet = c .before .before .before .before .before .before .before .before .before .before .meet in
+    let if1 = c .before .before .before .before .before .before .before .before .before .if1 in
+    let count-of = c .before .before .before .before .before .before .before .before .count-of in
+    let if2 = c .before .before .before .before .before .before .before .if2 in
+    let look = c .before .before .before .before .before .before .look in
+    let same-rect = c .before .before .before .before .same-rect in
+    let if3 = c .before .before .before .if3 in
+    let if4 = c .before .before .if4 in
+    let two : 2 ≤ start .args .level = omega (arith, if4 .left, start .pre .1 .1 .1) in
+    as-node (look .result .cover) (look .ensures .0) (omega (arith, count-of .ensures .0, if2 .left))
+    (sym (same-rect .ensures) ∙ not-false _ (if3 .left))
+    (inner-answers (start .pre .1 .0) (start .args .level) two (not-false _ (if1 .left)) (meet .ensures) (c .entries-sound .ensures))
 
 pub +entries-sound+node-sound-spec : {M : Type 1} → statement M
 +entries-sound+node-sound-spec = close μ-entries-sound μ-node-sound (λ t. entries-sound-lts.spec (entries-sound-calls t)

@@ -1,10 +1,6 @@
-use mathlib.Core.Path.{sym, ap, _∙_}
+use mathlib.Core.Path.{_∙_}
 use native.Mathlib.Omega.{arith}
-use lib.IntN.{pos}
-use lib.Signed.{leZ}
-use Rattle.rules.specs.Pool.{nodeAt}
-use Rattle.rules.specs.Layout.{pointerWord, pointerPlace, wordAt, read}
-use Rattle.pool.proofs.Parts.{few, room, slot-few, slot-pointer}
+use Rattle.pool.proofs.Parts.{few, room, slot-few}
 use Rattle.pool.proofs.Tidied.{pointer-one}
 use Rattle.pool.proofs.tidy.numbered.Statement.{statement}
 use Rattle.pool.proofs.tidy.numbered.Tie as tie

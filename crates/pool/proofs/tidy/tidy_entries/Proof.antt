@@ -1,16 +1,16 @@
+-- A leaf's pointers may be any words. Of an inner node each turn asks the next pointer, and what was asked so far goes on.
 use mathlib.Core.Path.{_≡_, sym, ap, _∙_}
-use mathlib.Core.Bool.{Bool, true, false, _&&_, and-assoc, and-true}
+use mathlib.Core.Bool.{Bool, false, _&&_, and-assoc, and-true}
 use native.Mathlib.Omega.{arith}
 use borrow.Author.Needs.{needs}
 use borrow.Author.Tests.{eq-eqb, ne-eqb}
 use mathlib.Core.List.{List, map}
-use Prim.Native.Nat.{ℕ, _+_, _*_, _-_, _≤_, _<_}
+use Prim.Native.Nat.{ℕ, _+_, _-_, _<_}
 use lib.Dec.{eqb}
 use lib.ListN.{length, drop}
 use lib.IntN.{ℤ, pos}
 use lib.Signed.{leZ}
 use Rattle.rules.specs.declared.SlotNumber.{SlotNumber}
-use Rattle.rules.specs.declared.Entry.{Entry}
 use Rattle.rules.specs.Lists.{joined}
 use Rattle.rules.specs.Pool.{noEntry, nodeAt, entriesAt}
 use Rattle.rules.specs.Layout.{entrySize, slotHead, slotStart, entryPlace, pointerPlace, entryWords, wordAt, read}
@@ -40,8 +40,9 @@ level-of-requires c κs = c .pre
 
 returns : tie.Need-returns Inv-loop μ-loop
 returns c =
-    let s = c .before .before in
-    sym (leaf-entries (s .pre) (eq-eqb (nodeAt (read (s .args .pool .now)) (s .args .s) .level) 1 (sym (c .before .level-of .ensures) ∙ c .if1 .taken)))
+    let start = c .before .before in
+    sym (leaf-entries (start .pre)
+    (eq-eqb (nodeAt (read (start .args .pool .now)) (start .args .s) .level) 1 (sym (c .before .level-of .ensures) ∙ c .if1 .taken)))
 
 count-of-requires : tie.Need-count-of-requires Inv-loop μ-loop
 count-of-requires c κs = c .before .before .pre
@@ -70,30 +71,36 @@ at-least-requires c κs =
     omega (arith, room i, c .pointer-place .ensures, slot-few i, c .before .loop-test .taken, l .inv .size)
 
 loop-again : tie.Need-loop-again Inv-loop μ-loop
-loop-again c = let w = c .before .before .before .before .before .before .before .before .args .pool .now in
-    let s = c .before .before .before .before .before .before .before .before .args .s in
-    let l = c .before .before .before .before .loop in
-    let here : l .i < length (entriesAt (read w) s) = omega (arith, c .before .before .before .loop-test .taken, l .inv .size) in
-    let rest = stand (joined (map entryWords (drop (l .i + 1) (entriesAt (read w) s)))) w (entryPlace s (l .i + 1)) in
-    let asked = rw (c .before .before .pointer-place .ensures) at (c .before .at-least .ensures) in
+loop-again c =
+    let start = c .before .before .before .before .before .before .before .before in
+    let loop = c .before .before .before .before .loop in
+    let loop-test = c .before .before .before .loop-test in
+    let pointer-place = c .before .before .pointer-place in
+    let w = start .args .pool .now in
+    let s = start .args .s in
+    let here : loop .i < length (entriesAt (read w) s) = omega (arith, loop-test .taken, loop .inv .size) in
+    let rest = stand (joined (map entryWords (drop (loop .i + 1) (entriesAt (read w) s)))) w (entryPlace s (loop .i + 1)) in
+    let asked = rw (pointer-place .ensures) at (c .before .at-least .ensures) in
     record {
-      size = l .inv .size;
-      inner = l .inv .inner;
-      rest =
-          ap (λ (b : Bool). b && rest) (c .and .ensures ∙ ap (λ (b : Bool). l .all && b) asked)
-          ∙ and-assoc (l .all) (leZ (pos 0) (wordAt w (pointerPlace s (l .i)))) rest
-          ∙ ap (λ (b : Bool). l .all && b) (sym (child-entries (c .before .before .before .before .before .before .before .before .pre) (l .i) here (l .inv .inner)))
-          ∙ l .inv .rest;
+      size = loop .inv .size;
+      inner = loop .inv .inner;
+      rest = ap (λ (b : Bool). b && rest) (c .and .ensures ∙ ap (λ (b : Bool). loop .all && b) asked)
+          ∙ and-assoc (loop .all) (leZ (pos 0) (wordAt w (pointerPlace s (loop .i)))) rest
+          ∙ ap (λ (b : Bool). loop .all && b) (sym (child-entries (start .pre) (loop .i) here (loop .inv .inner)))
+          ∙ loop .inv .rest;
     }
 
 returns-2 : tie.Need-returns-2 Inv-loop μ-loop
-returns-2 c = let w = c .before .before .before .before .before .args .pool .now in
-    let s = c .before .before .before .before .before .args .s in
-    let l = c .before .loop in
-    sym (and-true (l .all))
-    ∙ ap (λ (b : Bool). l .all && b) (sym (parts-end entrySize entryWords entry-size w (slotStart s + slotHead) noEntry (entriesAt (read w) s) (l .i)
-    (omega (arith, c .loop-test .left, l .inv .size))))
-    ∙ l .inv .rest
+returns-2 c =
+    let start = c .before .before .before .before .before in
+    let loop = c .before .loop in
+    let w = start .args .pool .now in
+    let s = start .args .s in
+    sym (and-true (loop .all))
+    ∙ ap (λ (b : Bool). loop .all && b)
+    (sym (parts-end entrySize entryWords entry-size w (slotStart s + slotHead) noEntry (entriesAt (read w) s) (loop .i)
+    (omega (arith, c .loop-test .left, loop .inv .size))))
+    ∙ loop .inv .rest
 
 pub tidy-entries-spec : {M : Type 1} → statement M
 tidy-entries-spec =

@@ -25,10 +25,14 @@ zeros-requires c κs =
     (omega arith, omega arith)
 
 returns : tie.Need-returns
-returns c = let at = slotStart (c .before .before .args .s) in
-    let w = c .before .before .args .pool .now in
+returns c =
+    let start = c .before .before in
+    let at = slotStart (start .args .s) in
+    let w = start .args .pool .now in
     let e : at + slotSize - at ≡ slotSize = omega arith in
-    rw (c .before .slot-start .ensures) at (c .zeros .ensures) ∙ ap (λ (n : ℕ). stand (zeros n) w at) e ∙ ap (λ (vs : List ℤ). stand vs w at) (sym free-words)
+    rw (c .before .slot-start .ensures) at (c .zeros .ensures)
+    ∙ ap (λ (n : ℕ). stand (zeros n) w at) e
+    ∙ ap (λ (vs : List ℤ). stand vs w at) (sym free-words)
 
 pub zero-slot-spec : {M : Type 1} → statement M
 zero-slot-spec = tie.close (tie.spec slot-start-requires add-zeros zeros-requires returns)

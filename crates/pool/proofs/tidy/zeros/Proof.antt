@@ -1,4 +1,5 @@
-use mathlib.Core.Path.{_≡_, refl, sym, ap, _∙_}
+-- Each turn joins the next word: what is joined is zero where each word was.
+use mathlib.Core.Path.{_≡_, sym, ap, _∙_}
 use mathlib.Core.Bool.{Bool, _&&_, and-assoc, and-true}
 use native.Mathlib.Omega.{arith}
 use borrow.Author.Needs.{needs, sfits-of}
@@ -30,7 +31,8 @@ abbrev μ-loop : tie.MeasureT-loop
 loop-holds : tie.Need-loop-holds Inv-loop μ-loop
 loop-holds c = record {
   most = c .pre .0;
-  rest = ap (λ (b : Bool). b && stand (replicate (c .args .to - c .args .from) (pos 0)) (c .args .pool .now) (c .args .from)) (same-self (pos 0));
+  rest = ap
+      (λ (b : Bool). b && stand (replicate (c .args .to - c .args .from) (pos 0)) (c .args .pool .now) (c .args .from)) (same-self (pos 0));
 }
 
 word-requires : tie.Need-word-requires Inv-loop μ-loop
@@ -63,7 +65,8 @@ returns c =
     let loop = c .before .before .loop in
     let a = same (pos 0) (toZ w32 (loop .all)) in
     c .same .ensures ∙ sym (and-true a)
-    ∙ ap (λ (b : Bool). a && b) (sym (zeros-end (start .args .pool .now) (loop .i) (start .args .to) (omega (arith, c .before .loop-test .left))))
+    ∙ ap (λ (b : Bool). a && b)
+    (sym (zeros-end (start .args .pool .now) (loop .i) (start .args .to) (omega (arith, c .before .loop-test .left))))
     ∙ loop .inv .rest
 
 pub zeros-spec : {M : Type 1} → statement M
