@@ -123,10 +123,10 @@ entries-sound-node-sound-requires t c κs =
     let is-slot = c .before .before .before .is-slot in
     let if2 = c .before .before .if2 in
     let slot = sym (is-slot .ensures) ∙ not-false _ (if2 .left) in (
-      omega (arith, start .pre .0),
+      omega (arith, start .pre .0, start .pre .1 .1 .1 .0),
       (
         asked-within (start .args .pool .now) (child-of .result) (start .pre .1 .0 .right) slot,
-        (start .pre .1 .1 .0, start .pre .1 .1 .1 .0),
+        (start .pre .1 .1 .0, omega (arith, start .pre .1 .1 .1 .0)),
       ),
     )
 

@@ -25,7 +25,7 @@ element-write-seen c = omega (arith, few (c .before .before .pre .0), c .before 
 returns-2 : tie.Need-returns-2
 returns-2 c =
     let start = c .before .before .before .before in
-    other-level (start .pre .0) (start .args .level) (λ e. c .if2 .taken (c .before .level-of .ensures ∙ e))
+    other-level (start .pre .0) (start .args .level) (λ e. omega (arith, c .if2 .taken, c .before .level-of .ensures))
 
 returns-3 : tie.Need-returns-3
 returns-3 c =
