@@ -23,8 +23,8 @@ use rules::SlotNumber;
 
 // ---- a node's entries
 
-// What one look at a node's entries tells: the smallest rectangle that holds them, and whether each has a valid rectangle and a pointer of
-// 1 or more.
+// What one look at a node's entries tells: "the smallest holding that node's entries", and whether each has a valid rectangle and a pointer
+// of 1 or more. "A leaf entry needs a valid rectangle and number": in a leaf, whether each is sound.
 struct Looked {
     cover: Rect,
     plain: bool,
@@ -37,8 +37,9 @@ fn low_to_high(r: Rect) -> bool
     geometry::and(geometry::le(r.lowX, r.highX), geometry::le(r.lowY, r.highY))
 }
 
-// One loop over a node's words, and no branch in it. That the coordinates are in range is asked of the cover alone: where low is not above
-// high, each lies between those of the cover.
+// One loop over the entries' words, with no branch in it: where the words are hostile the processor would guess wrong, and a wrong guess
+// costs more than the comparisons. That the coordinates are in range is asked of the cover alone: where no low is above its high, each
+// lies between those of the cover.
 fn look(pool: &[i32], s: SlotNumber) -> Looked
     requires { ⌜ InPool (now pool) s ⌝ }
     requires { ⌜ 1 ≤ length (P.entriesAt (L.read (now pool)) s) ⌝ }
