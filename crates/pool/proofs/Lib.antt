@@ -8,5 +8,6 @@ pub mod Fronts
 pub mod Stores
 pub mod Lengths
 pub mod Blanks
+pub mod Bits
 pub mod Stand
 pub mod Tidied

@@ -1,9 +1,9 @@
 -- Where words stand in a list is asked a word at a time, or a part at a time: of two parts, one after the other, each where it begins.
 use mathlib.Core.Path.{_≡_, refl, sym, ap, ap₂, _∙_}
-use mathlib.Core.Bool.{Bool, true, false, _&&_, and-assoc}
+use mathlib.Core.Bool.{Bool, true, _&&_, and-assoc}
 use mathlib.Core.List.{List, [], _∷_, _++_, map}
-use Prim.Native.Nat.{ℕ, suc, _+_, _*_, _-_, _≤_, _<_, min}
-use native.Mathlib.Nat.{mul-suc}
+use Prim.Native.Nat.{ℕ, zero, suc, _+_, _*_, _-_, _≤_, _<_, min}
+use native.Mathlib.Nat.{mul-suc, mul-le-mul-left}
 use native.Mathlib.Numerals.{add-one}
 use native.Mathlib.Omega.{arith}
 use native.Mathlib.Decide.{decLe}
@@ -15,7 +15,7 @@ use lib.Signed.{leZ}
 use borrow.Author.Tests.{le-leb, lt-leb}
 use Rattle.rules.specs.Lists.{joined, same}
 use Rattle.rules.specs.Layout.{natural, wordAt, sameWords}
-use Rattle.rules_laws.proofs.Bools.{go-on, stop}
+use Rattle.rules_laws.proofs.Bools.{and-both, go-on}
 use Rattle.pool.specs.Standing.{stand}
 use Rattle.pool.proofs.Runs.{zeros}
 
@@ -47,17 +47,11 @@ stand-all vs w e = ap (λ (n : ℕ). sameWords vs (take n w)) e ∙ ap (sameWord
 -- ---- zeros
 
 module _ (w : List ℤ) (i to : ℕ) where
-  module _ (h : i < to) (l : to ≤ length w) where
-    zeros-more : stand (zeros (to - i)) w i ≡ (same (pos 0) (wordAt w i) && stand (zeros (to - (i + 1))) w (i + 1))
-    zeros-more =
-        let e : to - i ≡ suc (to - (i + 1)) = omega arith in
-        ap (λ (n : ℕ). stand (zeros n) w i) e ∙ stand-cons (pos 0) (zeros (to - (i + 1))) w i (omega arith)
-
-    pub zeros-on : same (pos 0) (wordAt w i) ≡ true → stand (zeros (to - i)) w i ≡ stand (zeros (to - (i + 1))) w (i + 1)
-    zeros-on e = zeros-more ∙ go-on _ _ e
-
-    pub zeros-stop : same (pos 0) (wordAt w i) ≡ false → stand (zeros (to - i)) w i ≡ false
-    zeros-stop e = zeros-more ∙ stop _ _ e
+  pub zeros-more : i < to → to ≤ length w
+      → stand (zeros (to - i)) w i ≡ (same (pos 0) (wordAt w i) && stand (zeros (to - (i + 1))) w (i + 1))
+  zeros-more h l =
+      let e : to - i ≡ suc (to - (i + 1)) = omega arith in
+      ap (λ (n : ℕ). stand (zeros n) w i) e ∙ stand-cons (pos 0) (zeros (to - (i + 1))) w i (omega arith)
 
   pub zeros-end : to ≤ i → stand (zeros (to - i)) w i ≡ true
   zeros-end h = let e : to - i ≡ 0 = omega arith in ap (λ (n : ℕ). stand (zeros n) w i) e ∙ stand-none w i
@@ -90,11 +84,35 @@ module _ {A : Type 0} (k : ℕ) (f : A → List ℤ) (wide : (x : A) → length 
       pub parts-on : stand (f (getD xs i d)) w (a + k * i) ≡ true → stand (joined (map f (drop i xs))) w (a + k * i) ≡ stand (joined (map f (drop (i + 1) xs))) w (a + k * (i + 1))
       parts-on e = parts-more ∙ go-on _ _ e
 
-      pub parts-stop : stand (f (getD xs i d)) w (a + k * i) ≡ false → stand (joined (map f (drop i xs))) w (a + k * i) ≡ false
-      parts-stop e = parts-more ∙ stop _ _ e
-
     pub parts-end : length xs ≤ i → stand (joined (map f (drop i xs))) w (a + k * i) ≡ true
     parts-end h = ap (λ (zs : List A). stand (joined (map f zs)) w (a + k * i)) (drop-of-length-le xs {i = i} h) ∙ none-part w (a + k * i)
+
+  -- the parts stand where each does
+  module _ (w : List ℤ) (a : ℕ) (d : A) (xs : List A) (l : a + k * length xs ≤ length w) where
+    part-fits : (i : ℕ) → i < length xs → a + k * i + k ≤ length w
+    part-fits i h = omega (arith, l, mul-suc k i, mul-le-mul-left k h)
+
+    parts-from : (m i : ℕ) → i + m ≡ length xs → ((j : ℕ) → j < length xs → stand (f (getD xs j d)) w (a + k * j) ≡ true)
+        → stand (joined (map f (drop i xs))) w (a + k * i) ≡ true
+    parts-from zero i e each = parts-end w a d xs i (omega arith)
+    parts-from (suc m) i e each =
+        parts-on w a d xs i (omega arith) (part-fits i (omega arith)) (each i (omega arith)) ∙ parts-from m (i + 1) (omega arith) each
+
+    pub parts-all : ((j : ℕ) → j < length xs → stand (f (getD xs j d)) w (a + k * j) ≡ true) → stand (joined (map f xs)) w a ≡ true
+    parts-all each = ap (stand (joined (map f xs)) w) (omega arith) ∙ parts-from (length xs) 0 (omega arith) each
+
+    two-parts : (i : ℕ) → i < length xs → stand (joined (map f (drop i xs))) w (a + k * i) ≡ true
+        → (stand (f (getD xs i d)) w (a + k * i) ≡ true) × (stand (joined (map f (drop (i + 1) xs))) w (a + k * (i + 1)) ≡ true)
+    two-parts i h e =
+        and-both (stand (f (getD xs i d)) w (a + k * i)) (stand (joined (map f (drop (i + 1) xs))) w (a + k * (i + 1)))
+        (sym (parts-more w a d xs i h (part-fits i h)) ∙ e)
+
+    parts-left : stand (joined (map f xs)) w a ≡ true → (i : ℕ) → i ≤ length xs → stand (joined (map f (drop i xs))) w (a + k * i) ≡ true
+    parts-left all zero h = ap (stand (joined (map f xs)) w) (omega arith) ∙ all
+    parts-left all (suc i) h = rw (add-one i) at (two-parts i h (parts-left all i (omega arith)) .1)
+
+    pub parts-each : stand (joined (map f xs)) w a ≡ true → (i : ℕ) → i < length xs → stand (f (getD xs i d)) w (a + k * i) ≡ true
+    parts-each all i h = two-parts i h (parts-left all i (omega arith)) .0
 
 -- ---- a word read and written again
 

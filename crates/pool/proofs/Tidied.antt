@@ -1,30 +1,34 @@
 -- The words of a pool that is read from w stand in w: the head's, and each slot's, where the words that are read as naturals are not
 -- negative, the counts are no more than a node holds, and what no entry in use has is zero.
-use mathlib.Core.Path.{_≡_, refl, sym, ap, ap₂, _∙_}
+use mathlib.Core.Path.{_≡_, refl, sym, ap, ap₂, subst, _∙_}
+use mathlib.Core.Logic.{_↔_}
 use mathlib.Core.Bool.{Bool, true, false, _&&_, and-assoc, and-true}
 use mathlib.Core.List.{List, [], _∷_, map}
-use Prim.Native.Nat.{ℕ, _+_, _*_, _-_, _≤_, _<_, min}
+use Prim.Native.Nat.{ℕ, suc, _+_, _*_, _-_, _≤_, _<_, min}
 use native.Mathlib.Omega.{arith}
 use lib.Dec.{eqb}
-use lib.ListN.{length}
-use lib.IntN.{ℤ, pos}
+use lib.ListN.{length, getD, drop}
+use lib.IntN.{ℤ, pos, negsuc}
 use lib.Signed.{leZ}
 use Rattle.rules.specs.declared.Rect.{Rect}
 use Rattle.rules.specs.declared.SlotNumber.{SlotNumber}
 use Rattle.rules.specs.declared.Pointer.{Pointer}
 use Rattle.rules.specs.declared.Entry.{Entry}
 use Rattle.rules.specs.Lists.{joined, same}
-use Rattle.rules.specs.Pool.{Node, entry, nodeAt, entriesAt, entryAt, rects}
+use Rattle.rules.specs.Pool.{Node, slot, entry, noEntry, freeNode, nodeAt, entriesAt, entryFrom, entryAt, rects}
 use Rattle.rules.specs.Numbers.{most}
 use Rattle.rules.specs.Layout.{headSize, edition, rootPlace, heightPlace, recordsPlace, rectSize, entrySize, slotHead, slotSize, slotStart, levelPlace, countPlace, entryPlace}
 use Rattle.rules.specs.Layout.{pointerPlace, validLength, pointerWord, entryWords, padded, nodeWords, headWords, words, natural, wordAt, pointerOf, read}
 use Rattle.rules.specs.Choose.{rectFrom}
 use Rattle.rules.specs.Sound.{nothingElse}
+use Rattle.rules_laws.proofs.Bools.{and-both, both-and}
+use Rattle.rules_laws.proofs.Orders.{both-at-most}
+use Rattle.rules_laws.proofs.Places.{nothing}
 use Rattle.pool.specs.Slots.{InPool}
-use Rattle.pool.proofs.Parts.{right-size, room, slot-level, slot-count, slot-few, slot-rect, slot-entry}
-use Rattle.pool.proofs.Written.{placeWords, unused, padded-is, head-size, read-slots, pointer-number, pointer-child, entry-size, words-size}
+use Rattle.pool.proofs.Parts.{right-size, room, slot-level, slot-count, slot-few, slot-rect, slot-pointer, slot-entry}
+use Rattle.pool.proofs.Written.{placeWords, unused, padded-is, head-size, node-size, read-slots, pointer-number, pointer-child, entry-size, words-size}
 use Rattle.pool.specs.Standing.{stand}
-use Rattle.pool.proofs.Stand.{stand-none, stand-cons, stand-append, stand-all, same-self, natural-same}
+use Rattle.pool.proofs.Stand.{stand-none, stand-cons, stand-append, stand-all, parts-more, parts-all, parts-each, same-self, natural-same}
 use Rattle.pool.proofs.Runs.{zeros, length-parts}
 
 -- ---- the head
@@ -62,6 +66,19 @@ pub child-pointer : (l : ℕ) (z : ℤ) → eqb l 1 ≡ false → same (pointerW
 unfolding pointerWord
 child-pointer l z e = rw (pointer-child l z e) (natural-same z)
 
+-- .. is 1 or more where its word is
+one-pointer : (l : ℕ) (z : ℤ) → leZ (pos 1) z ≡ leZ (pos 1) (pointerWord (pointerOf l z))
+unfolding pointerWord natural
+one-pointer l z = go (eqb l 1) refl
+  where
+    natural-one : (y : ℤ) → leZ (pos 1) y ≡ leZ (pos 1) (pos (natural y))
+    natural-one (pos n) = refl
+    natural-one (negsuc n) = refl
+
+    go : (b : Bool) → eqb l 1 ≡ b → leZ (pos 1) z ≡ leZ (pos 1) (pointerWord (pointerOf l z))
+    go true e = rw (pointer-number l z e)
+    go false e = rw (pointer-child l z e) (natural-one z)
+
 entry-words : (r : Rect) (p : Pointer) → entryWords (entry r p) ≡ r .lowX ∷ r .lowY ∷ r .highX ∷ r .highY ∷ pointerWord p ∷ []
 unfolding entryWords
 entry-words r p = refl
@@ -95,6 +112,10 @@ module _ {w : List ℤ} {s : SlotNumber} (p : InPool w s) where
       ∙ ap (λ (r : Rect). r .lowX ∷ r .lowY ∷ r .highX ∷ r .highY ∷ pointerWord q ∷ []) (slot-rect p i h))
       ∙ words-stand w at (pointerWord q) fits
 
+  pub pointer-one : (i : ℕ) → i < length (entriesAt (read w) s)
+      → leZ (pos 1) (wordAt w (pointerPlace s i)) ≡ leZ (pos 1) (pointerWord (entryAt (read w) s i .pointer))
+  pointer-one i h = one-pointer _ _ ∙ ap (λ q. leZ (pos 1) (pointerWord q)) (sym (slot-pointer p i h))
+
   pub leaf-entry : (i : ℕ) → i < length (entriesAt (read w) s) → eqb (nodeAt (read w) s .level) 1 ≡ true
       → stand (entryWords (entryAt (read w) s i)) w (entryPlace s i) ≡ true
   leaf-entry i h e = entry-stands i h ∙ leaf-pointer _ _ e
@@ -102,6 +123,29 @@ module _ {w : List ℤ} {s : SlotNumber} (p : InPool w s) where
   pub child-entry : (i : ℕ) → i < length (entriesAt (read w) s) → eqb (nodeAt (read w) s .level) 1 ≡ false
       → stand (entryWords (entryAt (read w) s i)) w (entryPlace s i) ≡ leZ (pos 0) (wordAt w (pointerPlace s i))
   child-entry i h e = entry-stands i h ∙ child-pointer _ _ e
+
+  entries-fit : slotStart s + slotHead + entrySize * length (entriesAt (read w) s) ≤ length w
+  entries-fit = omega (arith, room p, slot-few p)
+
+  -- all entries of a leaf
+  pub leaf-entries : eqb (nodeAt (read w) s .level) 1 ≡ true
+      → stand (joined (map entryWords (entriesAt (read w) s))) w (slotStart s + slotHead) ≡ true
+  unfolding entryAt entryFrom
+  leaf-entries e =
+      parts-all entrySize entryWords entry-size w (slotStart s + slotHead) noEntry (entriesAt (read w) s) entries-fit
+      (λ i h. leaf-entry i h e)
+
+  -- the entries of an inner node from place i on
+  abbrev pub standFrom : ℕ → Bool
+  standFrom i = stand (joined (map entryWords (drop i (entriesAt (read w) s)))) w (entryPlace s i)
+
+  pub child-entries : (i : ℕ) → i < length (entriesAt (read w) s) → eqb (nodeAt (read w) s .level) 1 ≡ false
+      → standFrom i ≡ (leZ (pos 0) (wordAt w (pointerPlace s i)) && standFrom (i + 1))
+  unfolding entryAt entryFrom
+  child-entries i h e =
+      parts-more entrySize entryWords entry-size w (slotStart s + slotHead) noEntry (entriesAt (read w) s) i h
+      (omega (arith, room p, slot-few p))
+      ∙ ap (λ (b : Bool). b && standFrom (i + 1)) (child-entry i h e)
 
 -- ---- a slot
 
@@ -167,3 +211,44 @@ nothing-is w r =
     sym (stand-append head rest w 0 (omega (arith, right-size w r, head-size (read w)))
     ∙ ap (λ (k : ℕ). stand head w 0 && stand rest w k) here)
     ∙ stand-all (words (read w)) w long
+
+-- the head's words stand, and each slot's
+pub nothing-each : (w : List ℤ) → validLength w ≡ true
+    → (nothingElse w ≡ true)
+    ↔ ((stand (headWords (read w)) w 0 ≡ true)
+    × ((s : SlotNumber) → InPool w s → stand (nodeWords (nodeAt (read w) s)) w (slotStart s) ≡ true))
+unfolding nodeAt
+nothing-each w r =
+    let ns = read w .slots in
+    let fits : headSize + slotSize * length ns ≤ length w = omega (arith, right-size w r, read-slots w) in (
+      λ h. let q = and-both _ _ (nothing-is w r ∙ h) in (
+        q .0,
+        λ s p. parts-each slotSize nodeWords node-size w headSize freeNode ns fits (q .1) (s .0 - 1)
+            (omega (arith, p .low, p .high, read-slots w)),
+      ),
+      λ h. sym (nothing-is w r) ∙ both-and _ _ (h .0) (parts-all slotSize nodeWords node-size w headSize freeNode ns fits
+          (λ j l. let e : slot (suc j) .0 - 1 ≡ j = omega arith in
+          subst (λ (i : ℕ). stand (nodeWords (getD ns i freeNode)) w (headSize + slotSize * i) ≡ true) e
+          (h .1 (slot (suc j)) (record { right = r; low = omega arith; high = omega (arith, read-slots w) })))),
+    )
+
+-- ---- a free slot
+
+pub free-words : nodeWords freeNode ≡ zeros slotSize
+unfolding nodeWords padded joined
+free-words = refl
+
+-- a slot whose words are those of a free one is free
+pub zero-free : (w : List ℤ) (s : SlotNumber) → InPool w s → stand (nodeWords freeNode) w (slotStart s) ≡ true
+    → nodeAt (read w) s ≡ freeNode
+unfolding entriesAt same natural
+zero-free w s p h =
+    let q = and-both _ _ (sym (node-stands freeNode w (slotStart s) (omega (arith, room p))) ∙ h) in
+    let l : nodeAt (read w) s .level ≡ 0 = slot-level p ∙ ap natural (sym (same-zero (wordAt w (levelPlace s)) (q .0))) in
+    let n : length (nodeAt (read w) s .entries) ≡ 0 =
+    slot-count p ∙ ap (λ (z : ℤ). min (natural z) most) (sym (same-zero (wordAt w (countPlace s)) (and-both _ _ (q .1) .0))) in
+    let e = nothing (nodeAt (read w) s .entries) n in
+    λ i. record { level = l i; entries = e i }
+  where
+    same-zero : (z : ℤ) → same (pos 0) z ≡ true → pos 0 ≡ z
+    same-zero z h = let q = and-both _ _ h in both-at-most (pos 0) z (q .0) (q .1)

@@ -1,4 +1,5 @@
-// The layout again, as a question: are words of a valid length exactly those that would be written for the pool that is read from them?
+// The layout again, as a question: are words of a valid length exactly those that would be written for the pool that is read from them? It
+// is asked of the head, and of each slot by itself.
 ghost use mathlib.Core.Path.{_≡_};
 ghost use mathlib.Core.Bool.{true, _&&_};
 ghost use mathlib.Core.List.{map};
@@ -10,7 +11,6 @@ ghost use Rattle.rules.specs.Lists as Li;
 ghost use Rattle.rules.specs.Numbers.{most};
 ghost use Rattle.rules.specs.Layout as L;
 ghost use Rattle.rules.specs.Pool as P;
-ghost use Rattle.rules.specs.Sound as S;
 ghost use Rattle.pool.specs.Slots.{InPool};
 ghost use Rattle.pool.specs.Standing.{stand};
 use crate::EDITION;
@@ -54,20 +54,26 @@ fn is_word(pool: &[i32], at: usize, x: i32) -> bool
     geometry::same(x, word(pool, at))
 }
 
-// All words from one place to another are zero.
+// The bits of both: none is set where none is in either.
+fn joined(a: i32, b: i32) -> i32
+    ensures { λ r. ⌜ Li.same (pos 0) r ≡ (Li.same (pos 0) a && Li.same (pos 0) b) ⌝ }
+{
+    a | b
+}
+
+// All words from one place to another are zero. No branch leaves the loop early, so that the compiler can join several words at a time.
 fn zeros(pool: &[i32], from: usize, to: usize) -> bool
     requires { ⌜ from ≤ to ⌝ }
     requires { ⌜ to ≤ length (now pool) ⌝ }
     ensures { λ r. ⌜ r ≡ stand (replicate (to - from) (pos 0)) (now (pool .entry)) from ⌝ }
 {
+    let mut all: i32 = 0;
     let mut i = from;
     while i < to {
-        if !is_word(pool, i, 0) {
-            return false;
-        }
+        all = joined(all, word(pool, i));
         i += 1;
     }
-    true
+    geometry::same(0, all)
 }
 
 // ---- the head
@@ -84,7 +90,7 @@ fn tidy_numbers(pool: &[i32]) -> bool
 }
 
 // "Head: word 0 edition, 1; .. words 4 to 7 zero."
-fn tidy_head(pool: &[i32]) -> bool
+pub fn tidy_head(pool: &[i32]) -> bool
     requires { ⌜ L.validLength (now pool) ≡ true ⌝ }
     ensures { λ r. ⌜ r ≡ stand (L.headWords (L.read (now (pool .entry)))) (now (pool .entry)) 0 ⌝ }
 {
@@ -96,32 +102,23 @@ fn tidy_head(pool: &[i32]) -> bool
 
 // ---- a slot
 
-// "A leaf's pointer is a record number, any other a child slot", which is not negative.
-fn tidy_entry(pool: &[i32], s: SlotNumber, i: usize) -> bool
-    requires { ⌜ InPool (now pool) s ⌝ }
-    requires { ⌜ i < length (P.entriesAt (L.read (now pool)) s) ⌝ }
-    ensures { λ r. ⌜ r ≡ stand (L.entryWords (P.entryAt (L.read (now (pool .entry))) s i)) (now (pool .entry)) (L.entryPlace s i) ⌝ }
-{
-    if level_of(pool, s) == 1 {
-        return true;
-    }
-    at_least(pool, pointer_place(s, i), 0)
-}
-
-// The entries in use.
+// The entries in use. "A leaf's pointer is a record number, any other a child slot", which is not negative. The loop has no branch: all
+// pointers are looked at.
 fn tidy_entries(pool: &[i32], s: SlotNumber) -> bool
     requires { ⌜ InPool (now pool) s ⌝ }
     ensures { λ r. ⌜ r ≡ stand (Li.joined (map L.entryWords (P.entriesAt (L.read (now (pool .entry))) s))) (now (pool .entry)) (L.slotStart s + L.slotHead) ⌝ }
 {
+    if level_of(pool, s) == 1 {
+        return true;
+    }
     let n = count_of(pool, s);
+    let mut all = true;
     let mut i: usize = 0;
     while i < n {
-        if !tidy_entry(pool, s, i) {
-            return false;
-        }
+        all = geometry::and(all, at_least(pool, pointer_place(s, i), 0));
         i += 1;
     }
-    true
+    all
 }
 
 // "unused entries .. are all zero"
@@ -147,8 +144,8 @@ fn tidy_count(pool: &[i32], at: usize) -> bool
     )
 }
 
-// "level, count, then 8 entries"
-fn tidy_slot(pool: &[i32], s: SlotNumber) -> bool
+// "level, count, then 8 entries": the slot's words are those of the node that is read from them.
+pub fn tidy_slot(pool: &[i32], s: SlotNumber) -> bool
     requires { ⌜ InPool (now pool) s ⌝ }
     ensures { λ r. ⌜ r ≡ stand (L.nodeWords (P.nodeAt (L.read (now (pool .entry))) s)) (now (pool .entry)) (L.slotStart s) ⌝ }
 {
@@ -159,25 +156,20 @@ fn tidy_slot(pool: &[i32], s: SlotNumber) -> bool
     geometry::and(level, geometry::and(count, places))
 }
 
-fn tidy_slots(pool: &[i32]) -> bool
-    requires { ⌜ L.validLength (now pool) ≡ true ⌝ }
-    ensures { λ r. ⌜ r ≡ stand (Li.joined (map L.nodeWords (L.read (now (pool .entry)) .slots))) (now (pool .entry)) L.headSize ⌝ }
+// "free slots are all zero"
+pub fn zero_slot(pool: &[i32], s: SlotNumber) -> bool
+    requires { ⌜ InPool (now pool) s ⌝ }
+    ensures { λ r. ⌜ r ≡ stand (L.nodeWords P.freeNode) (now (pool .entry)) (L.slotStart s) ⌝ }
 {
-    let n = slot_count(pool);
-    let mut s: usize = 1;
-    while s <= n {
-        if !tidy_slot(pool, SlotNumber(s)) {
-            return false;
-        }
-        s += 1;
-    }
-    true
+    let at = slot_start(s);
+    zeros(pool, at, at + SLOT_SIZE)
 }
 
-// "the head is as above", "unused entries and free slots are all zero": the words are those of the pool that is read from them.
-pub fn tidy(pool: &[i32]) -> bool
-    requires { ⌜ L.validLength (now pool) ≡ true ⌝ }
-    ensures { λ r. ⌜ r ≡ S.nothingElse (now (pool .entry)) ⌝ }
+// The pointer of the entry at place i is 1 or more, whether it is a record number or a child slot.
+pub fn numbered(pool: &[i32], s: SlotNumber, i: usize) -> bool
+    requires { ⌜ InPool (now pool) s ⌝ }
+    requires { ⌜ i < length (P.entriesAt (L.read (now pool)) s) ⌝ }
+    ensures { λ r. ⌜ r ≡ leZ (pos 1) (L.pointerWord (P.entryAt (L.read (now (pool .entry))) s i .pointer)) ⌝ }
 {
-    geometry::and(tidy_head(pool), tidy_slots(pool))
+    at_least(pool, pointer_place(s, i), 1)
 }

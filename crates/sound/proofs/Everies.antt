@@ -1,13 +1,16 @@
 -- `every`, one after the other, as a loop or a recursion goes through a list.
-use mathlib.Core.Path.{_≡_}
+use mathlib.Core.Path.{_≡_, ap, _∙_}
 use mathlib.Core.Bool.{Bool, true, false, _&&_}
 use mathlib.Core.List.{List}
 use Prim.Native.Nat.{ℕ, suc, _+_, _≤_, _<_}
 use native.Mathlib.Numerals.{add-one}
-use lib.ListN.{length, getD, drop, drop-of-length-le}
+use native.Mathlib.Omega.{arith}
+use lib.ListN.{length, getD, drop, drop-of-length-le, List·getD-map}
 use lib.Seq.{drop-cons}
-use Rattle.rules.specs.Lists.{every}
+use Rattle.rules.specs.Lists.{every, upFrom}
+use Rattle.rules.specs.Pool.{Pool, slot, slotNumbers}
 use Rattle.rules_laws.proofs.Everies.{every-nil, every-cons}
+use Rattle.rules_laws.proofs.Places.{getD-upFrom}
 
 module _ {A : Type 0} (p : A → Bool) where
   module _ (xs : List A) (i : ℕ) where
@@ -23,3 +26,8 @@ module _ {A : Type 0} (p : A → Bool) where
 
     pub every-goes : (d : A) → i < length xs → p (getD xs i d) ≡ true → every p (drop i xs) ≡ every p (drop (i + 1) xs)
     every-goes d h e = rw (every-more d h, e)
+
+-- the i-th slot
+pub slots-at : (p : Pool) (i : ℕ) → i < length (p .slots) → getD (slotNumbers p) i (slot 0) ≡ slot (i + 1)
+unfolding slotNumbers
+slots-at p i h = List·getD-map slot (upFrom 1 (length (p .slots))) i 0 ∙ ap slot (getD-upFrom 1 (length (p .slots)) i 0 h ∙ omega arith)

@@ -1,4 +1,7 @@
 -- Laws that the proofs of `sound` cite.
 pub mod Everies
-pub mod Walks
+pub mod Records
+pub mod Looks
+pub mod Marks
+pub mod Nodes
 pub mod Tops

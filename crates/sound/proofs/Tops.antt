@@ -1,46 +1,221 @@
--- The questions of `sound`, one after the other.
-use mathlib.Core.Path.{_≡_, refl, _∙_}
-use mathlib.Core.Bool.{Bool, true, false, _&&_}
+-- A pool is sound just where the head is, the walk from the root says yes, every slot that it did not mark is all zero, and the records are
+-- counted. A marked slot is one of the tree, once; a slot in use is not all zero, so it is marked; and a slot of the tree is in use.
+use mathlib.Core.Path.{_≡_, refl, sym, ap, subst, _∙_}
+use mathlib.Core.Bool.{Bool, true, false, not, _&&_, _||_}
 use mathlib.Core.List.{List}
-use Prim.Native.Nat.{_≤_, _<_}
-use lib.IntN.{ℤ}
-use lib.ListN.{length}
+use Prim.Native.Nat.{ℕ, _+_, _-_, _≤_, _<_}
+use native.Mathlib.Decide.{decLe}
 use native.Mathlib.Omega.{arith}
+use lib.Dec.{leb, eqb}
+use lib.ListN.{length, getD, replicate}
+use lib.IntN.{ℤ}
+use borrow.Author.Tests.{leb-true, le-leb, eqb-true, eq-eqb}
+use Rattle.rules.specs.declared.SlotNumber.{SlotNumber}
 use Rattle.rules.specs.Lists.{every}
-use Rattle.rules.specs.Numbers.{mostSlots}
-use Rattle.rules.specs.Pool.{slotNumbers}
-use Rattle.rules.specs.Layout.{read}
-use Rattle.rules.specs.Sound.{sound, soundPool, shapeSound, nothingElse, usedSound}
-use Rattle.sound_laws.proofs.Sound.{sound-whole}
+use Rattle.rules.specs.Pool.{Node, Pool, slot, freeNode, slotNumbers, nodeAt, stored}
+use Rattle.rules.specs.Layout.{slotStart, validLength, nodeWords, headWords, read}
+use Rattle.rules.specs.Sound.{isSlot, recordsSound, soundPool, nothingElse, sound}
+use Rattle.rules_laws.proofs.Bools.{and-both, both-and}
+use Rattle.rules_laws.proofs.Orders.{never-both}
+use Rattle.rules_laws.proofs.Everies.{every-is}
+use Rattle.rules_laws.proofs.Places.{getD-alike}
+use Rattle.pool.specs.Slots.{InPool}
+use Rattle.pool.specs.Standing.{stand}
+use Rattle.pool.proofs.Written.{read-slots}
+use Rattle.pool.proofs.Tidied.{nothing-each, zero-free}
+use Rattle.nodes.proofs.Slots.{most-slots, within, asked-within}
+use Rattle.sound_laws.specs.Tree.{treeSlots, times, Slot, Used, Whole}
+use Rattle.sound_laws.proofs.Tests.{or-is, slot-is}
+use Rattle.sound_laws.proofs.Times.{times-among}
+use Rattle.sound_laws.proofs.Flat.{slots-are}
+use Rattle.sound_laws.proofs.Walk.{tree-node, within-used}
+use Rattle.sound_laws.proofs.Whole.{height-positive, reached-used, all-once}
+use Rattle.sound_laws.proofs.Sound.{sound-is-whole}
 use Rattle.sound_laws.proofs.Heights.{height-eight}
+use Rattle.sound.specs.Walked.{markOf, Unmet, Marked, TidySlot, SoundRoot, RootAnswer, metOrZero, headSound}
+use Rattle.sound.proofs.Everies.{slots-at}
+use Rattle.sound.proofs.Looks.{same-test}
 
-module _ (w : List ℤ) where
-  sound-is : sound w ≡ (nothingElse w && soundPool (read w))
-  unfolding sound
-  sound-is = refl
+-- no slot is marked before the walk
+abbrev pub unmarked : List ℕ
+unmarked = replicate 4096 0
 
-  pub not-tidy : nothingElse w ≡ false → sound w ≡ false
-  not-tidy e = rw (sound-is, e)
+-- what the walk from the root is asked, and answers
+abbrev pub TopAnswer : List ℤ → List ℕ → Bool → Type 0
+TopAnswer w after r = RootAnswer w (read w .height) (read w .root) unmarked after r
 
-  not-pool : soundPool (read w) ≡ false → sound w ≡ false
-  not-pool e = sound-is ∙ go (nothingElse w) (soundPool (read w)) e
-    where
-      go : (a b : Bool) → b ≡ false → (a && b) ≡ false
-      go true b h = h
-      go false b h = refl
+-- ---- the tests
 
-  pub not-shaped : shapeSound (read w) ≡ false → sound w ≡ false
-  unfolding soundPool
-  not-shaped e = not-pool (rw (soundPool, e))
+head-parts : (w : List ℤ) → headSound w ≡ true
+    → (stand (headWords (read w)) w 0 ≡ true) × ((1 ≤ read w .height) × (read w .height ≤ 8)) × (isSlot (read w) (read w .root) ≡ true)
+unfolding headSound
+head-parts w h =
+    let p = read w in
+    let q = and-both (stand (headWords p) w 0 && (leb 1 (p .height) && leb (p .height) 8)) (isSlot p (p .root)) h in
+    let r = and-both (stand (headWords p) w 0) (leb 1 (p .height) && leb (p .height) 8) (q .0) in
+    let t = and-both (leb 1 (p .height)) (leb (p .height) 8) (r .1) in
+    (r .0, (leb-true 1 (p .height) (t .0), leb-true (p .height) 8 (t .1)), q .1)
 
-  pub tidy-shaped : nothingElse w ≡ true → shapeSound (read w) ≡ true → sound w ≡ every (usedSound (read w)) (slotNumbers (read w))
-  unfolding soundPool
-  tidy-shaped e f = rw (sound-is, e, soundPool, f)
+parts-head : (w : List ℤ) → stand (headWords (read w)) w 0 ≡ true → 1 ≤ read w .height → read w .height ≤ 8
+    → isSlot (read w) (read w .root) ≡ true → headSound w ≡ true
+unfolding headSound
+parts-head w h low high root = rw (h, le-leb 1 (read w .height) low, le-leb (read w .height) 8 high, root)
 
-  -- "Height is 8 at most": a higher one is not sound
-  pub too-high : length (read w .slots) ≤ mostSlots → 8 < read w .height → sound w ≡ false
-  too-high few high = not-pool (go (soundPool (read w)) refl)
-    where
-      go : (b : Bool) → soundPool (read w) ≡ b → soundPool (read w) ≡ false
-      go true e = absurd (omega (arith, height-eight (read w) (sound-whole (read w) e) few))
-      go false e = e
+-- the words of the slot are all zero
+abbrev Zero : List ℤ → SlotNumber → Type 0
+Zero w s = stand (nodeWords freeNode) w (slotStart s) ≡ true
+
+met-is : (w : List ℤ) (seen : List ℕ) (s : SlotNumber) → metOrZero w seen s ≡ true → markOf seen s ≡ 0 → Zero w s
+unfolding metOrZero
+met-is w seen s h e =
+    or-is (not (eqb (markOf seen s) 0)) (stand (nodeWords freeNode) w (slotStart s)) .0 h (ap not (eq-eqb (markOf seen s) 0 e))
+
+is-met : (w : List ℤ) (seen : List ℕ) (s : SlotNumber) → (markOf seen s ≡ 0 → Zero w s) → metOrZero w seen s ≡ true
+unfolding metOrZero
+is-met w seen s f = go (eqb (markOf seen s) 0) refl
+  where
+    go : (b : Bool) → eqb (markOf seen s) 0 ≡ b → (not b || stand (nodeWords freeNode) w (slotStart s)) ≡ true
+    go true e = f (eqb-true (markOf seen s) 0 e)
+    go false e = refl
+
+-- .. of the i-th slot
+pub met-at : (w : List ℤ) (seen : List ℕ) (i : ℕ) → i < length (read w .slots) → (r : Bool)
+    → r ≡ (not (eqb (getD seen i 0) 0) || stand (nodeWords freeNode) w (slotStart (slot (i + 1))))
+    → metOrZero w seen (getD (slotNumbers (read w)) i (slot 0)) ≡ r
+unfolding metOrZero
+met-at w seen i h r e =
+    let k : i + 1 - 1 ≡ i = omega arith in
+    ap (metOrZero w seen) (slots-at (read w) i h)
+    ∙ ap (λ (j : ℕ). not (eqb (getD seen j 0) 0) || stand (nodeWords freeNode) w (slotStart (slot (i + 1)))) k
+    ∙ sym e
+
+records-are : (w : List ℤ) → (recordsSound (read w) ≡ true → read w .records ≡ length (stored (read w)))
+    × (read w .records ≡ length (stored (read w)) → recordsSound (read w) ≡ true)
+unfolding recordsSound
+records-are w =
+    let p = read w in
+    (λ h. sym (eqb-true (length (stored p)) (p .records) h), λ e. eq-eqb (length (stored p)) (p .records) (sym e))
+
+mark-none : (t : SlotNumber) → markOf unmarked t ≡ 0
+mark-none t = getD-alike 4096 (t .0 - 1) 0
+
+module _ (w : List ℤ) (right : validLength w ≡ true) where
+  in-pool : {s : SlotNumber} → Slot (read w) s → InPool w s
+  in-pool {s} k = within w s right (k .low) (k .high)
+
+  pool-slot : {s : SlotNumber} → InPool w s → Slot (read w) s
+  pool-slot k = record { low = k .low; high = omega (arith, k .high, read-slots w) }
+
+  -- what the walk asks of the head
+  pub head-asks : headSound w ≡ true → InPool w (read w .root) × (1 ≤ read w .height)
+  head-asks h = let q = head-parts w h in (asked-within w (read w .root) right (q .2), q .1 .0)
+
+  -- ---- what is said yes to is sound
+
+  module _ (head : headSound w ≡ true) {after : List ℕ} (walk : TopAnswer w after true)
+      (rest : every (metOrZero w after) (slotNumbers (read w)) ≡ true) where
+    abbrev p : Pool
+    p = read w
+
+    asked : SoundRoot w (p .height) (p .root)
+    asked = walk .yes refl
+
+    -- a slot's mark is how often it is in the tree
+    mark-is : {s : SlotNumber} → Slot p s → markOf after s ≡ times s (treeSlots p)
+    mark-is {s} k = omega (arith, walk .marked refl .each s (k .low), mark-none s)
+
+    -- a slot of the tree, or one that is all zero
+    zero-or-met : {s : SlotNumber} → Slot p s → times s (treeSlots p) ≡ 0 → Zero w s
+    zero-or-met {s} k e = met-is w after s (every-is (metOrZero w after) (slotNumbers p) .0 rest s (slots-are p s .1 k)) (mark-is k ∙ e)
+
+    free-at : {s : SlotNumber} → Slot p s → times s (treeSlots p) ≡ 0 → nodeAt p s ≡ freeNode
+    free-at {s} k e = zero-free w s (in-pool k) (zero-or-met k e)
+
+    once-at : {s : SlotNumber} → Used p s → Dec (1 ≤ times s (treeSlots p)) → times s (treeSlots p) ≡ 1
+    once-at {s} u (yes h) = omega (arith, walk .unmet refl .each s (u .slot .low) h, mark-none s)
+    once-at {s} u (no h) = absurd (omega (arith, u .used, ap (λ (n : Node). n .level) (free-at (u .slot) (omega arith))))
+
+    free-when : {s : SlotNumber} → Slot p s → nodeAt p s .level ≡ 0 → Dec (1 ≤ times s (treeSlots p)) → nodeAt p s ≡ freeNode
+    free-when {s} k e (yes h) =
+        absurd (omega (arith, within-used p (p .height) (p .root) s (asked .below .tree) (times-among s (treeSlots p) h) .used))
+    free-when {s} k e (no h) = free-at k (omega arith)
+
+    tidy-at : {s : SlotNumber} → Slot p s → Dec (1 ≤ times s (treeSlots p)) → TidySlot w s
+    tidy-at {s} k (yes h) = asked .below .tidy s (times-among s (treeSlots p) h)
+    tidy-at {s} k (no h) = let z : times s (treeSlots p) ≡ 0 = omega arith in rw (free-at k z) (zero-or-met k z)
+
+    whole : recordsSound p ≡ true → Whole p
+    whole records = record {
+      tree = asked .below .tree;
+      two = asked .two;
+      once = λ s u. once-at u (decLe 1 (times s (treeSlots p)));
+      free = λ s k e. free-when k e (decLe 1 (times s (treeSlots p)));
+      counted = records-are w .0 records;
+    }
+
+    yes-sound : recordsSound p ≡ true → sound w ≡ true
+    unfolding sound
+    yes-sound records =
+        both-and (nothingElse w) (soundPool p)
+        (nothing-each w right .1 (head-parts w head .0, λ s k. tidy-at (pool-slot k) (decLe 1 (times s (treeSlots p)))))
+        (sound-is-whole p .1 (whole records))
+
+  -- ---- what is sound is said yes to
+
+  module _ (h : sound w ≡ true) where
+    parts : (nothingElse w ≡ true) × (soundPool (read w) ≡ true)
+    unfolding sound
+    parts = and-both (nothingElse w) (soundPool (read w)) h
+
+    is-whole : Whole (read w)
+    is-whole = sound-is-whole (read w) .0 (parts .1)
+
+    all-tidy : {s : SlotNumber} → Slot (read w) s → TidySlot w s
+    all-tidy {s} k = nothing-each w right .0 (parts .0) .1 s (in-pool k)
+
+    sound-head : headSound w ≡ true
+    sound-head =
+        parts-head w (nothing-each w right .0 (parts .0) .0) (height-positive (read w) is-whole)
+        (height-eight (read w) is-whole (most-slots w right))
+        (slot-is (read w) (read w .root) .1 (tree-node (read w) (read w .height) (read w .root) (is-whole .tree) .slot))
+
+    sound-root : SoundRoot w (read w .height) (read w .root)
+    sound-root = record {
+      below = record { tree = is-whole .tree; tidy = λ t m. all-tidy (reached-used (read w) is-whole t m .slot) };
+      two = is-whole .two;
+    }
+
+    sound-unmet : Unmet (treeSlots (read w)) unmarked
+    sound-unmet = record { each = λ t l m. omega (arith, mark-none t, all-once (read w) is-whole t) }
+
+    sound-rest : {after : List ℕ} → Marked (treeSlots (read w)) unmarked after → every (metOrZero w after) (slotNumbers (read w)) ≡ true
+    sound-rest {after} marked = every-is (metOrZero w after) (slotNumbers (read w)) .1 (λ s m.
+        let k = slots-are (read w) s .0 m in
+        is-met w after s (λ e. go k (omega (arith, marked .each s (k .low), mark-none s)) (decLe 1 (nodeAt (read w) s .level))))
+      where
+        go : {s : SlotNumber} → Slot (read w) s → times s (treeSlots (read w)) ≡ 0 → Dec (1 ≤ nodeAt (read w) s .level) → Zero w s
+        go {s} k e (yes u) = absurd (omega (arith, is-whole .once s (record { slot = k; used = u })))
+        go {s} k e (no u) = rw (is-whole .free s k (omega arith)) at (all-tidy k)
+
+    sound-records : recordsSound (read w) ≡ true
+    sound-records = records-are w .1 (is-whole .counted)
+
+  -- ---- the questions, one after the other
+
+  unsound : (sound w ≡ true → ⊥) → false ≡ sound w
+  unsound n = same-test false (sound w) (λ e. never-both e refl) (λ h. absurd (n h))
+
+  pub head-refused : headSound w ≡ false → false ≡ sound w
+  head-refused e = unsound (λ h. never-both (sound-head h) e)
+
+  pub root-refused : {after : List ℕ} {r : Bool} → TopAnswer w after r → r ≡ false → false ≡ sound w
+  root-refused walk e = unsound (λ h. never-both (walk .all (sound-root h) (sound-unmet h)) e)
+
+  pub rest-refused : {after : List ℕ} {r : Bool} → TopAnswer w after r → r ≡ true
+      → every (metOrZero w after) (slotNumbers (read w)) ≡ false → false ≡ sound w
+  rest-refused walk t e = unsound (λ h. never-both (sound-rest h (walk .marked t)) e)
+
+  pub records-last : {after : List ℕ} {r : Bool} → headSound w ≡ true → TopAnswer w after r → r ≡ true
+      → every (metOrZero w after) (slotNumbers (read w)) ≡ true → recordsSound (read w) ≡ sound w
+  records-last {after} head walk t rest =
+      same-test (recordsSound (read w)) (sound w) (yes-sound head (subst (TopAnswer w after) t walk) rest) sound-records

@@ -1,2 +1,2 @@
--- Short names for what is asked of an inner entry.
-pub mod State
+-- What the walk of soundness asks and tells.
+pub mod Walked

@@ -1,17 +1,15 @@
 -- The node check and the entry check call each other: 10 for each level, and between two levels the entries that are left.
 use borrow.Author.Needs.{needs}
+use mathlib.Core.Path.{refl, sym, _∙_}
 use Prim.Native.Nat.{_+_, _*_, _-_, _≤_}
 use native.Mathlib.Omega.{arith}
 use lib.ListN.{length}
 use Rattle.rules.specs.Pool.{entriesAt}
 use Rattle.rules.specs.Layout.{read}
-use mathlib.Core.Path.{sym, _∙_}
 use Rattle.rules_laws.proofs.Bools.{not-true, not-false}
 use Rattle.pool.proofs.Parts.{slot-few}
 use Rattle.nodes.proofs.Slots.{asked-within}
-use Rattle.sound.specs.State.{innerSound}
-use Rattle.sound.proofs.Everies.{every-none}
-use Rattle.sound.proofs.Walks.{fits-slot, entry-fails, node-fails, both-hold, node-none, node-leaf, node-inner}
+use Rattle.sound.proofs.Nodes.{refused-part, entries-end, entry-rect, entry-no-slot, entry-refused, entry-goes, not-met, leaf-answers, inner-answers, too-few, not-tight, as-node, no-leaf}
 use Prim.Native.Nat.{ℕ, _<_}
 use borrow.Fn.Kinds.{In}
 use borrow.Fn.PlainCycle.{Measures, is, falls, and}
@@ -21,185 +19,257 @@ use Rattle.sound.proofs.+entries_sound+node_sound.Lts-entries_sound as 
 use Rattle.sound.proofs.node_sound.Reads as node-sound
 use Rattle.sound.proofs.node_sound.Kinds as node-sound-kinds
 use Rattle.sound.proofs.+entries_sound+node_sound.Lts-node_sound as node-sound-lts
-use Rattle.nodes.proofs.child.Reads as child-reads
+use Rattle.geometry.proofs.same_rect.Reads as same-rect-reads
+use Rattle.nodes.proofs.is_slot.Reads as is-slot-reads
+use Rattle.pool.proofs.child_of.Reads as child-of-reads
 use Rattle.pool.proofs.count_of.Reads as count-of-reads
-use Rattle.pool.proofs.entry_of.Reads as entry-of-reads
-use Rattle.sound.proofs.entry_fits.Reads as entry-fits-reads
-use Rattle.sound.proofs.leaf_sound.Reads as leaf-sound-reads
+use Rattle.pool.proofs.rect_of.Reads as rect-of-reads
+use Rattle.sound.proofs.look.Reads as look-reads
+use Rattle.sound.proofs.meet.Reads as meet-reads
 use Rattle.sound.proofs.+entries_sound+node_sound.{statement}
 use Rattle.sound.proofs.+entries_sound+node_sound.Tie.{close}
 
-abbrev μ-entries-sound : Measures 1 entries-sound-kinds.ps ℕ
-μ-entries-sound κs a = 10 * (a .1 .0) + 1 + (a .1 .1 .1 .1 .0 - a .1 .1 .1 .0)
+abbrev μ-entries-sound : Measures 2 entries-sound-kinds.ps ℕ
+μ-entries-sound κs a = 10 * (a .1 .1 .0) + 1 + (a .1 .1 .1 .1 .1 .0 - a .1 .1 .1 .1 .0)
 
-abbrev μ-node-sound : Measures 1 node-sound-kinds.ps ℕ
-μ-node-sound κs a = 10 * (a .1 .0)
+abbrev μ-node-sound : Measures 2 node-sound-kinds.ps ℕ
+μ-node-sound κs a = 10 * (a .1 .1 .0)
 
-abbrev entries-sound-at : ℕ → In 1 entries-sound-kinds.ps
+abbrev entries-sound-at : ℕ → In 2 entries-sound-kinds.ps
 entries-sound-at t =
-    and 1 entries-sound-kinds.ps (is 1 entries-sound-kinds.ps μ-entries-sound t) entries-sound.Pre
+    and 2 entries-sound-kinds.ps (is 2 entries-sound-kinds.ps μ-entries-sound t) entries-sound.Pre
 
-abbrev entries-sound-below : ℕ → In 1 entries-sound-kinds.ps
+abbrev entries-sound-below : ℕ → In 2 entries-sound-kinds.ps
 entries-sound-below t =
     and
-    1
+    2
     entries-sound-kinds.ps
-    (falls 1 entries-sound-kinds.ps _<_ μ-entries-sound t)
+    (falls 2 entries-sound-kinds.ps _<_ μ-entries-sound t)
     entries-sound.Pre
 
-abbrev node-sound-at : ℕ → In 1 node-sound-kinds.ps
+abbrev node-sound-at : ℕ → In 2 node-sound-kinds.ps
 node-sound-at t =
-    and 1 node-sound-kinds.ps (is 1 node-sound-kinds.ps μ-node-sound t) node-sound.Pre
+    and 2 node-sound-kinds.ps (is 2 node-sound-kinds.ps μ-node-sound t) node-sound.Pre
 
-abbrev node-sound-below : ℕ → In 1 node-sound-kinds.ps
+abbrev node-sound-below : ℕ → In 2 node-sound-kinds.ps
 node-sound-below t =
-    and 1 node-sound-kinds.ps (falls 1 node-sound-kinds.ps _<_ μ-node-sound t) node-sound.Pre
+    and 2 node-sound-kinds.ps (falls 2 node-sound-kinds.ps _<_ μ-node-sound t) node-sound.Pre
 
 abbrev entries-sound-calls : ℕ → entries-sound-lts.Claims
 entries-sound-calls t = (
-  entry-of-reads.Asked,
-  entry-of-reads.Learnt,
-  entry-fits-reads.Asked,
-  entry-fits-reads.Learnt,
-  child-reads.Asked,
-  child-reads.Learnt,
+  child-of-reads.Asked,
+  child-of-reads.Learnt,
+  is-slot-reads.Asked,
+  is-slot-reads.Learnt,
+  rect-of-reads.Asked,
+  rect-of-reads.Learnt,
   node-sound-below t,
   node-sound.Post,
   entries-sound-below t,
   entries-sound.Post,
 )
 
+abbrev node-sound-calls : ℕ → node-sound-lts.Claims
+node-sound-calls t = (
+  meet-reads.Asked,
+  meet-reads.Learnt,
+  count-of-reads.Asked,
+  count-of-reads.Learnt,
+  look-reads.Asked,
+  look-reads.Learnt,
+  same-rect-reads.Asked,
+  same-rect-reads.Learnt,
+  entries-sound-below t,
+  entries-sound.Post,
+)
+
 entries-sound-returns : (t : ℕ) → entries-sound-lts.Need-returns (entries-sound-calls t) (entries-sound-at t) entries-sound.Post
 entries-sound-returns t c =
-    let s = c .before in
-    let p = read (s .args .pool .now) in
-    sym (every-none (innerSound p (s .args .below)) (entriesAt p (s .args .s)) (s .args .i) (omega (arith, s .pre .1 .1, c .if1 .taken)))
+    let start = c .before in
+    entries-end (start .args .pool .now) (start .args .below) (start .args .s) (start .args .i) (start .args .seen .now)
+    (omega (arith, start .pre .1 .1 .1 .1 .1, c .if1 .taken))
 
-entries-sound-entry-of-requires : (t : ℕ) → entries-sound-lts.Need-entry-of-requires (entries-sound-calls t) (entries-sound-at t) entries-sound.Post
-entries-sound-entry-of-requires t c κs = let s = c .before in (s .pre .1 .0, omega (arith, s .pre .1 .1, c .if1 .left))
+entries-sound-child-of-requires : (t : ℕ) → entries-sound-lts.Need-child-of-requires (entries-sound-calls t) (entries-sound-at t) entries-sound.Post
+entries-sound-child-of-requires t c κs =
+    let start = c .before in
+    (start .pre .1 .0, (omega (arith, start .pre .1 .1 .1 .1 .1, c .if1 .left), start .pre .1 .1 .1 .1 .0))
 
-entries-sound-entry-fits-requires : (t : ℕ)
-    → entries-sound-lts.Need-entry-fits-requires (entries-sound-calls t) (entries-sound-at t) entries-sound.Post
-entries-sound-entry-fits-requires t c κs = c .before .before .pre .1 .0 .right
+entries-sound-is-slot-requires : (t : ℕ) → entries-sound-lts.Need-is-slot-requires (entries-sound-calls t) (entries-sound-at t) entries-sound.Post
+entries-sound-is-slot-requires t c κs = search needs
 
 entries-sound-returns-2 : (t : ℕ) → entries-sound-lts.Need-returns-2 (entries-sound-calls t) (entries-sound-at t) entries-sound.Post
 entries-sound-returns-2 t c =
     let start = c .before .before .before .before in
     let if1 = c .before .before .before .if1 in
-    let entry-of = c .before .before .entry-of in
-    let entry-fits = c .before .entry-fits in
-    let p = read (start .args .pool .now) in
-    let there : start .args .i < length (entriesAt p (start .args .s)) = omega (arith, start .pre .1 .1, if1 .left) in
-    sym (entry-fails p (start .args .below) (start .args .s) (start .args .i) there (entry-of .result) (entry-of .ensures)
-    (sym (entry-fits .ensures) ∙ not-true (entry-fits .result) (c .if2 .taken)))
+    let child-of = c .before .before .child-of in
+    let w = start .args .pool .now in
+    let s = start .args .s in
+    let i = start .args .i in
+    let here : i < length (entriesAt (read w) s) = omega (arith, start .pre .1 .1 .1 .1 .1, if1 .left) in
+    entry-no-slot w (start .args .below) s i here (child-of .result) (child-of .ensures)
+    (sym (c .before .is-slot .ensures) ∙ not-true _ (c .if2 .taken)) (start .args .seen .now)
 
-entries-sound-child-requires : (t : ℕ) → entries-sound-lts.Need-child-requires (entries-sound-calls t) (entries-sound-at t) entries-sound.Post
-entries-sound-child-requires t c κs = search needs
+entries-sound-rect-of-requires : (t : ℕ) → entries-sound-lts.Need-rect-of-requires (entries-sound-calls t) (entries-sound-at t) entries-sound.Post
+entries-sound-rect-of-requires t c κs =
+    let start = c .before .before .before .before in
+    let if1 = c .before .before .before .if1 in
+    (start .pre .1 .0, omega (arith, start .pre .1 .1 .1 .1 .1, if1 .left))
 
 entries-sound-node-sound-requires : (t : ℕ)
     → entries-sound-lts.Need-node-sound-requires (entries-sound-calls t) (entries-sound-at t) entries-sound.Post
 entries-sound-node-sound-requires t c κs =
-    let start = c .before .before .before .before .before in
-    let entry-of = c .before .before .before .entry-of in
-    let entry-fits = c .before .before .entry-fits in
-    let p = read (start .args .pool .now) in
-    let fits = fits-slot p (start .args .below) (entry-of .result)
-    (sym (entry-fits .ensures) ∙ not-false (entry-fits .result) (c .before .if2 .left)) in (
-      omega (arith, start .pre .0),
-      asked-within (start .args .pool .now) (c .child .result) (start .pre .1 .0 .right) (rw (c .child .ensures) fits),
+    let start = c .before .before .before .before .before .before in
+    let child-of = c .before .before .before .before .child-of in
+    let is-slot = c .before .before .before .is-slot in
+    let if2 = c .before .before .if2 in
+    let slot = sym (is-slot .ensures) ∙ not-false _ (if2 .left) in (
+      omega (arith, start .pre .0, start .pre .1 .1 .1 .0),
+      (
+        asked-within (start .args .pool .now) (child-of .result) (start .pre .1 .0 .right) slot,
+        (start .pre .1 .1 .0, omega (arith, start .pre .1 .1 .1 .0)),
+      ),
     )
 
 entries-sound-returns-3 : (t : ℕ) → entries-sound-lts.Need-returns-3 (entries-sound-calls t) (entries-sound-at t) entries-sound.Post
 entries-sound-returns-3 t c =
-    let start = c .before .before .before .before .before .before .before in
-    let if1 = c .before .before .before .before .before .before .if1 in
-    let entry-of = c .before .before .before .before .before .entry-of in
-    let entry-fits = c .before .before .before .before .entry-fits in
-    let if2 = c .before .before .before .if2 in
-    let child = c .before .before .child in
-    let node-sound = c .before .node-sound in
-    let p = read (start .args .pool .now) in
-    let there : start .args .i < length (entriesAt p (start .args .s)) = omega (arith, start .pre .1 .1, if1 .left) in
-    let fits = sym (entry-fits .ensures) ∙ not-false (entry-fits .result) (if2 .left) in
-    sym (node-fails p (start .args .below) (start .args .s) (start .args .i) there (entry-of .result) (entry-of .ensures) fits
-    (child .result) (child .ensures) (sym (node-sound .ensures) ∙ not-true (node-sound .result) (c .if3 .taken)))
+    let start = c .before .before .before .before .before .before .before .before in
+    let if1 = c .before .before .before .before .before .before .before .if1 in
+    let child-of = c .before .before .before .before .before .before .child-of in
+    let rect-of = c .before .before .before .rect-of in
+    let w = start .args .pool .now in
+    let s = start .args .s in
+    let i = start .args .i in
+    let here : i < length (entriesAt (read w) s) = omega (arith, start .pre .1 .1 .1 .1 .1, if1 .left) in
+    entry-refused w (start .args .below) s i here (child-of .result) (child-of .ensures) (rect-of .result)
+    (rect-of .ensures ∙ entry-rect (read w) s i) (c .before .node-sound .ensures) (not-true _ (c .if3 .taken))
 
 entries-sound-add-entries-sound : (t : ℕ) → entries-sound-lts.Need-add-entries-sound (entries-sound-calls t) (entries-sound-at t) entries-sound.Post
 entries-sound-add-entries-sound t c =
-    let start = c .before .before .before .before .before .before .before in
-    let if1 = c .before .before .before .before .before .before .if1 in
-    omega (arith, start .pre .1 .1, if1 .left, slot-few (start .pre .1 .0))
+    let start = c .before .before .before .before .before .before .before .before .before in
+    let if1 = c .before .before .before .before .before .before .before .before .if1 in
+    omega (arith, start .pre .1 .1 .1 .1 .1, if1 .left, slot-few (start .pre .1 .0))
 
 entries-sound-entries-sound-requires : (t : ℕ)
     → entries-sound-lts.Need-entries-sound-requires (entries-sound-calls t) (entries-sound-at t) entries-sound.Post
 entries-sound-entries-sound-requires t c κs =
-    let start = c .before .before .before .before .before .before .before in
-    let if1 = c .before .before .before .before .before .before .if1 in
-    (omega (arith, start .pre .0, if1 .left), (start .pre .1 .0, start .pre .1 .1))
+    let start = c .before .before .before .before .before .before .before .before .before in
+    let if1 = c .before .before .before .before .before .before .before .before .if1 in
+    let node-sound = c .before .before .node-sound in (
+      omega (arith, start .pre .0, if1 .left),
+      (
+        start .pre .1 .0,
+        (
+          node-sound .ensures .marked (not-false _ (c .before .if3 .left)) .size ∙ start .pre .1 .1 .0,
+          (start .pre .1 .1 .1 .0, (start .pre .1 .1 .1 .1 .0, start .pre .1 .1 .1 .1 .1)),
+        ),
+      ),
+    )
 
 entries-sound-returns-4 : (t : ℕ) → entries-sound-lts.Need-returns-4 (entries-sound-calls t) (entries-sound-at t) entries-sound.Post
 entries-sound-returns-4 t c =
-    let start = c .before .before .before .before .before .before .before .before in
-    let if1 = c .before .before .before .before .before .before .before .if1 in
-    let entry-of = c .before .before .before .before .before .before .entry-of in
-    let entry-fits = c .before .before .before .before .before .entry-fits in
-    let if2 = c .before .before .before .before .if2 in
-    let child = c .before .before .before .child in
-    let node-sound = c .before .before .node-sound in
-    let p = read (start .args .pool .now) in
-    let there : start .args .i < length (entriesAt p (start .args .s)) = omega (arith, start .pre .1 .1, if1 .left) in
-    let fits = sym (entry-fits .ensures) ∙ not-false (entry-fits .result) (if2 .left) in
-    both-hold p (start .args .below) (start .args .s) (start .args .i) there (entry-of .result) (entry-of .ensures) fits (child .result)
-    (child .ensures) (sym (node-sound .ensures) ∙ not-false (node-sound .result) (c .before .if3 .left)) (c .entries-sound .result)
-    (c .entries-sound .ensures)
+    let start = c .before .before .before .before .before .before .before .before .before .before in
+    let if1 = c .before .before .before .before .before .before .before .before .before .if1 in
+    let child-of = c .before .before .before .before .before .before .before .before .child-of in
+    let rect-of = c .before .before .before .before .before .rect-of in
+    let node-sound = c .before .before .before .node-sound in
+    let if3 = c .before .before .if3 in
+    let w = start .args .pool .now in
+    let s = start .args .s in
+    let i = start .args .i in
+    let here : i < length (entriesAt (read w) s) = omega (arith, start .pre .1 .1 .1 .1 .1, if1 .left) in
+    entry-goes w (start .args .below) s i here (child-of .result) (child-of .ensures) (rect-of .result)
+    (rect-of .ensures ∙ entry-rect (read w) s i) (node-sound .ensures) (not-false _ (if3 .left)) (c .entries-sound .ensures)
 
-abbrev node-sound-calls : ℕ → node-sound-lts.Claims
-node-sound-calls t = (
-  leaf-sound-reads.Asked,
-  leaf-sound-reads.Learnt,
-  count-of-reads.Asked,
-  count-of-reads.Learnt,
-  entries-sound-below t,
-  entries-sound.Post,
-)
+node-sound-meet-requires : (t : ℕ) → node-sound-lts.Need-meet-requires (node-sound-calls t) (node-sound-at t) node-sound.Post
+node-sound-meet-requires t c κs = (c .before .pre .1 .0, c .before .pre .1 .1 .0)
 
 node-sound-returns : (t : ℕ) → node-sound-lts.Need-returns (node-sound-calls t) (node-sound-at t) node-sound.Post
-node-sound-returns t c = let s = c .before in rw (c .if1 .taken) (sym (node-none (read (s .args .pool .now)) (s .args .s)))
-
-node-sound-leaf-sound-requires : (t : ℕ) → node-sound-lts.Need-leaf-sound-requires (node-sound-calls t) (node-sound-at t) node-sound.Post
-node-sound-leaf-sound-requires t c κs = c .before .before .pre .1
-
-node-sound-returns-2 : (t : ℕ) → node-sound-lts.Need-returns-2 (node-sound-calls t) (node-sound-at t) node-sound.Post
-node-sound-returns-2 t c =
-    let s = c .before .before .before in
-    rw (c .before .if2 .taken) (c .leaf-sound .ensures ∙ sym (node-leaf (read (s .args .pool .now)) (s .args .s)))
+node-sound-returns t c =
+    let start = c .before .before .before in
+    refused-part refl (λ n. n .below)
+    (not-met (start .pre .1 .0) (start .args .level) (start .pre .1 .1 .1) (not-true _ (c .if1 .taken)) (c .before .meet .ensures))
 
 node-sound-count-of-requires : (t : ℕ) → node-sound-lts.Need-count-of-requires (node-sound-calls t) (node-sound-at t) node-sound.Post
-node-sound-count-of-requires t c κs = c .before .before .pre .1
+node-sound-count-of-requires t c κs = c .before .before .before .pre .1 .0
 
-node-sound-sub-entries-sound : (t : ℕ) → node-sound-lts.Need-sub-entries-sound (node-sound-calls t) (node-sound-at t) node-sound.Post
-node-sound-sub-entries-sound t c = omega (arith, c .before .before .if1 .left)
+node-sound-returns-2 : (t : ℕ) → node-sound-lts.Need-returns-2 (node-sound-calls t) (node-sound-at t) node-sound.Post
+node-sound-returns-2 t c = too-few (omega (arith, c .before .count-of .ensures .0, c .if2 .taken))
 
-node-sound-entries-sound-requires : (t : ℕ) → node-sound-lts.Need-entries-sound-requires (node-sound-calls t) (node-sound-at t) node-sound.Post
-node-sound-entries-sound-requires t c κs =
-    let s = c .before .before .before in
-    (omega (arith, s .pre .0, c .before .before .if1 .left, c .count-of .ensures .1), (s .pre .1, c .count-of .ensures .0))
+node-sound-look-requires : (t : ℕ) → node-sound-lts.Need-look-requires (node-sound-calls t) (node-sound-at t) node-sound.Post
+node-sound-look-requires t c κs =
+    let start = c .before .before .before .before .before in
+    (start .pre .1 .0, omega (arith, c .before .count-of .ensures .0, c .if2 .left))
+
+node-sound-same-rect-requires : (t : ℕ) → node-sound-lts.Need-same-rect-requires (node-sound-calls t) (node-sound-at t) node-sound.Post
+node-sound-same-rect-requires t c κs = search needs
 
 node-sound-returns-3 : (t : ℕ) → node-sound-lts.Need-returns-3 (node-sound-calls t) (node-sound-at t) node-sound.Post
 node-sound-returns-3 t c =
-    let s = c .before .before .before .before in
-    let two : 2 ≤ s .args .level = omega (arith, c .before .before .before .if1 .left, c .before .before .if2 .left) in
-    node-inner (read (s .args .pool .now)) (s .args .s) (s .args .level) two (c .entries-sound .result) (c .entries-sound .ensures)
+    let look = c .before .before .before .look in
+    not-tight (look .result .cover) (look .ensures .0) (sym (c .before .same-rect .ensures) ∙ not-true _ (c .if3 .taken))
+
+node-sound-returns-4 : (t : ℕ) → node-sound-lts.Need-returns-4 (node-sound-calls t) (node-sound-at t) node-sound.Post
+node-sound-returns-4 t c =
+    let start = c .before .before .before .before .before .before .before .before .before .before in
+    let meet = c .before .before .before .before .before .before .before .before .meet in
+    let if1 = c .before .before .before .before .before .before .before .if1 in
+    let count-of = c .before .before .before .before .before .before .count-of in
+    let if2 = c .before .before .before .before .before .if2 in
+    let look = c .before .before .before .before .look in
+    let same-rect = c .before .before .same-rect in
+    as-node (look .result .cover) (look .ensures .0) (omega (arith, count-of .ensures .0, if2 .left))
+    (sym (same-rect .ensures) ∙ not-false _ (c .before .if3 .left))
+    (rw (c .if4 .taken)
+    (leaf-answers (start .pre .1 .0) (not-false _ (if1 .left)) (rw (c .if4 .taken) at (meet .ensures)) (look .result .plain)
+    (look .ensures .1)))
+
+node-sound-sub-entries-sound : (t : ℕ) → node-sound-lts.Need-sub-entries-sound (node-sound-calls t) (node-sound-at t) node-sound.Post
+node-sound-sub-entries-sound t c =
+    let start = c .before .before .before .before .before .before .before .before .before .before .before in
+    omega (arith, start .pre .1 .1 .1)
+
+node-sound-entries-sound-requires : (t : ℕ) → node-sound-lts.Need-entries-sound-requires (node-sound-calls t) (node-sound-at t) node-sound.Post
+node-sound-entries-sound-requires t c κs =
+    let start = c .before .before .before .before .before .before .before .before .before .before .before in
+    let meet = c .before .before .before .before .before .before .before .before .before .meet in
+    let if1 = c .before .before .before .before .before .before .before .before .if1 in
+    let count-of = c .before .before .before .before .before .before .before .count-of in
+    let two : 2 ≤ start .args .level = omega (arith, c .before .if4 .left, start .pre .1 .1 .1) in (
+      omega (arith, start .pre .0, start .pre .1 .1 .1, count-of .ensures .1),
+      (
+        start .pre .1 .0,
+        (
+          meet .ensures .marked (not-false _ (if1 .left)) .size ∙ start .pre .1 .1 .0,
+          (omega arith, (no-leaf _ (start .args .level) (meet .ensures .yes (not-false _ (if1 .left)) .level) two, count-of .ensures .0)),
+        ),
+      ),
+    )
+
+node-sound-returns-5 : (t : ℕ) → node-sound-lts.Need-returns-5 (node-sound-calls t) (node-sound-at t) node-sound.Post
+node-sound-returns-5 t c =
+    let start = c .before .before .before .before .before .before .before .before .before .before .before .before in
+    let meet = c .before .before .before .before .before .before .before .before .before .before .meet in
+    let if1 = c .before .before .before .before .before .before .before .before .before .if1 in
+    let count-of = c .before .before .before .before .before .before .before .before .count-of in
+    let if2 = c .before .before .before .before .before .before .before .if2 in
+    let look = c .before .before .before .before .before .before .look in
+    let same-rect = c .before .before .before .before .same-rect in
+    let if3 = c .before .before .before .if3 in
+    let if4 = c .before .before .if4 in
+    let two : 2 ≤ start .args .level = omega (arith, if4 .left, start .pre .1 .1 .1) in
+    as-node (look .result .cover) (look .ensures .0) (omega (arith, count-of .ensures .0, if2 .left))
+    (sym (same-rect .ensures) ∙ not-false _ (if3 .left))
+    (inner-answers (start .pre .1 .0) (start .args .level) two (not-false _ (if1 .left)) (meet .ensures) (c .entries-sound .ensures))
 
 pub +entries-sound+node-sound-spec : {M : Type 1} → statement M
 +entries-sound+node-sound-spec = close μ-entries-sound μ-node-sound (λ t. entries-sound-lts.spec (entries-sound-calls t)
     (entries-sound-at t)
     entries-sound.Post
     (entries-sound-returns t)
-    (entries-sound-entry-of-requires t)
-    (entries-sound-entry-fits-requires t)
+    (entries-sound-child-of-requires t)
+    (entries-sound-is-slot-requires t)
     (entries-sound-returns-2 t)
-    (entries-sound-child-requires t)
+    (entries-sound-rect-of-requires t)
     (entries-sound-node-sound-requires t)
     (entries-sound-returns-3 t)
     (entries-sound-add-entries-sound t)
@@ -208,10 +278,14 @@ pub +entries-sound+node-sound-spec : {M : Type 1} → statement M
     λ t. node-sound-lts.spec (node-sound-calls t)
     (node-sound-at t)
     node-sound.Post
+    (node-sound-meet-requires t)
     (node-sound-returns t)
-    (node-sound-leaf-sound-requires t)
-    (node-sound-returns-2 t)
     (node-sound-count-of-requires t)
+    (node-sound-returns-2 t)
+    (node-sound-look-requires t)
+    (node-sound-same-rect-requires t)
+    (node-sound-returns-3 t)
+    (node-sound-returns-4 t)
     (node-sound-sub-entries-sound t)
     (node-sound-entries-sound-requires t)
-    (node-sound-returns-3 t)
+    (node-sound-returns-5 t)

@@ -1,33 +1,65 @@
--- The parts of the sentence in turn: the first that fails answers, and a height above 8 fails since no sound tree is higher.
+-- The questions in turn: the first that fails answers for all.
 use mathlib.Core.Path.{sym, _∙_}
+use Prim.Native.Nat.{ℕ}
+use lib.ListN.{length-replicate}
+use Rattle.rules.specs.Numbers.{mostSlots}
 use Rattle.rules_laws.proofs.Bools.{not-true, not-false}
-use Rattle.pool.proofs.Parts.{few-slots}
-use Rattle.pool.proofs.Written.{read-slots}
-use Rattle.sound.proofs.Tops.{not-tidy, not-shaped, too-high, tidy-shaped}
+use Rattle.sound.proofs.Tops.{head-asks, head-refused, root-refused, rest-refused, records-last}
 use borrow.Author.Needs.{needs}
 use Rattle.sound.proofs.sound.Statement.{statement}
 use Rattle.sound.proofs.sound.Tie as tie
 
 returns : tie.Need-returns
-returns c = sym (not-tidy _ (sym (c .before .tidy .ensures) ∙ not-true _ (c .if1 .taken)))
+returns c =
+    let start = c .before .before in
+    head-refused (start .args .pool .now) (start .pre) (sym (c .before .head-sound .ensures) ∙ not-true _ (c .if1 .taken))
+
+root-sound-requires : tie.Need-root-sound-requires
+root-sound-requires c κs =
+    let start = c .before .before .before .before .before in
+    let head-sound = c .before .before .before .before .head-sound in
+    let if1 = c .before .before .before .if1 in
+    let h = head-asks (start .args .pool .now) (start .pre) (sym (head-sound .ensures) ∙ not-false _ (if1 .left)) in
+    (rw (c .root-of .ensures) (h .0), (length-replicate {A = ℕ} mostSlots 0, rw (c .before .height-of .ensures) (h .1)))
 
 returns-2 : tie.Need-returns-2
-returns-2 c = sym (not-shaped _ (sym (c .before .shaped .ensures) ∙ not-true _ (c .if2 .taken)))
+returns-2 c =
+    let start = c .before .before .before .before .before .before .before in
+    let height-of = c .before .before .before .height-of in
+    let root-of = c .before .before .root-of in
+    root-refused (start .args .pool .now) (start .pre) (rw (height-of .ensures, root-of .ensures) at (c .before .root-sound .ensures))
+    (not-true _ (c .if2 .taken))
+
+rest-zero-requires : tie.Need-rest-zero-requires
+rest-zero-requires c κs =
+    let start = c .before .before .before .before .before .before .before .before in
+    let root-sound = c .before .before .root-sound in
+    (start .pre, root-sound .ensures .marked (not-false _ (c .before .if2 .left)) .size ∙ length-replicate {A = ℕ} mostSlots 0)
 
 returns-3 : tie.Need-returns-3
 returns-3 c =
-    let s = c .before .before .before .before .before .before in
-    let w = s .args .pool .now in
-    sym (too-high w (rw (read-slots w) (few-slots w (s .pre))) (rw (c .before .height-of .ensures) at (c .if3 .taken)))
+    let start = c .before .before .before .before .before .before .before .before .before .before in
+    let height-of = c .before .before .before .before .before .before .height-of in
+    let root-of = c .before .before .before .before .before .root-of in
+    let root-sound = c .before .before .before .before .root-sound in
+    let if2 = c .before .before .before .if2 in
+    rest-refused (start .args .pool .now) (start .pre) (rw (height-of .ensures, root-of .ensures) at (root-sound .ensures))
+    (not-false _ (if2 .left)) (sym (c .before .rest-zero .ensures) ∙ not-true _ (c .if3 .taken))
 
 returns-4 : tie.Need-returns-4
 returns-4 c =
-    let tidy = c .before .before .before .before .before .before .tidy in
-    let if1 = c .before .before .before .before .before .if1 in
-    let shaped = c .before .before .before .before .shaped in
-    let if2 = c .before .before .before .if2 in
-    c .all-sound .ensures
-    ∙ sym (tidy-shaped _ (sym (tidy .ensures) ∙ not-false _ (if1 .left)) (sym (shaped .ensures) ∙ not-false _ (if2 .left)))
+    let start = c .before .before .before .before .before .before .before .before .before .before .before in
+    let head-sound = c .before .before .before .before .before .before .before .before .before .before .head-sound in
+    let if1 = c .before .before .before .before .before .before .before .before .before .if1 in
+    let height-of = c .before .before .before .before .before .before .before .height-of in
+    let root-of = c .before .before .before .before .before .before .root-of in
+    let root-sound = c .before .before .before .before .before .root-sound in
+    let if2 = c .before .before .before .before .if2 in
+    let rest-zero = c .before .before .rest-zero in
+    c .records-sound .ensures
+    ∙ records-last (start .args .pool .now) (start .pre) (sym (head-sound .ensures) ∙ not-false _ (if1 .left))
+    (rw (height-of .ensures, root-of .ensures) at (root-sound .ensures)) (not-false _ (if2 .left))
+    (sym (rest-zero .ensures) ∙ not-false _ (c .before .if3 .left))
 
 pub sound-spec : {M : Type 1} → statement M
 sound-spec =
@@ -36,8 +68,10 @@ sound-spec =
     (λ c κs. search needs)
     returns
     (λ c κs. search needs)
-    returns-2
     (λ c κs. search needs)
+    root-sound-requires
+    returns-2
+    rest-zero-requires
     returns-3
     (λ c κs. search needs)
     returns-4)

@@ -1,87 +1,105 @@
+-- A leaf's pointers may be any words. Of an inner node each turn asks the next pointer, and what was asked so far goes on.
 use mathlib.Core.Path.{_≡_, sym, ap, _∙_}
+use mathlib.Core.Bool.{Bool, false, _&&_, and-assoc, and-true}
 use native.Mathlib.Omega.{arith}
 use borrow.Author.Needs.{needs}
+use borrow.Author.Tests.{eq-eqb, ne-eqb}
 use mathlib.Core.List.{List, map}
-use Prim.Native.Nat.{ℕ, _+_, _*_, _-_, _≤_, _<_}
+use Prim.Native.Nat.{ℕ, _+_, _-_, _<_}
+use lib.Dec.{eqb}
 use lib.ListN.{length, drop}
-use lib.IntN.{ℤ}
-use Rattle.rules.specs.declared.Entry.{Entry}
+use lib.IntN.{ℤ, pos}
+use lib.Signed.{leZ}
+use Rattle.rules.specs.declared.SlotNumber.{SlotNumber}
 use Rattle.rules.specs.Lists.{joined}
-use Rattle.rules.specs.Pool.{noEntry, entriesAt, entryAt, entryFrom}
-use Rattle.rules.specs.Layout.{entrySize, slotHead, slotStart, entryWords, read}
-use Rattle.rules_laws.proofs.Bools.{not-true, not-false}
-use Rattle.pool.proofs.Parts.{room, slot-few}
+use Rattle.rules.specs.Pool.{noEntry, nodeAt, entriesAt}
+use Rattle.rules.specs.Layout.{entrySize, slotHead, slotStart, entryPlace, pointerPlace, entryWords, wordAt, read}
+use Rattle.pool.proofs.Parts.{few, room, slot-few}
 use Rattle.pool.specs.Standing.{stand}
-use Rattle.pool.proofs.Stand.{parts-on, parts-stop, parts-end}
+use Rattle.pool.proofs.Stand.{parts-end}
 use Rattle.pool.proofs.Written.{entry-size}
+use Rattle.pool.proofs.Tidied.{leaf-entries, child-entries}
 use Rattle.pool.proofs.tidy.tidy_entries.Statement.{statement}
 use Rattle.pool.proofs.tidy.tidy_entries.Tie as tie
 
--- the entries from i on are asked as all are
-record Turn (w : List ℤ) (at : ℕ) (es : List Entry) (n i : ℕ) : Type 0 where
-  size : n ≡ length es
-  most : i ≤ n
-  rest : stand (joined (map entryWords (drop i es))) w (at + entrySize * i) ≡ stand (joined (map entryWords es)) w at
+-- what was asked so far, and the entries from i on, are asked as all are
+record Turn (w : List ℤ) (s : SlotNumber) (n : ℕ) (all : Bool) (i : ℕ) : Type 0 where
+  size : n ≡ length (entriesAt (read w) s)
+  inner : eqb (nodeAt (read w) s .level) 1 ≡ false
+  rest : (all && stand (joined (map entryWords (drop i (entriesAt (read w) s)))) w (entryPlace s i))
+      ≡ stand (joined (map entryWords (entriesAt (read w) s))) w (slotStart s + slotHead)
 
 abbrev Inv-loop : tie.InvT-loop
-Inv-loop pool s n i₀ i = Turn pool (slotStart s + slotHead) (entriesAt (read pool) s) n i
+Inv-loop pool s n all₀ i₀ all i = Turn pool s n all i
 
 abbrev μ-loop : tie.MeasureT-loop
-μ-loop pool s n i₀ i = n - i
+μ-loop pool s n all₀ i₀ all i = n - i
+
+level-of-requires : tie.Need-level-of-requires Inv-loop μ-loop
+level-of-requires c κs = c .pre
+
+returns : tie.Need-returns Inv-loop μ-loop
+returns c =
+    let start = c .before .before in
+    sym (leaf-entries (start .pre)
+    (eq-eqb (nodeAt (read (start .args .pool .now)) (start .args .s) .level) 1 (sym (c .before .level-of .ensures) ∙ c .if1 .taken)))
 
 count-of-requires : tie.Need-count-of-requires Inv-loop μ-loop
-count-of-requires c κs = c .pre
+count-of-requires c κs = c .before .before .pre
 
 loop-holds : tie.Need-loop-holds Inv-loop μ-loop
 loop-holds c =
-    let w = c .before .args .pool .now in
-    let es = entriesAt (read w) (c .before .args .s) in
-    record { size = c .count-of .ensures .0; most = omega arith; rest = ap (stand (joined (map entryWords es)) w) (omega arith) }
-
-tidy-entry-requires : tie.Need-tidy-entry-requires Inv-loop μ-loop
-tidy-entry-requires c κs = (c .before .before .before .pre, omega (arith, c .loop-test .taken, c .before .loop .inv .size))
-
-returns : tie.Need-returns Inv-loop μ-loop
-unfolding entryAt entryFrom
-returns c =
-    let s = c .before .before .before .before .before in
+    let s = c .before .before .before in
+    let level = c .before .before .level-of .ensures in
     let w = s .args .pool .now in
     let es = entriesAt (read w) (s .args .s) in
-    let l = c .before .before .before .loop in
-    let t = c .before .before .loop-test .taken in
-    let here : l .i < length es = omega (arith, l .inv .size) in
-    let fits : slotStart (s .args .s) + slotHead + entrySize * l .i + entrySize ≤ length w = omega (arith, room (s .pre), slot-few (s .pre)) in
-    sym (parts-stop entrySize entryWords entry-size w (slotStart (s .args .s) + slotHead) noEntry es (l .i) here fits
-    (sym (c .before .tidy-entry .ensures) ∙ not-true _ (c .if1 .taken)))
-    ∙ l .inv .rest
+    record {
+      size = c .count-of .ensures .0;
+      inner = ne-eqb (nodeAt (read w) (s .args .s) .level) 1 (λ e. c .before .if1 .left (level ∙ e));
+      rest = ap (stand (joined (map entryWords es)) w) (omega arith);
+    }
+
+pointer-place-requires : tie.Need-pointer-place-requires Inv-loop μ-loop
+pointer-place-requires c κs =
+    let i = c .before .before .before .before .before .pre in
+    ((i .low, few i), omega (arith, slot-few i, c .loop-test .taken, c .before .loop .inv .size))
+
+at-least-requires : tie.Need-at-least-requires Inv-loop μ-loop
+at-least-requires c κs =
+    let i = c .before .before .before .before .before .before .pre in
+    let l = c .before .before .loop in
+    omega (arith, room i, c .pointer-place .ensures, slot-few i, c .before .loop-test .taken, l .inv .size)
 
 loop-again : tie.Need-loop-again Inv-loop μ-loop
-unfolding entryAt entryFrom
 loop-again c =
-    let s = c .before .before .before .before .before in
-    let w = s .args .pool .now in
-    let es = entriesAt (read w) (s .args .s) in
-    let l = c .before .before .before .loop in
-    let t = c .before .before .loop-test .taken in
-    let here : l .i < length es = omega (arith, l .inv .size) in
-    let fits : slotStart (s .args .s) + slotHead + entrySize * l .i + entrySize ≤ length w = omega (arith, room (s .pre), slot-few (s .pre)) in
+    let start = c .before .before .before .before .before .before .before .before in
+    let loop = c .before .before .before .before .loop in
+    let loop-test = c .before .before .before .loop-test in
+    let pointer-place = c .before .before .pointer-place in
+    let w = start .args .pool .now in
+    let s = start .args .s in
+    let here : loop .i < length (entriesAt (read w) s) = omega (arith, loop-test .taken, loop .inv .size) in
+    let rest = stand (joined (map entryWords (drop (loop .i + 1) (entriesAt (read w) s)))) w (entryPlace s (loop .i + 1)) in
+    let asked = rw (pointer-place .ensures) at (c .before .at-least .ensures) in
     record {
-      size = l .inv .size;
-      most = omega arith;
-      rest =
-          sym (parts-on entrySize entryWords entry-size w (slotStart (s .args .s) + slotHead) noEntry es (l .i) here fits
-          (sym (c .before .tidy-entry .ensures) ∙ not-false _ (c .if1 .left)))
-          ∙ l .inv .rest;
+      size = loop .inv .size;
+      inner = loop .inv .inner;
+      rest = ap (λ (b : Bool). b && rest) (c .and .ensures ∙ ap (λ (b : Bool). loop .all && b) asked)
+          ∙ and-assoc (loop .all) (leZ (pos 0) (wordAt w (pointerPlace s (loop .i)))) rest
+          ∙ ap (λ (b : Bool). loop .all && b) (sym (child-entries (start .pre) (loop .i) here (loop .inv .inner)))
+          ∙ loop .inv .rest;
     }
 
 returns-2 : tie.Need-returns-2 Inv-loop μ-loop
 returns-2 c =
-    let start = c .before .before .before in
+    let start = c .before .before .before .before .before in
     let loop = c .before .loop in
     let w = start .args .pool .now in
-    let es = entriesAt (read w) (start .args .s) in
-    sym (parts-end entrySize entryWords entry-size w (slotStart (start .args .s) + slotHead) noEntry es (loop .i)
-    (omega (arith, c .loop-test .left, loop .inv .size)))
+    let s = start .args .s in
+    sym (and-true (loop .all))
+    ∙ ap (λ (b : Bool). loop .all && b)
+    (sym (parts-end entrySize entryWords entry-size w (slotStart s + slotHead) noEntry (entriesAt (read w) s) (loop .i)
+    (omega (arith, c .loop-test .left, loop .inv .size))))
     ∙ loop .inv .rest
 
 pub tidy-entries-spec : {M : Type 1} → statement M
@@ -90,10 +108,13 @@ tidy-entries-spec =
     (tie.spec
     Inv-loop
     μ-loop
+    level-of-requires
+    returns
     count-of-requires
     loop-holds
-    tidy-entry-requires
-    returns
+    pointer-place-requires
+    at-least-requires
+    (λ c κs. search needs)
     (λ c. search needs)
     (λ c. search needs)
     loop-again

@@ -1,0 +1,114 @@
+-- What the walk of soundness asks of the nodes that it meets, and the marks that it leaves.
+use mathlib.Core.Path.{_≡_}
+use mathlib.Core.Bool.{Bool, true, cond, not, _&&_, _||_}
+use mathlib.Core.List.{List, map}
+use Prim.Native.Nat.{ℕ, _+_, _-_, _≤_}
+use lib.Dec.{leb, eqb}
+use lib.ListN.{length, getD}
+use lib.IntN.{ℤ, pos}
+use lib.Signed.{leZ}
+use Rattle.rules.specs.declared.Rect.{Rect}
+use Rattle.rules.specs.declared.SlotNumber.{SlotNumber}
+use Rattle.rules.specs.declared.Entry.{Entry}
+use Rattle.rules.specs.Lists.{those, joined}
+use Rattle.rules.specs.Numbers.{least}
+use Rattle.rules.specs.Geometry.{valid}
+use Rattle.rules.specs.Pool.{Node, Pool, freeNode, nodeAt, entriesAt, childOf, coverOf, isLeaf}
+use Rattle.rules.specs.Layout.{slotStart, pointerWord, nodeWords, headWords, read}
+use Rattle.rules.specs.Sound.{isSlot}
+use Rattle.rules_laws.proofs.Places.{Among}
+use Rattle.pool.specs.Standing.{stand}
+use Rattle.sound_laws.specs.Tree.{slotsIn, times, Tree}
+
+-- ---- entries
+
+-- low is not above high
+unfoldable pub upright : Rect → Bool
+upright r = leZ (r .lowX) (r .highX) && leZ (r .lowY) (r .highY)
+
+-- a valid rectangle, and a pointer of 1 or more: in a leaf, a sound entry
+unfoldable pub plainEntry : Entry → Bool
+plainEntry e = valid (e .rect) && leZ (pos 1) (pointerWord (e .pointer))
+
+-- the slots of the trees that entries lead to
+abbrev pub slotsBelow : Pool → ℕ → List Entry → List SlotNumber
+slotsBelow p below es = joined (map (λ (e : Entry). slotsIn p below (childOf e)) es)
+
+-- ---- marks
+
+-- a slot's mark: 0 before it is met
+abbrev pub markOf : List ℕ → SlotNumber → ℕ
+markOf seen t = getD seen (t .0 - 1) 0
+
+-- none of the slots was met before, and none is among them twice
+pub record Unmet (ss : List SlotNumber) (seen : List ℕ) : Type 0 where
+  pub each : (t : SlotNumber) → 1 ≤ t .0 → 1 ≤ times t ss → markOf seen t + times t ss ≤ 1
+
+-- each of them has been marked
+pub record Marked (ss : List SlotNumber) (seen after : List ℕ) : Type 0 where
+  pub size : length after ≡ length seen
+  pub each : (t : SlotNumber) → 1 ≤ t .0 → markOf after t ≡ markOf seen t + times t ss
+
+-- the answer r says whether what is asked holds, and the slots that belong to it are met for the first time; if so, they are marked
+pub record Answers (Asked : Type 0) (ss : List SlotNumber) (seen after : List ℕ) (r : Bool) : Type 0 where
+  pub yes : r ≡ true → Asked
+  pub unmet : r ≡ true → Unmet ss seen
+  pub marked : r ≡ true → Marked ss seen after
+  pub all : Asked → Unmet ss seen → r ≡ true
+
+-- ---- nodes
+
+-- a slot's words are those of the node that is read from them
+abbrev pub TidySlot : List ℤ → SlotNumber → Type 0
+TidySlot w s = stand (nodeWords (nodeAt (read w) s)) w (slotStart s) ≡ true
+
+-- .. and the node is of the level
+pub record Fitting (w : List ℤ) (l : ℕ) (s : SlotNumber) : Type 0 where
+  pub level : nodeAt (read w) s .level ≡ l
+  pub tidy : TidySlot w s
+
+-- a tree of so many levels at s, whose slots are tidy
+pub record TidyTree (w : List ℤ) (l : ℕ) (s : SlotNumber) : Type 0 where
+  pub tree : Tree (read w) l s
+  pub tidy : (t : SlotNumber) → Among t (slotsIn (read w) l s) → TidySlot w t
+
+-- .. that an entry with the rectangle `want` may lead to
+pub record SoundNode (w : List ℤ) (l : ℕ) (s : SlotNumber) (want : Rect) : Type 0 where
+  pub below : TidyTree w l s
+  pub enough : least ≤ length (entriesAt (read w) s)
+  pub tight : want ≡ coverOf (entriesAt (read w) s)
+
+abbrev pub SoundEntries : List ℤ → ℕ → List Entry → Type 0
+SoundEntries w below es = (e : Entry) → Among e es → SoundNode w below (childOf e) (e .rect)
+
+-- .. and one at the root
+pub record SoundRoot (w : List ℤ) (l : ℕ) (s : SlotNumber) : Type 0 where
+  pub below : TidyTree w l s
+  pub two : 2 ≤ l → 2 ≤ length (entriesAt (read w) s)
+
+-- what the node check, the entry check and the root's check answer
+abbrev pub NodeAnswer : List ℤ → ℕ → SlotNumber → Rect → List ℕ → List ℕ → Bool → Type 0
+NodeAnswer w l s want seen after r = Answers (SoundNode w l s want) (slotsIn (read w) l s) seen after r
+
+abbrev pub EntriesAnswer : List ℤ → ℕ → List Entry → List ℕ → List ℕ → Bool → Type 0
+EntriesAnswer w below es seen after r = Answers (SoundEntries w below es) (slotsBelow (read w) below es) seen after r
+
+abbrev pub RootAnswer : List ℤ → ℕ → SlotNumber → List ℕ → List ℕ → Bool → Type 0
+RootAnswer w l s seen after r = Answers (SoundRoot w l s) (slotsIn (read w) l s) seen after r
+
+-- ---- the rest
+
+-- "free slots are all zero": the slot was met, or its words are
+unfoldable pub metOrZero : List ℤ → List ℕ → SlotNumber → Bool
+metOrZero w seen s = not (eqb (markOf seen s) 0) || stand (nodeWords freeNode) w (slotStart s)
+
+-- the head's words are those of the pool that is read; the root is a slot, and the height one that a sound tree may have
+unfoldable pub headSound : List ℤ → Bool
+headSound w = stand (headWords (read w)) w 0 && (leb 1 (read w .height) && leb (read w .height) 8) && isSlot (read w) (read w .root)
+
+-- how many records a node has, and all of them
+unfoldable pub recordCount : Node → ℕ
+recordCount n = cond (isLeaf n) (length (n .entries)) 0
+
+unfoldable pub recordCounts : List Node → ℕ
+recordCounts ns = length (joined (map (λ (n : Node). n .entries) (those isLeaf ns)))
