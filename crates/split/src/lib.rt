@@ -113,7 +113,7 @@ fn areas_of(w: &[i32; CORNERS]) -> [u64; NINE]
     areas
 }
 
-// PS1: d of two rectangles with areas m and n, counted as `geometry::waste` counts it.
+// PS1: d of two rectangles with areas m and n. It may be negative, and is counted from -8,000,000,000,000,000,000.
 fn waste_by(a: Rect, b: Rect, m: u64, n: u64) -> u64
     requires { ⌜ (G.valid a ≡ true) × (G.valid b ≡ true) ⌝ }
     requires { ⌜ (pos m ≡ G.area a) × (pos n ≡ G.area b) ⌝ }
@@ -122,7 +122,7 @@ fn waste_by(a: Rect, b: Rect, m: u64, n: u64) -> u64
     geometry::area(geometry::cover(a, b)) + (8000000000000000000 - (m + n))
 }
 
-// Two places, the earlier first, and their d as `geometry::waste` counts it.
+// Two places, the earlier first, and their d as `waste_by` counts it.
 pub struct KeyedSeeds {
     pub first: usize,
     pub second: usize,
@@ -376,7 +376,7 @@ fn next_joining(
     Joining { at, second }
 }
 
-// The place at `at` of the n left joins the group, last. The others' enlargements for it are measured again.
+// The place at `at` of the n left joins the group, last. The group's enlargements for the others are measured again.
 fn join(
     w: &[i32; CORNERS],
     x: Extent,
@@ -402,11 +402,11 @@ fn join(
     let count = x.count;
     let old = x.cover;
     let cover = geometry::cover(old, rect_at(w, place));
-    let area = geometry::area(cover);
+    let larger = geometry::area(cover);
     let grown = Extent {
         count: count + 1,
         cover,
-        area,
+        area: larger,
     };
     group[count] = place;
     close_up(left, at, n - 1);
