@@ -117,7 +117,7 @@ module _ {p : Pool} {s : SlotNumber} {e : Entry} (h : Here p s e) (full : 8 ≤ 
     pub rects-are : rs ≡ rects es
     pub one : take (g .ones) (g .one) ≡ quadraticGroups rs .one
     pub two : take (g .twos) (g .two) ≡ quadraticGroups rs .two
-    pub whole : GroupsWhole rs g
+    pub whole : GroupsWhole g
 
   module _ {es : List Entry} {rs : List Rect} {g : Grouping} (a : Parts es rs g) where
     one-is : map (entryFrom es) (take (g .ones) (g .one)) ≡ quadraticSplit nine .one

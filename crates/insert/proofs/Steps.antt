@@ -1,18 +1,21 @@
 -- The way down and back. Below a node on the way stands the child that the entry goes below, on the way too. While the child grew, the
 -- node itself has not changed, so its entry leads there still; made tight, the node is the top of a tree again, in which the partner's
 -- entry fits.
-use mathlib.Core.Path.{_≡_, refl, sym, ap, subst, subst⁻¹, _∙_}
+use mathlib.Core.Path.{_≡_, refl, sym, ap, ap₂, subst, subst⁻¹, _∙_}
 use mathlib.Core.Bool.{true, false}
 use mathlib.Core.List.{List, [], _∷_, List·Memᴰ·head}
 use Prim.Native.Nat.{ℕ, suc, _+_, _-_, _≤_, _<_}
 use native.Mathlib.Omega.{arith}
-use lib.ListN.{length}
+use lib.ListN.{length, set}
 use lib.IntN.{ℤ}
+use Rattle.rules.specs.declared.Rect.{Rect}
 use Rattle.rules.specs.declared.SlotNumber.{SlotNumber}
+use Rattle.rules.specs.declared.Pointer.the-variants.{Child}
 use Rattle.rules.specs.declared.Entry.{Entry}
 use Rattle.rules.specs.Numbers.{least}
-use Rattle.rules.specs.Geometry.{valid}
-use Rattle.rules.specs.Pool.{Node, Pool, node, noEntry, nodeAt, entriesAt, entryFrom, entryAt, childOf, isLeaf, rects, putEntries, tighten}
+use Rattle.rules.specs.Geometry.{valid, cover}
+use Rattle.rules.specs.Pool.{Node, Pool, node, entry, noEntry, nodeAt, entriesAt, entryFrom, entryAt, childOf, isLeaf, rects, coverOf, entryFor, putEntries, tighten}
+use Rattle.rules.specs.Choose.{rectFrom}
 use Rattle.rules.specs.Insert.{Grown, Kept, Split, Full, ours, install, adjust, insertBelow}
 use Rattle.rules.specs.Layout.{read}
 use Rattle.rules_laws.proofs.Places.{at-place}
@@ -37,10 +40,11 @@ use Rattle.insert_laws.proofs.Tighten.{tighten-grew, grew-beside}
 use Rattle.insert_laws.proofs.Below.{below-here, below-down, way, adjust-kept, adjust-split, adjust-full, way-there, below-grows}
 use Rattle.insert_laws.proofs.Taken.{way-here, run, run-ends, run-goes-on}
 use Rattle.insert_laws.proofs.Beside.{among-here, child-entry, top-same}
+use Rattle.insert_laws.proofs.Widened.{below-cover}
 use Rattle.insert.specs.declared.Growth.{Growth}
 use Rattle.insert.specs.declared.Growth.the-variants.{One, Two, Stuck}
 use Rattle.insert.specs.Left.{HoldsPool, GrewTo}
-use Rattle.insert.specs.State.{Here, WayDown, Fitted, grownOf, Back}
+use Rattle.insert.specs.State.{Here, WayDown, Fitted, grownOf, widened, Back}
 use Rattle.insert.proofs.Fitted.{fits-valid}
 
 -- ---- the words stand for what the definitions give
@@ -67,16 +71,31 @@ module _ (p : Pool) (s : SlotNumber) (i : ℕ) where
   tighten-known f k h =
       known-put p f k s (h .low) (h .high) (λ e. omega (arith, h .inner)) (node (nodeAt p s .level) _) (λ e. omega (arith, h .inner))
 
+  -- where the child's cover is the entry's rectangle and the new one's, made tight is widened
+  pub tighten-widened : (new : Rect) → coverOf (entriesAt p (childOf (entryAt p s i))) ≡ cover (entryAt p s i .rect) new
+      → tighten p s i ≡ widened p s i new
+  unfolding tighten entryFor widened
+  tighten-widened new h =
+      ap (λ (r : Rect). putEntries p s (set (entriesAt p s) i (entry r (Child (childOf (entryAt p s i)))))) h
+
+  -- as the code has it: the child read off the entry, and the two rectangles' cover
+  pub widened-made : (new : Rect) (c : SlotNumber) → c ≡ childOf (entryAt p s i) → (old : Rect) → old ≡ rectFrom (rects (entriesAt p s)) i
+      → (wide : Rect) → wide ≡ cover old new → (q : Pool) → q ≡ putEntries p s (set (entriesAt p s) i (entry wide (Child c))) → q ≡ widened p s i new
+  unfolding widened entryAt entryFrom
+  widened-made new c child old is wide both q put =
+      put ∙ ap₂ (λ (r : Rect) (d : SlotNumber). putEntries p s (set (entriesAt p s) i (entry r (Child d))))
+      (both ∙ ap (λ (r : Rect). cover r new) (is ∙ rect-entry (entriesAt p s) i)) child
+
 -- ---- the parent, when its child came back
 
 module _ (w : List ℤ) (s : SlotNumber) (i : ℕ) where
-  pub back-one : (f : FreeSlots) → Back w s i (One f) → (v : List ℤ) → Fit v → read v ≡ tighten (read w) s i
+  pub back-one : (new : Rect) (f : FreeSlots) → Back w s i new (One f) → (v : List ℤ) → Fit v → read v ≡ widened (read w) s i new
       → GrewTo (adjust ours s i (Kept (read w))) (One f) v
-  back-one f b v fit is =
+  back-one new f b v fit is =
       subst⁻¹ (λ (o : Grown). GrewTo o (One f) v) (adjust-kept ours s i (read w))
-      (record { fit = fit; is = is; known = tighten-known (read w) s i f (b .0 .known) (b .1) })
+      (record { fit = fit; is = is ∙ sym (b .2); known = tighten-known (read w) s i f (b .0 .known) (b .1) })
 
-  module _ (x : Entry) (f : FreeSlots) (b : Back w s i (Two x f)) (v : List ℤ) (fit : Fit v) (is : read v ≡ tighten (read w) s i) where
+  module _ (new : Rect) (x : Entry) (f : FreeSlots) (b : Back w s i new (Two x f)) (v : List ℤ) (fit : Fit v) (is : read v ≡ tighten (read w) s i) where
     pub two-ready : Fitted v f
     two-ready = record { fit = fit; known = subst⁻¹ (λ (p : Pool). Known p f) is (tighten-known (read w) s i f (b .0 .known) (b .1)) }
 
@@ -187,13 +206,22 @@ module _ {p : Pool} {n : ℕ} {s : SlotNumber} {e : Entry} (h : WayDown p n s e)
             childHigh = to .high;
           }
 
-    kept-back : (q : Pool) (f : FreeSlots) (v : List ℤ) → G.Grows p (suc below) child (h .level) e (slotsIn p (suc below) child) (Kept q)
-        → HoldsPool q f v → Back v s at (One f)
-    kept-back q f v a b =
-        (holds-ready b, subst⁻¹ (λ (x : Pool). LeadsOn x s at) (b .is) (leads q (a .1) (omega arith) (omega (arith, inner .enough, a .3))))
+    kept-back : (q : Pool) (f : FreeSlots) (v : List ℤ) → insertBelow ours (n - 1) p child e ≡ Kept q
+        → G.Grows p (suc below) child (h .level) e (slotsIn p (suc below) child) (Kept q) → HoldsPool q f v → Back v s at (e .rect) (One f)
+    kept-back q f v is a b =
+        let many : least ≤ length (entriesAt q child) = omega (arith, inner .enough, a .3) in
+        let wide =
+        below-cover ours ours-lawful p (h .level) e (h .fits) (n - 1) (suc below) child (omega (arith, levels)) (inner .child) child-once
+        (omega (arith, inner .enough)) q is (omega (arith, many)) in
+        let old = same-entry q (a .1) (omega arith) many in (
+          holds-ready b,
+          subst⁻¹ (λ (x : Pool). LeadsOn x s at) (b .is) (leads q (a .1) (omega arith) many),
+          subst⁻¹ (λ (x : Pool). tighten x s at ≡ widened x s at (e .rect)) (b .is)
+              (tighten-widened q s at (e .rect) (rw old (wide ∙ ap (λ (r : Rect). cover r (e .rect)) (sym (inner .tight))))),
+        )
 
     split-back : (q : Pool) (x y : Entry) (f : FreeSlots) (v : List ℤ)
-        → G.Grows p (suc below) child (h .level) e (slotsIn p (suc below) child) (Split q x) → y ≡ x → HoldsPool q f v → Back v s at (Two y f)
+        → G.Grows p (suc below) child (h .level) e (slotsIn p (suc below) child) (Split q x) → y ≡ x → HoldsPool q f v → Back v s at (e .rect) (Two y f)
     split-back q x y f v a z b =
         let t = tighten-grew p below s tree at there once q (a .1) (omega arith) (a .3) in (
           holds-ready b,
@@ -206,16 +234,17 @@ module _ {p : Pool} {n : ℕ} {s : SlotNumber} {e : Entry} (h : WayDown p n s e)
           })),
         )
 
-    on-back : (o : Grown) (g : Growth) (v : List ℤ) → G.Grows p (suc below) child (h .level) e (slotsIn p (suc below) child) o → GrewTo o g v → Back v s at g
-    on-back (Kept q) (One f) v a b = kept-back q f v a b
-    on-back (Kept q) (Two y f) v a b = absurd b
-    on-back (Kept q) Stuck v a b = absurd b
-    on-back (Split q x) (One f) v a b = absurd b
-    on-back (Split q x) (Two y f) v a b = split-back q x y f v a (b .0) (b .1)
-    on-back (Split q x) Stuck v a b = absurd b
-    on-back Full (One f) v a b = absurd b
-    on-back Full (Two y f) v a b = absurd b
-    on-back Full Stuck v a b = tt
+    on-back : (o : Grown) (g : Growth) (v : List ℤ) → insertBelow ours (n - 1) p child e ≡ o
+        → G.Grows p (suc below) child (h .level) e (slotsIn p (suc below) child) o → GrewTo o g v → Back v s at (e .rect) g
+    on-back (Kept q) (One f) v is a b = kept-back q f v is a b
+    on-back (Kept q) (Two y f) v is a b = absurd b
+    on-back (Kept q) Stuck v is a b = absurd b
+    on-back (Split q x) (One f) v is a b = absurd b
+    on-back (Split q x) (Two y f) v is a b = split-back q x y f v a (b .0) (b .1)
+    on-back (Split q x) Stuck v is a b = absurd b
+    on-back Full (One f) v is a b = absurd b
+    on-back Full (Two y f) v is a b = absurd b
+    on-back Full Stuck v is a b = tt
 
     -- as the code has it: a place, and the child of the entry there
     module _ (i : ℕ) (c : SlotNumber) (place : i ≡ at) (leads-to : c ≡ childOf (entryAt p s i)) where
@@ -225,10 +254,10 @@ module _ {p : Pool} {n : ℕ} {s : SlotNumber} {e : Entry} (h : WayDown p n s e)
       pub way-down : WayDown p (n - 1) c e
       way-down = subst⁻¹ (λ (t : SlotNumber). WayDown p (n - 1) t e) child-is down
 
-      pub way-back : (g : Growth) (v : List ℤ) → GrewTo (insertBelow ours (n - 1) p c e) g v → Back v s i g
+      pub way-back : (g : Growth) (v : List ℤ) → GrewTo (insertBelow ours (n - 1) p c e) g v → Back v s i (e .rect) g
       way-back g v b =
-          subst⁻¹ (λ (k : ℕ). Back v s k g) place
-          (on-back (insertBelow ours (n - 1) p child e) g v grew (subst (λ (t : SlotNumber). GrewTo (insertBelow ours (n - 1) p t e) g v) child-is b))
+          subst⁻¹ (λ (k : ℕ). Back v s k (e .rect) g) place
+          (on-back (insertBelow ours (n - 1) p child e) g v refl grew (subst (λ (t : SlotNumber). GrewTo (insertBelow ours (n - 1) p t e) g v) child-is b))
 
       pub way-up : (g : Growth) (v : List ℤ) → GrewTo (insertBelow ours (n - 1) p c e) g v → (r : Growth) (u : List ℤ)
           → GrewTo (adjust ours s i (grownOf (read v) g)) r u → GrewTo (insertBelow ours n p s e) r u

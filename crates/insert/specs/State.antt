@@ -2,11 +2,14 @@
 use mathlib.Core.Path.{_≡_}
 use mathlib.Core.List.{List}
 use Prim.Native.Nat.{ℕ, suc, _+_, _≤_, _<_}
-use lib.ListN.{length, getD}
+use lib.ListN.{length, getD, set}
 use lib.IntN.{ℤ}
+use Rattle.rules.specs.declared.Rect.{Rect}
 use Rattle.rules.specs.declared.SlotNumber.{SlotNumber}
+use Rattle.rules.specs.declared.Pointer.the-variants.{Child}
 use Rattle.rules.specs.declared.Entry.{Entry}
-use Rattle.rules.specs.Pool.{Pool, entriesAt, tighten}
+use Rattle.rules.specs.Geometry.{cover}
+use Rattle.rules.specs.Pool.{Pool, entry, entriesAt, entryAt, childOf, putEntries, tighten}
 use Rattle.rules.specs.Layout.{read}
 use Rattle.rules.specs.Insert as I
 use Rattle.pool.specs.Slots.{Fit}
@@ -57,11 +60,16 @@ grownOf p (One f) = I.Kept p
 grownOf p (Two x f) = I.Split p x
 grownOf p Stuck = I.Full
 
--- the child of entry i of the node at s has become one node or two
-abbrev pub Back : List ℤ → SlotNumber → ℕ → Growth → Type 0
-Back w s i (One f) = Fitted w f × LeadsOn (read w) s i
-Back w s i (Two x f) = Fitted w f × LeadsOn (read w) s i × Here (tighten (read w) s i) s x
-Back w s i Stuck = Unit {0}
+-- entry i of the node at s with its rectangle widened to hold another
+unfoldable pub widened : Pool → SlotNumber → ℕ → Rect → Pool
+widened p s i new =
+    putEntries p s (set (entriesAt p s) i (entry (cover (entryAt p s i .rect) new) (Child (childOf (entryAt p s i)))))
+
+-- the child of entry i of the node at s has become one node, whose cover is the entry's rectangle widened by the new one; or two
+abbrev pub Back : List ℤ → SlotNumber → ℕ → Rect → Growth → Type 0
+Back w s i new (One f) = Fitted w f × LeadsOn (read w) s i × (tighten (read w) s i ≡ widened (read w) s i new)
+Back w s i new (Two x f) = Fitted w f × LeadsOn (read w) s i × Here (tighten (read w) s i) s x
+Back w s i new Stuck = Unit {0}
 
 -- the root has become one node or two
 abbrev pub Risen : List ℤ → Growth → Type 0

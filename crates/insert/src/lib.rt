@@ -12,12 +12,13 @@ ghost use Rattle.rules.specs.Layout as L;
 ghost use Rattle.rules.specs.Pool as P;
 ghost use Rattle.rules.specs.Insert as I;
 ghost use Rattle.pool.specs.Slots.{Fit, InPool, SmallAll, KindAll};
+ghost use Rattle.nodes.specs.Reading.{LeadsOn};
 ghost use Rattle.free_slots.specs.Known.{Known};
 ghost use Rattle.sound_laws.specs.Tree.{Whole};
 ghost use Rattle.insert_laws.specs.Grown.{Fits};
 ghost use Rattle.insert_laws.specs.Slots.{leading, isFull, wayUp, slotsNeeded};
 ghost use Rattle.insert.specs.Left.{GrewTo, Leaves, Upright};
-ghost use Rattle.insert.specs.State.{Inside, Here, WayDown, Beside, Fitted, grownOf, Back, Risen};
+ghost use Rattle.insert.specs.State.{Inside, Here, WayDown, Beside, Fitted, grownOf, widened, Back, Risen};
 use free_slots::FreeSlots;
 use rules::Entry;
 use rules::FreeSlot;
@@ -163,14 +164,33 @@ fn install(pool: &mut [i32], s: SlotNumber, e: Entry, free: FreeSlots) -> Growth
     }
 }
 
-// "AdjustTree sets each path cover tight and adds the partner last in the parent.": at the parent s, whose entry i leads to the child.
-fn adjust(pool: &mut [i32], s: SlotNumber, i: usize, grown: Growth) -> Growth
-    requires { ⌜ Back (now pool) s i grown ⌝ }
+// AT3 where the child did not split: entry i of the node at s was tight before the new rectangle came below it, so the smallest rectangle
+// that holds both is tight now. The child's entries are not looked at again.
+fn widen(pool: &mut [i32], s: SlotNumber, i: usize, new: Rect)
+    requires { ⌜ Fit (now pool) ⌝ }
+    requires { ⌜ LeadsOn (L.read (now pool)) s i ⌝ }
+    ensures is { λ _. ⌜ L.read (now (pool .exit)) ≡ widened (L.read (now (pool .entry))) s i new ⌝ }
+    ensures fit { λ _. ⌜ Fit (now (pool .exit)) ⌝ }
+{
+    let c = pool::child_of(pool, s, i);
+    let old = pool::rect_of(pool, s, i);
+    let rect = geometry::cover(old, new);
+    let wide = Entry {
+        rect,
+        pointer: Pointer::Child(c),
+    };
+    pool::put_entry_of(pool, s, i, wide);
+}
+
+// "AdjustTree sets each path cover tight and adds the partner last in the parent.": at the parent s, whose entry i leads to the child that
+// an entry with the rectangle `new` went to or below.
+fn adjust(pool: &mut [i32], s: SlotNumber, i: usize, grown: Growth, new: Rect) -> Growth
+    requires { ⌜ Back (now pool) s i new grown ⌝ }
     ensures { λ r. ⌜ GrewTo (I.adjust I.ours s i (grownOf (L.read (now (pool .entry))) grown)) r (now (pool .exit)) ⌝ }
 {
     match grown {
         Growth::One(free) => {
-            nodes::tighten(pool, s, i);
+            widen(pool, s, i, new);
             Growth::One(free)
         }
         Growth::Two(partner, free) => {
@@ -194,7 +214,7 @@ fn insert_below(pool: &mut [i32], n: usize, s: SlotNumber, e: Entry, free: FreeS
     let i = choose::choose_child(pool, s, rect);
     let c = pool::child_of(pool, s, i);
     let grown = insert_below(pool, n - 1, c, e, free);
-    adjust(pool, s, i, grown)
+    adjust(pool, s, i, grown, rect)
 }
 
 // ---- at the root

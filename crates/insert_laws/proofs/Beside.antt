@@ -134,6 +134,9 @@ module _ {p : Pool} {l : ℕ} {s : SlotNumber} {i : ℕ} {q : Pool} (b : Others 
   made-below : SameBelow q made (suc (suc l))
   made-below t u k = made-other t (u .slot .low) (other-level q t s (λ e. omega (arith, top-level)))
 
+  pub tight-entries : entriesAt (tighten q s i) s ≡ set (entriesAt p s) i (entryFor q (childAt p s i))
+  tight-entries = rw tighten-is (entries-are made (suc (suc l)) s entries made-at)
+
   pub tight-many : length (entriesAt (tighten q s i) s) ≡ length (entriesAt p s)
   tight-many = rw (tighten-is, entries-are made (suc (suc l)) s entries made-at) as-many
 

@@ -13,3 +13,4 @@ pub mod Whole
 pub mod Taken
 pub mod Slots
 pub mod Halves
+pub mod Widened

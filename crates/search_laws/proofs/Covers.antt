@@ -15,7 +15,7 @@ use Rattle.rules_laws.proofs.Places.{Among}
 
 -- ---- numbers
 
-at-least : (a b : ℤ) → leZ a b ≡ false → leZ b a ≡ true
+pub at-least : (a b : ℤ) → leZ a b ≡ false → leZ b a ≡ true
 at-least a b p = go (ltZ a b) refl
   where
     go : (t : Bool) → ltZ a b ≡ t → leZ b a ≡ true

@@ -1,5 +1,7 @@
 -- Laws that the proofs of `split` cite.
+pub mod Corners
 pub mod Seeds
+pub mod Lefts
 pub mod Nexts
 pub mod Joins
 pub mod Steps

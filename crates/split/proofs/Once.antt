@@ -1,14 +1,11 @@
 -- What `split_nine` promises leaves one outcome: the groups give the places that they have, and the others are zero.
 use mathlib.Core.Path.{_≡_, sym, ap, _∙_}
-use mathlib.Core.Bool.{false}
 use mathlib.Core.List.{List}
 use Prim.Native.Nat.{ℕ, _≤_}
 use native.Mathlib.Omega.{arith}
 use native.Mathlib.Decide.{decLe}
 use lib.ListN.{length, take, getD}
 use lib.Seq.{length-take-le, getD-take, ext-getD}
-use Rattle.rules.specs.declared.Rect.{Rect}
-use Rattle.rules.specs.Split as S
 use Rattle.split.specs.declared.Grouping.{Grouping}
 use Rattle.split.specs.State.{GroupsWhole}
 
@@ -26,11 +23,9 @@ module _ (xs ys : List ℕ) (m n : ℕ) (long : length xs ≡ 9) (other : length
       all k (no h) =
           sym (getD-take m xs k 0 (omega (arith, h))) ∙ ap (λ (l : List ℕ). getD l k 0) e ∙ getD-take n ys k 0 (omega (arith, h, many-same))
 
-pub groups-once : (rs : List Rect) (s t : Grouping) → take (s .ones) (s .one) ≡ take (t .ones) (t .one) → take (s .twos) (s .two) ≡ take (t .twos) (t .two)
-    → GroupsWhole rs s → GroupsWhole rs t → s ≡ t
-groups-once rs s t e f a b =
-    let js = ext-getD false (s .joined) (t .joined) (a .joined9 ∙ sym (b .joined9))
-    (λ k h. a .joined k (omega (arith, h, a .joined9)) ∙ sym (b .joined k (omega (arith, h, a .joined9)))) in
+pub groups-once : (s t : Grouping) → take (s .ones) (s .one) ≡ take (t .ones) (t .one) → take (s .twos) (s .two) ≡ take (t .twos) (t .two)
+    → GroupsWhole s → GroupsWhole t → s ≡ t
+groups-once s t e f a b =
     let o : s .ones ≤ 9 = omega (arith, a .all) in
     let p : t .ones ≤ 9 = omega (arith, b .all) in
     let u : s .twos ≤ 9 = omega (arith, a .all) in
@@ -39,6 +34,4 @@ groups-once rs s t e f a b =
     let twos = many-same (s .two) (t .two) (s .twos) (t .twos) (a .two9) (b .two9) u v f in
     let one = places-same (s .one) (t .one) (s .ones) (t .ones) (a .one9) (b .one9) o p e (a .afterOne) (b .afterOne) in
     let two = places-same (s .two) (t .two) (s .twos) (t .twos) (a .two9) (b .two9) u v f (a .afterTwo) (b .afterTwo) in
-    let first = a .coverOne ∙ ap (S.coverGroup rs) e ∙ sym (b .coverOne) in
-    let second = a .coverTwo ∙ ap (S.coverGroup rs) f ∙ sym (b .coverTwo) in
-    λ i. record { joined = js i; one = one i; ones = ones i; two = two i; twos = twos i; coverOne = first i; coverTwo = second i }
+    λ i. record { one = one i; ones = ones i; two = two i; twos = twos i }

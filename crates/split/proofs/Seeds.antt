@@ -1,6 +1,6 @@
 -- A turn of each of PickSeeds' two loops: the pair kept is the one that `earliestBest` keeps, since keys compare as d does.
-use mathlib.Core.Path.{_≡_}
-use mathlib.Core.Bool.{cond}
+use mathlib.Core.Path.{_≡_, refl}
+use mathlib.Core.Bool.{Bool, true, false, cond}
 use mathlib.Core.List.{List, [], _++_, map}
 use Prim.Native.Nat.{ℕ, suc, _+_, _-_, _≤_, _<_}
 use native.Mathlib.Numerals.{add-one}
@@ -20,6 +20,12 @@ use Rattle.rules_laws.proofs.Turns.{best-nil, best-cons, up-more, up-none}
 -- the pair that the code keeps
 abbrev pub kept : KeyedSeeds → KeyedSeeds → KeyedSeeds
 kept b p = cond (ltb (b .key) (p .key)) p b
+
+-- .. part by part
+pub kept-parts : (t : Bool) (p b : KeyedSeeds)
+    → _≡_ {A = KeyedSeeds} (record { first = cond t (p .first) (b .first); second = cond t (p .second) (b .second); key = cond t (p .key) (b .key) }) (cond t p b)
+kept-parts true p b = refl
+kept-parts false p b = refl
 
 module _ {rs : List Rect} {b p : KeyedSeeds} (k : Keyed rs b) (l : Keyed rs p) where
   same-test : wastesMore rs (seedsOf p) (seedsOf b) ≡ ltb (b .key) (p .key)

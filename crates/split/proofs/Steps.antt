@@ -1,21 +1,14 @@
--- One place joins a group, and what the groups come to stays the same. A forced joining takes the first of those left: then the group
--- still needs all the others, so they join it in order.
+-- `distribute` a place at a time: whichever place joins whichever group, what the groups come to stays the same. A forced joining takes the
+-- first of those left: then the group still needs all the others, so they join it in order.
 use mathlib.Core.Path.{_≡_, refl, sym, ap, _∙_}
-use mathlib.Core.Bool.{Bool, true, false, cond}
+use mathlib.Core.Bool.{Bool, true, false}
 use mathlib.Core.List.{List, [], _∷_, _++_, append-nil}
-use Prim.Native.Nat.{ℕ, zero, suc, _+_, _-_, _≤_, _<_}
+use Prim.Native.Nat.{ℕ, zero, suc, _+_, _≤_}
 use native.Mathlib.Omega.{arith}
-use lib.ListN.{length, getD, length-append, length-take}
+use lib.ListN.{length, length-append}
 use lib.Seq.{append-snoc}
 use borrow.Author.Tests.{eq-eqb, ne-eqb}
-use Rattle.rules.specs.declared.Rect.{Rect}
-use Rattle.rules.specs.Lists.{those, earliestBest}
-use Rattle.rules.specs.Choose.{earliest}
 use Rattle.rules.specs.Split as S
-use Rattle.geometry.proofs.Rules.{chosen}
-use Rattle.split.specs.declared.Grouping.{Grouping}
-use Rattle.split.specs.State.{unjoined, firstOf, groupsOf, remaining, Free, Ok}
-use Rattle.split.proofs.Joins.{leaving-low}
 
 -- ---- `distribute` case by case
 
@@ -119,83 +112,3 @@ module _ (next : S.Groups → ℕ) (toTwo : S.Groups → ℕ → Bool) (g : S.Gr
           let t = two-left g i rest l q in
           joins (suc n) ∙ two-all g i rest l q
           ∙ sym (all-two next toTwo n (S.joinTwo i g) (rw t (needs-not (g .one) rest (λ x. omega arith))) (rw t (needs-still (g .two) e)))
-
--- ---- the places of a struct
-
-module _ {rs : List Rect} {t : Grouping} (o : Ok rs t) where
-  pub size-one : length (groupsOf t .one) ≡ t .ones
-  unfolding groupsOf
-  size-one = length-take (t .ones) (t .one) ∙ omega (arith, o .all, o .one9)
-
-  pub size-two : length (groupsOf t .two) ≡ t .twos
-  unfolding groupsOf
-  size-two = length-take (t .twos) (t .two) ∙ omega (arith, o .all, o .two9)
-
-  pub size-left : length (groupsOf t .left) ≡ remaining t
-  unfolding groupsOf
-  size-left = omega (arith, o .all)
-
--- ---- the places that may join are free
-
--- each of a list
-abbrev All : (ℕ → Type 0) → List ℕ → Type 0
-All P [] = Unit {0}
-All P (i ∷ is) = P i × All P is
-
-all-map : (P Q : ℕ → Type 0) → ((k : ℕ) → P k → Q k) → (is : List ℕ) → All P is → All Q is
-all-map P Q f [] a = tt
-all-map P Q f (i ∷ is) a = (f i (a .0), all-map P Q f is (a .1))
-
-best-in : (P : ℕ → Type 0) (better : ℕ → ℕ → Bool) (x : ℕ) (ys : List ℕ) → P x → All P ys → P (earliestBest better x ys)
-unfolding earliestBest
-best-in P better x [] p a = p
-best-in P better x (y ∷ ys) p a = best-in P better (cond (better y x) y x) ys (chosen P (better y x) (a .0) p) (a .1)
-
--- k is one of the places from i on, and has no mark
-record Open (js : List Bool) (i k : ℕ) : Type 0 where
-  low : i ≤ k
-  high : k < i + length js
-  free : getD js (k - i) false ≡ false
-
-later : (b : Bool) (js : List Bool) (i k : ℕ) → Open js (suc i) k → Open (b ∷ js) i k
-later b js i k u =
-    let e : k - i ≡ suc (k - suc i) = omega arith in
-    record { low = omega arith; high = omega arith; free = rw e (u .free) }
-
-all-open : (js : List Bool) (i : ℕ) → All (Open js i) (unjoined js i)
-unfolding unjoined
-all-open [] i = tt
-all-open (true ∷ js) i = all-map (Open js (suc i)) (Open (true ∷ js) i) (later true js i) (unjoined js (suc i)) (all-open js (suc i))
-all-open (false ∷ js) i =
-    let z : i - i ≡ 0 = omega arith in
-    (record { low = omega arith; high = omega arith; free = rw z refl }, all-map (Open js (suc i)) (Open (false ∷ js) i) (later false js i) (unjoined js (suc i)) (all-open js (suc i)))
-
-first-in : (P : ℕ → Type 0) (is : List ℕ) → 0 < length is → All P is → P (firstOf is)
-unfolding firstOf
-first-in P [] h a = absurd (omega arith)
-first-in P (i ∷ is) h a = a .0
-
-next-in : (P : ℕ → Type 0) (rs : List Rect) (a b : Rect) (is : List ℕ) → 0 < length is → All P is → P (S.mostPreferring rs a b is)
-unfolding S.mostPreferring earliest
-next-in P rs a b [] h x = absurd (omega arith)
-next-in P rs a b (i ∷ is) h x = best-in P _ i is (x .0) (x .1)
-
-module _ {rs : List Rect} {t : Grouping} (o : Ok rs t) (h : t .ones + t .twos < 9) where
-  pub some-left : 0 < length (unjoined (t .joined) 0)
-  some-left = omega (arith, o .all)
-
-  free-of : (k : ℕ) → Open (t .joined) 0 k → Free t k
-  free-of k u = let z : k - 0 ≡ k = omega arith in record { inside = omega (arith, o .joined9, u .high); free = rw z at (u .free) }
-
-  pub first-free : Free t (firstOf (unjoined (t .joined) 0))
-  first-free = free-of _ (first-in (Open (t .joined) 0) (unjoined (t .joined) 0) some-left (all-open (t .joined) 0))
-
-  pub next-free : (a b : Rect) → Free t (S.mostPreferring rs a b (unjoined (t .joined) 0))
-  next-free a b = free-of _ (next-in (Open (t .joined) 0) rs a b (unjoined (t .joined) 0) some-left (all-open (t .joined) 0))
-
--- the first of those left, and the others
-pub head-leaves : (js : List Bool) (i : ℕ) → 0 < length (unjoined js i) → unjoined js i ≡ firstOf (unjoined js i) ∷ S.leaving (firstOf (unjoined js i)) (unjoined js i)
-unfolding unjoined firstOf S.leaving those
-head-leaves [] i h = absurd (omega arith)
-head-leaves (true ∷ js) i h = head-leaves js (suc i) h
-head-leaves (false ∷ js) i h = rw (eq-eqb i i refl) (ap (λ (m : List ℕ). i ∷ m) (sym (leaving-low js (suc i) i (omega arith))))

@@ -1,19 +1,23 @@
--- How the structs of `split` represent the places and groups of document 01. A reader of `quadraticGroups` needs none of this: the contract
--- of `split_nine` speaks of the groups themselves.
+-- How the arrays and structs of `split` represent the places and groups of document 01. A reader of `quadraticGroups` needs none of this:
+-- the contract of `split_nine` speaks of the groups themselves.
 use mathlib.Core.Path.{_≡_}
-use mathlib.Core.Bool.{Bool, true, false, cond}
-use mathlib.Core.List.{List, [], _∷_}
-use Prim.Native.Nat.{ℕ, suc, _+_, _-_, _≤_, _<_}
+use mathlib.Core.Bool.{Bool, true, false}
+use mathlib.Core.List.{List, map}
+use Prim.Native.Nat.{ℕ, suc, _+_, _-_, _*_, _≤_, _<_}
 use lib.Dec.{ltb}
 use lib.ListN.{length, take, getD, set}
-use lib.IntN.{subℕ}
+use lib.IntN.{ℤ, pos, subℕ}
 use lib.Signed.{ltZ}
 use Rattle.rules.specs.declared.Rect.{Rect}
-use Rattle.rules.specs.Geometry.{valid, cover}
-use Rattle.rules.specs.Choose.{rectFrom}
+use Rattle.rules.specs.Lists.{upFrom, lessThen}
+use Rattle.rules.specs.Geometry.{valid, area, enlargement}
+use Rattle.rules.specs.Choose.{rectFrom, earliest}
 use Rattle.rules.specs.Split as S
+use Rattle.rules_laws.proofs.Places.{Each, Ordered}
 use Rattle.split.specs.declared.KeyedSeeds.{KeyedSeeds}
-use Rattle.split.specs.declared.KeyedPlace.{KeyedPlace}
+use Rattle.split.specs.declared.Extent.{Extent}
+use Rattle.split.specs.declared.Extents.{Extents}
+use Rattle.split.specs.declared.Joining.{Joining}
 use Rattle.split.specs.declared.Grouping.{Grouping}
 
 -- nine valid rectangles
@@ -21,7 +25,34 @@ pub record AllValid (rs : List Rect) : Type 0 where
   pub nine : length rs ≡ 9
   pub ok : (i : ℕ) → i < 9 → valid (rectFrom rs i) ≡ true
 
+-- ---- as numbers, four for each
+
+unfoldable pub rectAt : List ℤ → ℕ → Rect
+rectAt w i =
+    record {
+      lowX = getD w (4 * i) (pos 0);
+      lowY = getD w (4 * i + 1) (pos 0);
+      highX = getD w (4 * i + 2) (pos 0);
+      highY = getD w (4 * i + 3) (pos 0);
+    }
+
+unfoldable pub rectsIn : List ℤ → List Rect
+rectsIn w = map (rectAt w) (upFrom 0 9)
+
+unfoldable pub putRect : List ℤ → ℕ → Rect → List ℤ
+putRect w i r = set (set (set (set w (4 * i) (r .lowX)) (4 * i + 1) (r .lowY)) (4 * i + 2) (r .highX)) (4 * i + 3) (r .highY)
+
+-- numbers that are nine valid rectangles
+pub record Corners (w : List ℤ) : Type 0 where
+  pub long : length w ≡ 36
+  pub all : AllValid (rectsIn w)
+
 -- ---- seeds
+
+-- the areas of the nine
+pub record Areas (rs : List Rect) (areas : List ℕ) : Type 0 where
+  pub nine : length areas ≡ 9
+  pub is : (i : ℕ) → i < 9 → pos (getD areas i 0) ≡ area (rectFrom rs i)
 
 abbrev pub wastesMore : List Rect → S.Seeds → S.Seeds → Bool
 wastesMore rs a b = ltZ (S.wasteOf rs b) (S.wasteOf rs a)
@@ -35,91 +66,77 @@ pub record Keyed (rs : List Rect) (p : KeyedSeeds) : Type 0 where
   pub inside : p .second < 9
   pub key : subℕ (p .key) 8000000000000000000 ≡ S.wasteOf rs (seedsOf p)
 
+-- ---- the places left
+
+-- the place at `at` is left out of the first n + 1; the later ones have moved up by one, and what is after them is as it was
+pub record ClosedUp (at n : ℕ) (old new : List ℕ) : Type 0 where
+  pub nine : length new ≡ 9
+  pub before : (k : ℕ) → k < at → getD new k 0 ≡ getD old k 0
+  pub moved : (k : ℕ) → at ≤ k → k < n → getD new k 0 ≡ getD old (suc k) 0
+  pub after : (k : ℕ) → n ≤ k → getD new k 0 ≡ getD old k 0
+
+-- the first n of the numbers are places of the nine, in stored order
+pub record Left (left : List ℕ) (n : ℕ) : Type 0 where
+  pub nine : length left ≡ 9
+  pub few : n ≤ 9
+  pub inside : Each (λ k. k < 9) (take n left)
+  pub rising : Ordered _<_ (take n left)
+
+-- the enlargements of a cover for some places, each kept at its place
+pub record Grows (rs : List Rect) (cover : Rect) (places grows : List ℕ) : Type 0 where
+  pub nine : length grows ≡ 9
+  pub is : Each (λ k. pos (getD grows k 0) ≡ enlargement cover (rectFrom rs k)) places
+
+-- the absolute difference of the enlargements kept for a place
+unfoldable pub keyOf : List ℕ → List ℕ → ℕ → ℕ
+keyOf growOne growTwo k = (getD growOne k 0 - getD growTwo k 0) + (getD growTwo k 0 - getD growOne k 0)
+
+abbrev pub widerBy : List ℕ → List ℕ → ℕ → ℕ → Bool
+widerBy growOne growTwo i j = ltb (keyOf growOne growTwo j) (keyOf growOne growTwo i)
+
 -- ---- groups
 
-abbrev pub prefersMore : List Rect → Rect → Rect → ℕ → ℕ → Bool
-prefersMore rs a b i j = ltb (S.preference rs a b j) (S.preference rs a b i)
+-- the first places of the array are the group, all of the nine, with zeros after them; its cover and area are as the struct says
+pub record ExtentOk (rs : List Rect) (x : Extent) (group : List ℕ) : Type 0 where
+  pub nine : length group ≡ 9
+  pub some : 1 ≤ x .count
+  pub inside : (k : ℕ) → k < x .count → getD group k 0 < 9
+  pub after : (k : ℕ) → x .count ≤ k → getD group k 0 ≡ 0
+  pub cover : x .cover ≡ S.coverGroup rs (take (x .count) group)
+  pub ok : valid (x .cover) ≡ true
+  pub area : pos (x .area) ≡ area (x .cover)
 
--- the better of a place with its key and the place i
-unfoldable pub widerNext : List Rect → Rect → Rect → KeyedPlace → ℕ → KeyedPlace
-widerNext rs a b n i = cond (ltb (n .key) (S.preference rs a b i)) (record { at = i; key = S.preference rs a b i }) n
+unfoldable pub groupsOf : Extents → List ℕ → List ℕ → List ℕ → ℕ → S.Groups
+groupsOf t one two left n = record { one = take (t .one .count) one; two = take (t .two .count) two; left = take n left }
 
--- the places that have no group, those from i on
-unfoldable pub unjoined : List Bool → ℕ → List ℕ
-unjoined [] i = []
-unjoined (b ∷ bs) i = cond b (unjoined bs (suc i)) (i ∷ unjoined bs (suc i))
+-- all nine are in a group or left, each group can still reach three, and what is measured is right
+pub record Assigned (rs : List Rect) (t : Extents) (left : List ℕ) (n : ℕ) (one two growOne growTwo : List ℕ) : Type 0 where
+  pub all : t .one .count + t .two .count + n ≡ 9
+  pub fillOne : 3 ≤ t .one .count + n
+  pub fillTwo : 3 ≤ t .two .count + n
+  pub places : Left left n
+  pub first : ExtentOk rs (t .one) one
+  pub second : ExtentOk rs (t .two) two
+  pub growsOne : Grows rs (t .one .cover) (take n left) growOne
+  pub growsTwo : Grows rs (t .two .cover) (take n left) growTwo
 
-unfoldable pub firstOf : List ℕ → ℕ
-firstOf [] = 0
-firstOf (i ∷ is) = i
-
-unfoldable pub groupsOf : Grouping → S.Groups
-groupsOf t = record { one = take (t .ones) (t .one); two = take (t .twos) (t .two); left = unjoined (t .joined) 0 }
-
--- how many have no group yet
-abbrev pub remaining : Grouping → ℕ
-remaining t = 9 - (t .ones + t .twos)
-
--- the place k is there, and has no group
-pub record Free (t : Grouping) (k : ℕ) : Type 0 where
-  pub inside : k < 9
-  pub free : getD (t .joined) k false ≡ false
-
--- each group can still reach three
-pub record Fill (t : Grouping) : Type 0 where
-  pub one : 3 ≤ t .ones + remaining t
-  pub two : 3 ≤ t .twos + remaining t
-
--- the struct is complete: every place has its mark, there is nothing after the groups, and the covers are those of the groups
-pub record Ok (rs : List Rect) (t : Grouping) : Type 0 where
-  pub joined9 : length (t .joined) ≡ 9
-  pub one9 : length (t .one) ≡ 9
-  pub two9 : length (t .two) ≡ 9
-  pub all : t .ones + t .twos + length (unjoined (t .joined) 0) ≡ 9
-  pub ones : 1 ≤ t .ones
-  pub twos : 1 ≤ t .twos
-  pub inOne : (k : ℕ) → k < t .ones → getD (t .one) k 0 < 9
-  pub inTwo : (k : ℕ) → k < t .twos → getD (t .two) k 0 < 9
-  pub afterOne : (k : ℕ) → t .ones ≤ k → getD (t .one) k 0 ≡ 0
-  pub afterTwo : (k : ℕ) → t .twos ≤ k → getD (t .two) k 0 ≡ 0
-  pub coverOne : t .coverOne ≡ S.coverGroup rs (take (t .ones) (t .one))
-  pub coverTwo : t .coverTwo ≡ S.coverGroup rs (take (t .twos) (t .two))
-  pub validOne : valid (t .coverOne) ≡ true
-  pub validTwo : valid (t .coverTwo) ≡ true
-
--- the two groups under each other's name
-abbrev pub flipped : Grouping → Grouping
-flipped t =
-    record {
-      joined = t .joined;
-      one = t .two;
-      ones = t .twos;
-      two = t .one;
-      twos = t .ones;
-      coverOne = t .coverTwo;
-      coverTwo = t .coverOne;
-    }
-
--- .. and with the place k in group 1
-abbrev pub withOne : List Rect → Grouping → ℕ → Grouping
-withOne rs t k =
-    record {
-      joined = set (t .joined) k true;
-      one = set (t .one) (t .ones) k;
-      ones = t .ones + 1;
-      two = t .two;
-      twos = t .twos;
-      coverOne = cover (t .coverOne) (rectFrom rs k);
-      coverTwo = t .coverTwo;
-    }
+-- the rules for the next joining, on the numbers that are kept
+pub record Next (t : Extents) (left : List ℕ) (n : ℕ) (growOne growTwo : List ℕ) (r : Joining) : Type 0 where
+  pub there : r .at < n
+  pub one : t .one .count + n ≡ 3 → (r .at ≡ 0) × (r .second ≡ false)
+  pub two : (t .one .count + n ≡ 3 → ⊥) → t .two .count + n ≡ 3 → (r .at ≡ 0) × (r .second ≡ true)
+  pub place : (t .one .count + n ≡ 3 → ⊥) → (t .two .count + n ≡ 3 → ⊥) → getD left (r .at) 0 ≡ earliest (widerBy growOne growTwo) (take n left)
+  pub group : (t .one .count + n ≡ 3 → ⊥) → (t .two .count + n ≡ 3 → ⊥)
+      → r .second ≡ lessThen (pos (getD growTwo (getD left (r .at) 0) 0)) (pos (getD growOne (getD left (r .at) 0) 0))
+      (lessThen (pos (t .two .area)) (pos (t .one .area)) (ltb (t .two .count) (t .one .count)))
 
 -- what the groups are when all have joined
-unfoldable pub ends : List Rect → Grouping → S.Groups
-ends rs t = S.distribute (S.pickNext rs) (S.joinsTwo rs) (remaining t) (groupsOf t)
+unfoldable pub ends : List Rect → ℕ → S.Groups → S.Groups
+ends rs n g = S.distribute (S.pickNext rs) (S.joinsTwo rs) n g
 
--- what a caller may rely on beside the groups: every place has joined one, there are 3 to 6 in each, all of them places of the nine, zeros
--- after them, and the covers are those of the groups
-pub record GroupsWhole (rs : List Rect) (t : Grouping) : Type 0 where
+-- what a caller may rely on beside the groups: every place has joined one, there are 3 to 6 in each, all of them places of the nine, and
+-- zeros after them
+pub record GroupsWhole (t : Grouping) : Type 0 where
   pub all : t .ones + t .twos ≡ 9
   pub ones : 3 ≤ t .ones
   pub twos : 3 ≤ t .twos
@@ -127,9 +144,5 @@ pub record GroupsWhole (rs : List Rect) (t : Grouping) : Type 0 where
   pub two9 : length (t .two) ≡ 9
   pub inOne : (k : ℕ) → k < t .ones → getD (t .one) k 0 < 9
   pub inTwo : (k : ℕ) → k < t .twos → getD (t .two) k 0 < 9
-  pub joined9 : length (t .joined) ≡ 9
-  pub joined : (k : ℕ) → k < 9 → getD (t .joined) k false ≡ true
   pub afterOne : (k : ℕ) → t .ones ≤ k → getD (t .one) k 0 ≡ 0
   pub afterTwo : (k : ℕ) → t .twos ≤ k → getD (t .two) k 0 ≡ 0
-  pub coverOne : t .coverOne ≡ S.coverGroup rs (take (t .ones) (t .one))
-  pub coverTwo : t .coverTwo ≡ S.coverGroup rs (take (t .twos) (t .two))

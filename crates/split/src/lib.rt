@@ -1,16 +1,18 @@
 // Guttman's quadratic split of nine rectangles into two groups, with the ties of document 01. It knows nothing of pools: a place is a
-// position among the nine, from 0.
+// position among the nine, from 0. What is measured is kept: after a place has joined a group, only that group's enlargements are measured
+// again. The arrays stand in `split_nine` alone and are lent; no function copies one.
 ghost use mathlib.Core.Path.{_≡_};
 ghost use mathlib.Core.Bool.{true, cond};
 ghost use mathlib.Core.List.{map};
-ghost use Prim.Native.Nat.{_+_, _-_, _<_};
+ghost use Prim.Native.Nat.{_+_, _-_, _<_, _≤_};
 ghost use lib.Dec.{ltb};
-ghost use lib.ListN.{take};
-ghost use lib.IntN.{natAbs, _-ℤ_};
-ghost use Rattle.rules.specs.Lists.{earliestBest, upFrom};
+ghost use lib.ListN.{length, take, getD, set, replicate};
+ghost use lib.IntN.{pos, subℕ};
+ghost use Rattle.rules.specs.Choose.{rectFrom, earliest};
+ghost use Rattle.rules.specs.Lists.{earliestBest, upFrom, lessThen};
 ghost use Rattle.rules.specs.Geometry as G;
 ghost use Rattle.rules.specs.Split as S;
-ghost use Rattle.split.specs.State.{AllValid, Keyed, wastesMore, seedsOf, widerNext, unjoined, firstOf, groupsOf, Free, Fill, Ok, flipped, withOne, ends, GroupsWhole};
+ghost use Rattle.split.specs.State.{AllValid, rectsIn, putRect, Corners, Areas, Keyed, wastesMore, seedsOf, ClosedUp, Left, Grows, keyOf, widerBy, ExtentOk, groupsOf, Assigned, Next, ends, GroupsWhole};
 use geometry::less_then;
 use rules::LEAST;
 use rules::NINE;
@@ -19,9 +21,108 @@ use rules::Rect;
 // Two of the nine are seeds.
 const UNSEEDED: usize = NINE - 2;
 
+// ---- the nine, as numbers
+
+// Four for each: low x, low y, high x, high y.
+const CORNERS: usize = 4 * NINE;
+
+// The nine in one array of numbers, which can be lent where one of rectangles would be copied.
+fn flat(nine: [Rect; NINE]) -> [i32; CORNERS]
+    ensures long { λ r. ⌜ length r ≡ 36 ⌝ }
+    ensures is { λ r. ⌜ rectsIn r ≡ nine ⌝ }
+{
+    let mut w = [0i32; CORNERS];
+    let mut i: usize = 0;
+    while i < NINE {
+        put_rect(&mut w, i, nine[i]);
+        i += 1;
+    }
+    w
+}
+
+// The numbers of one.
+fn put_rect(w: &mut [i32; CORNERS], i: usize, r: Rect)
+    requires { ⌜ length (now w) ≡ 36 ⌝ }
+    requires { ⌜ i < 9 ⌝ }
+    ensures { λ _. ⌜ now (w .exit) ≡ putRect (now (w .entry)) i r ⌝ }
+{
+    let a = r.lowX;
+    let b = r.lowY;
+    let c = r.highX;
+    let d = r.highY;
+    w[4 * i] = a;
+    w[4 * i + 1] = b;
+    w[4 * i + 2] = c;
+    w[4 * i + 3] = d;
+}
+
+// One number.
+fn corner(w: &[i32; CORNERS], at: usize) -> i32
+    requires { ⌜ length (now w) ≡ 36 ⌝ }
+    requires { ⌜ at < 36 ⌝ }
+    ensures { λ r. ⌜ r ≡ getD (now (w .entry)) at (pos 0) ⌝ }
+{
+    w[at]
+}
+
+// The rectangle at place i.
+fn rect_at(w: &[i32; CORNERS], i: usize) -> Rect
+    requires { ⌜ length (now w) ≡ 36 ⌝ }
+    requires { ⌜ i < 9 ⌝ }
+    ensures { λ r. ⌜ r ≡ rectFrom (rectsIn (now (w .entry))) i ⌝ }
+{
+    let lowX = corner(w, 4 * i);
+    let lowY = corner(w, 4 * i + 1);
+    let highX = corner(w, 4 * i + 2);
+    let highY = corner(w, 4 * i + 3);
+    Rect {
+        lowX,
+        lowY,
+        highX,
+        highY,
+    }
+}
+
+// ---- one of two by a test, with no branch: the processor would guess the test wrong too often
+
+fn place_by(t: bool, a: usize, b: usize) -> usize
+    ensures { λ r. ⌜ r ≡ cond t a b ⌝ }
+{
+    if t { a } else { b }
+}
+
+fn key_by(t: bool, a: u64, b: u64) -> u64
+    ensures { λ r. ⌜ r ≡ cond t a b ⌝ }
+{
+    if t { a } else { b }
+}
+
 // ---- PickSeeds
 
-// Two places, the earlier first, and their d as `geometry::waste` counts it.
+// The areas of the nine.
+fn areas_of(w: &[i32; CORNERS]) -> [u64; NINE]
+    requires { ⌜ Corners (now w) ⌝ }
+    ensures { λ r. ⌜ Areas (rectsIn (now (w .entry))) r ⌝ }
+{
+    let mut areas = [0u64; NINE];
+    let mut i: usize = 0;
+    while i < NINE {
+        areas[i] = geometry::area(rect_at(w, i));
+        i += 1;
+    }
+    areas
+}
+
+// PS1: d of two rectangles with areas m and n. It may be negative, and is counted from -8,000,000,000,000,000,000.
+fn waste_by(a: Rect, b: Rect, m: u64, n: u64) -> u64
+    requires { ⌜ (G.valid a ≡ true) × (G.valid b ≡ true) ⌝ }
+    requires { ⌜ (pos m ≡ G.area a) × (pos n ≡ G.area b) ⌝ }
+    ensures { λ s. ⌜ subℕ s 8000000000000000000 ≡ G.waste a b ⌝ }
+{
+    geometry::area(geometry::cover(a, b)) + (8000000000000000000 - (m + n))
+}
+
+// Two places, the earlier first, and their d as `waste_by` counts it.
 pub struct KeyedSeeds {
     pub first: usize,
     pub second: usize,
@@ -32,22 +133,27 @@ pub struct KeyedSeeds {
 fn keep(best: KeyedSeeds, other: KeyedSeeds) -> KeyedSeeds
     ensures { λ r. ⌜ r ≡ cond (ltb (best .key) (other .key)) other best ⌝ }
 {
-    if best.key < other.key { other } else { best }
+    let more = best.key < other.key;
+    let first = place_by(more, other.first, best.first);
+    let second = place_by(more, other.second, best.second);
+    let key = key_by(more, other.key, best.key);
+    KeyedSeeds { first, second, key }
 }
 
 // PS1 for one first member: the best pair so far, and those of the place i with each later one.
-fn pairs_of(nine: [Rect; NINE], i: usize, best: KeyedSeeds) -> KeyedSeeds
-    requires { ⌜ AllValid nine ⌝ }
+fn pairs_of(w: &[i32; CORNERS], areas: &[u64; NINE], i: usize, best: KeyedSeeds) -> KeyedSeeds
+    requires { ⌜ Corners (now w) ⌝ }
+    requires { ⌜ Areas (rectsIn (now w)) (now areas) ⌝ }
     requires { ⌜ i < 9 ⌝ }
-    requires { ⌜ Keyed nine best ⌝ }
-    ensures is { λ r. ⌜ seedsOf r ≡ earliestBest (wastesMore nine) (seedsOf best) (map (S.seeds i) (upFrom (i + 1) (9 - (i + 1)))) ⌝ }
-    ensures keyed { λ r. ⌜ Keyed nine r ⌝ }
+    requires { ⌜ Keyed (rectsIn (now w)) best ⌝ }
+    ensures is { λ r. ⌜ seedsOf r ≡ earliestBest (wastesMore (rectsIn (now (w .entry)))) (seedsOf best) (map (S.seeds i) (upFrom (i + 1) (9 - (i + 1)))) ⌝ }
+    ensures keyed { λ r. ⌜ Keyed (rectsIn (now (w .entry))) r ⌝ }
 {
-    let a = nine[i];
+    let a = rect_at(w, i);
     let mut b = best;
     let mut j = i + 1;
     while j < NINE {
-        let key = geometry::waste(a, nine[j]);
+        let key = waste_by(a, rect_at(w, j), areas[i], areas[j]);
         b = keep(
             b,
             KeyedSeeds {
@@ -62,12 +168,13 @@ fn pairs_of(nine: [Rect; NINE], i: usize, best: KeyedSeeds) -> KeyedSeeds
 }
 
 // Largest d, then earliest first member, then earliest second.
-fn pick_seeds(nine: [Rect; NINE]) -> KeyedSeeds
-    requires { ⌜ AllValid nine ⌝ }
-    ensures is { λ r. ⌜ seedsOf r ≡ S.pickSeeds nine ⌝ }
-    ensures keyed { λ r. ⌜ Keyed nine r ⌝ }
+fn pick_seeds(w: &[i32; CORNERS]) -> KeyedSeeds
+    requires { ⌜ Corners (now w) ⌝ }
+    ensures is { λ r. ⌜ seedsOf r ≡ S.pickSeeds (rectsIn (now (w .entry))) ⌝ }
+    ensures keyed { λ r. ⌜ Keyed (rectsIn (now (w .entry))) r ⌝ }
 {
-    let key = geometry::waste(nine[0], nine[1]);
+    let areas = areas_of(w);
+    let key = waste_by(rect_at(w, 0), rect_at(w, 1), areas[0], areas[1]);
     let mut b = KeyedSeeds {
         first: 0,
         second: 1,
@@ -75,23 +182,81 @@ fn pick_seeds(nine: [Rect; NINE]) -> KeyedSeeds
     };
     let mut i: usize = 0;
     while i < NINE {
-        b = pairs_of(nine, i, b);
+        b = pairs_of(w, &areas, i, b);
         i += 1;
     }
     b
 }
 
-// ---- the groups
+// ---- the places left
 
-// Two groups of places in the order of joining, with their covers, and for each place whether it has a group.
-pub struct Grouping {
-    pub joined: [bool; NINE],
-    pub one: [usize; NINE],
-    pub ones: usize,
-    pub two: [usize; NINE],
-    pub twos: usize,
-    pub coverOne: Rect,
-    pub coverTwo: Rect,
+// The place at `at` is left out, and the later ones of the first n + 1 close up.
+fn close_up(left: &mut [usize; NINE], at: usize, n: usize)
+    requires { ⌜ length (now left) ≡ 9 ⌝ }
+    requires { ⌜ (at ≤ n) × (n < 9) ⌝ }
+    ensures { λ _. ⌜ ClosedUp at n (now (left .entry)) (now (left .exit)) ⌝ }
+{
+    let mut i = at;
+    while i < n {
+        left[i] = left[i + 1];
+        i += 1;
+    }
+}
+
+// The places other than the seeds, in stored order.
+fn left_of(i: usize, j: usize) -> [usize; NINE]
+    requires { ⌜ (i < j) × (j < 9) ⌝ }
+    ensures left { λ r. ⌜ Left r 7 ⌝ }
+    ensures is { λ r. ⌜ take 7 r ≡ S.leaving j (S.leaving i (upFrom 0 9)) ⌝ }
+{
+    let mut left = [0, 1, 2, 3, 4, 5, 6, 7, 8];
+    close_up(&mut left, i, NINE - 1);
+    close_up(&mut left, j - 1, UNSEEDED);
+    left
+}
+
+// ---- a group
+
+// What is known of a group beside its places: how many, their cover and its area.
+pub struct Extent {
+    pub count: usize,
+    pub cover: Rect,
+    pub area: u64,
+}
+
+// QS1: a seed alone.
+fn alone(w: &[i32; CORNERS], i: usize) -> Extent
+    requires { ⌜ Corners (now w) ⌝ }
+    requires { ⌜ i < 9 ⌝ }
+    ensures ok { λ r. ⌜ ExtentOk (rectsIn (now (w .entry))) r (set (replicate 9 0) 0 i) ⌝ }
+    ensures count { λ r. ⌜ r .count ≡ 1 ⌝ }
+{
+    let cover = rect_at(w, i);
+    let area = geometry::area(cover);
+    Extent {
+        count: 1,
+        cover,
+        area,
+    }
+}
+
+// The group's enlargement for each of the n places left, kept at the place.
+fn measure(w: &[i32; CORNERS], left: &[usize; NINE], n: usize, x: Extent, grows: &mut [u64; NINE])
+    requires { ⌜ Corners (now w) ⌝ }
+    requires { ⌜ Left (now left) n ⌝ }
+    requires { ⌜ (G.valid (x .cover) ≡ true) × (pos (x .area) ≡ G.area (x .cover)) ⌝ }
+    requires { ⌜ length (now grows) ≡ 9 ⌝ }
+    ensures { λ _. ⌜ Grows (rectsIn (now (w .entry))) (x .cover) (take n (now (left .entry))) (now (grows .exit)) ⌝ }
+{
+    let own = x.cover;
+    let area = x.area;
+    let mut i: usize = 0;
+    while i < n {
+        let at = left[i];
+        let wide = geometry::cover(own, rect_at(w, at));
+        grows[at] = geometry::area(wide) - area;
+        i += 1;
+    }
 }
 
 // ---- PickNext
@@ -102,17 +267,16 @@ fn apart(x: u64, y: u64) -> u64
     if x < y { y - x } else { x - y }
 }
 
-// PN1: the absolute difference of the two enlargements.
-fn preference(r: Rect, one: Rect, two: Rect) -> u64
-    requires { ⌜ G.valid r ≡ true ⌝ }
-    requires { ⌜ G.valid one ≡ true ⌝ }
-    requires { ⌜ G.valid two ≡ true ⌝ }
-    ensures { λ s. ⌜ s ≡ natAbs (G.enlargement one r -ℤ G.enlargement two r) ⌝ }
+// PN1: the absolute difference of the two enlargements for a place.
+fn preference(at: usize, growOne: &[u64; NINE], growTwo: &[u64; NINE]) -> u64
+    requires { ⌜ at < 9 ⌝ }
+    requires { ⌜ (length (now growOne) ≡ 9) × (length (now growTwo) ≡ 9) ⌝ }
+    ensures { λ r. ⌜ r ≡ keyOf (now (growOne .entry)) (now (growTwo .entry)) at ⌝ }
 {
-    apart(geometry::enlargement(one, r), geometry::enlargement(two, r))
+    apart(growOne[at], growTwo[at])
 }
 
-// A place, and its preference.
+// A position among the places left, and the preference of the place there.
 pub struct KeyedPlace {
     pub at: usize,
     pub key: u64,
@@ -122,63 +286,29 @@ pub struct KeyedPlace {
 fn wider(best: KeyedPlace, at: usize, key: u64) -> KeyedPlace
     ensures { λ r. ⌜ r ≡ cond (ltb (best .key) key) (record { at = at; key = key }) best ⌝ }
 {
-    if best.key < key {
-        KeyedPlace { at, key }
-    } else {
-        best
+    let more = best.key < key;
+    let position = place_by(more, at, best.at);
+    let largest = key_by(more, key, best.key);
+    KeyedPlace {
+        at: position,
+        key: largest,
     }
 }
 
-// The place i is looked at, unless it has a group.
-fn look(
-    nine: [Rect; NINE],
-    i: usize,
-    joined: bool,
-    one: Rect,
-    two: Rect,
-    best: KeyedPlace,
-) -> KeyedPlace
-    requires { ⌜ AllValid nine ⌝ }
-    requires { ⌜ i < 9 ⌝ }
-    requires { ⌜ G.valid one ≡ true ⌝ }
-    requires { ⌜ G.valid two ≡ true ⌝ }
-    ensures { λ r. ⌜ r ≡ cond joined best (widerNext nine one two best i) ⌝ }
+// Largest absolute difference of the two enlargements, then earliest: where it stands among the n places left.
+fn pick_next(left: &[usize; NINE], n: usize, growOne: &[u64; NINE], growTwo: &[u64; NINE]) -> usize
+    requires { ⌜ Left (now left) n ⌝ }
+    requires { ⌜ 0 < n ⌝ }
+    requires { ⌜ (length (now growOne) ≡ 9) × (length (now growTwo) ≡ 9) ⌝ }
+    ensures there { λ r. ⌜ r < n ⌝ }
+    ensures is { λ r. ⌜ getD (now (left .entry)) r 0 ≡ earliest (widerBy (now (growOne .entry)) (now (growTwo .entry))) (take n (now (left .entry))) ⌝ }
 {
-    if joined {
-        return best;
-    }
-    let key = preference(nine[i], one, two);
-    wider(best, i, key)
-}
-
-// The first place that has no group, or 0.
-fn first_left(joined: [bool; NINE]) -> usize
-    ensures is { λ r. ⌜ r ≡ firstOf (unjoined joined 0) ⌝ }
-    ensures small { λ r. ⌜ r < 9 ⌝ }
-{
-    let mut i = 0;
-    while i < NINE {
-        if !joined[i] {
-            return i;
-        }
-        i += 1;
-    }
-    0
-}
-
-// Largest absolute difference of the two enlargements, then earliest.
-fn pick_next(nine: [Rect; NINE], joined: [bool; NINE], one: Rect, two: Rect) -> usize
-    requires { ⌜ AllValid nine ⌝ }
-    requires { ⌜ G.valid one ≡ true ⌝ }
-    requires { ⌜ G.valid two ≡ true ⌝ }
-    ensures { λ r. ⌜ r ≡ S.mostPreferring nine one two (unjoined joined 0) ⌝ }
-{
-    let at = first_left(joined);
-    let key = preference(nine[at], one, two);
-    let mut best = KeyedPlace { at, key };
-    let mut i: usize = 0;
-    while i < NINE {
-        best = look(nine, i, joined[i], one, two, best);
+    let key = preference(left[0], growOne, growTwo);
+    let mut best = KeyedPlace { at: 0, key };
+    let mut i: usize = 1;
+    while i < n {
+        let other = preference(left[i], growOne, growTwo);
+        best = wider(best, i, other);
         i += 1;
     }
     best.at
@@ -186,146 +316,193 @@ fn pick_next(nine: [Rect; NINE], joined: [bool; NINE], one: Rect, two: Rect) -> 
 
 // ---- the groups grow
 
-// Group 1 and group 2 swap names.
-fn swapped(t: Grouping) -> Grouping
-    ensures { λ r. ⌜ r ≡ flipped t ⌝ }
-{
-    let joined = t.joined;
-    let one = t.two;
-    let two = t.one;
-    let coverOne = t.coverTwo;
-    let coverTwo = t.coverOne;
-    Grouping {
-        joined,
-        one,
-        ones: t.twos,
-        two,
-        twos: t.ones,
-        coverOne,
-        coverTwo,
-    }
-}
-
-// The place k joins group 1, last.
-fn join_one(nine: [Rect; NINE], t: Grouping, k: usize) -> Grouping
-    requires { ⌜ Ok nine t ⌝ }
-    requires { ⌜ Free t k ⌝ }
-    ensures { λ r. ⌜ r ≡ withOne nine t k ⌝ }
-{
-    let mut joined = t.joined;
-    let mut one = t.one;
-    let ones = t.ones;
-    let two = t.two;
-    let old = t.coverOne;
-    let coverTwo = t.coverTwo;
-    let coverOne = geometry::cover(old, nine[k]);
-    joined[k] = true;
-    one[ones] = k;
-    Grouping {
-        joined,
-        one,
-        ones: ones + 1,
-        two,
-        twos: t.twos,
-        coverOne,
-        coverTwo,
-    }
-}
-
-// .. group 2.
-fn join_two(nine: [Rect; NINE], t: Grouping, k: usize) -> Grouping
-    requires { ⌜ Ok nine t ⌝ }
-    requires { ⌜ Free t k ⌝ }
-    ensures { λ r. ⌜ r ≡ flipped (withOne nine (flipped t) k) ⌝ }
-{
-    swapped(join_one(nine, swapped(t), k))
-}
-
 // Least enlargement, then smaller area, then fewer entries, then group 1: whether group 2 goes before group 1.
-fn second_first(r: Rect, one: Rect, two: Rect, ones: usize, twos: usize) -> bool
-    requires { ⌜ G.valid r ≡ true ⌝ }
-    requires { ⌜ G.valid one ≡ true ⌝ }
-    requires { ⌜ G.valid two ≡ true ⌝ }
-    ensures { λ s. ⌜ s ≡ S.secondFirst one two ones twos r ⌝ }
+fn second_first(growOne: u64, growTwo: u64, one: Extent, two: Extent) -> bool
+    ensures { λ s. ⌜ s ≡ lessThen (pos growTwo) (pos growOne) (lessThen (pos (two .area)) (pos (one .area)) (ltb (two .count) (one .count))) ⌝ }
 {
-    let e = geometry::enlargement(two, r);
-    let f = geometry::enlargement(one, r);
-    let a = geometry::area(two);
-    let b = geometry::area(one);
-    less_then(e < f, f < e, less_then(a < b, b < a, twos < ones))
+    let less = two.area < one.area;
+    let more = one.area < two.area;
+    let fewer = two.count < one.count;
+    less_then(
+        growTwo < growOne,
+        growOne < growTwo,
+        less_then(less, more, fewer),
+    )
 }
 
-// QS2 and QS3: one place joins a group. Where a group needs all that are left, the first of them joins it, and so on to the last.
-fn assign(nine: [Rect; NINE], t: Grouping) -> Grouping
-    requires { ⌜ AllValid nine ⌝ }
-    requires { ⌜ Ok nine t ⌝ }
-    requires { ⌜ (t .ones + t .twos < 9) × Fill t ⌝ }
-    ensures is { λ r. ⌜ ends nine r ≡ ends nine t ⌝ }
-    ensures ok { λ r. ⌜ Ok nine r ⌝ }
-    ensures count { λ r. ⌜ (r .ones + r .twos ≡ t .ones + t .twos + 1) × Fill r ⌝ }
-{
-    let ones = t.ones;
-    let twos = t.twos;
-    let left = NINE - (ones + twos);
-    let joined = t.joined;
-    if ones + left == LEAST {
-        return join_one(nine, t, first_left(joined));
-    }
-    if twos + left == LEAST {
-        return join_two(nine, t, first_left(joined));
-    }
-    let one = t.coverOne;
-    let two = t.coverTwo;
-    let at = pick_next(nine, joined, one, two);
-    if second_first(nine[at], one, two, ones, twos) {
-        return join_two(nine, t, at);
-    }
-    join_one(nine, t, at)
+// Two groups.
+pub struct Extents {
+    pub one: Extent,
+    pub two: Extent,
 }
 
-// QS1: the earlier seed opens group 1.
-fn begun(nine: [Rect; NINE], i: usize, j: usize) -> Grouping
-    requires { ⌜ AllValid nine ⌝ }
-    requires { ⌜ (i < j) × (j < 9) ⌝ }
-    ensures is { λ r. ⌜ groupsOf r ≡ S.opening 9 (S.seeds i j) ⌝ }
-    ensures ok { λ r. ⌜ Ok nine r ⌝ }
-    ensures count { λ r. ⌜ (r .ones ≡ 1) × (r .twos ≡ 1) ⌝ }
+// The place that joins next, by its position among those left, and whether it joins group 2.
+pub struct Joining {
+    pub at: usize,
+    pub second: bool,
+}
+
+// QS2 and QS3: which place joins which group. Where a group needs all that are left, the first of them joins it, and so on to the last.
+fn next_joining(
+    t: Extents,
+    left: &[usize; NINE],
+    n: usize,
+    growOne: &[u64; NINE],
+    growTwo: &[u64; NINE],
+) -> Joining
+    requires { ⌜ Left (now left) n ⌝ }
+    requires { ⌜ 0 < n ⌝ }
+    requires { ⌜ (length (now growOne) ≡ 9) × (length (now growTwo) ≡ 9) ⌝ }
+    requires { ⌜ (t .one .count ≤ 9) × (t .two .count ≤ 9) ⌝ }
+    ensures { λ r. ⌜ Next t (now (left .entry)) n (now (growOne .entry)) (now (growTwo .entry)) r ⌝ }
 {
-    let mut joined = [false; NINE];
-    joined[i] = true;
-    joined[j] = true;
-    let mut one = [0usize; NINE];
-    one[0] = i;
-    let mut two = [0usize; NINE];
-    two[0] = j;
-    let coverOne = nine[i];
-    let coverTwo = nine[j];
-    Grouping {
-        joined,
-        one,
-        ones: 1,
-        two,
-        twos: 1,
-        coverOne,
-        coverTwo,
+    let one = t.one;
+    let two = t.two;
+    if one.count + n == LEAST {
+        return Joining {
+            at: 0,
+            second: false,
+        };
+    }
+    if two.count + n == LEAST {
+        return Joining {
+            at: 0,
+            second: true,
+        };
+    }
+    let at = pick_next(left, n, growOne, growTwo);
+    let place = left[at];
+    let second = second_first(growOne[place], growTwo[place], one, two);
+    Joining { at, second }
+}
+
+// The place at `at` of the n left joins the group, last. The group's enlargements for the others are measured again.
+fn join(
+    w: &[i32; CORNERS],
+    x: Extent,
+    at: usize,
+    left: &mut [usize; NINE],
+    n: usize,
+    group: &mut [usize; NINE],
+    grows: &mut [u64; NINE],
+) -> Extent
+    requires { ⌜ Corners (now w) ⌝ }
+    requires { ⌜ ExtentOk (rectsIn (now w)) x (now group) ⌝ }
+    requires { ⌜ x .count < 9 ⌝ }
+    requires { ⌜ Left (now left) n ⌝ }
+    requires { ⌜ at < n ⌝ }
+    requires { ⌜ length (now grows) ≡ 9 ⌝ }
+    ensures closed { λ r. ⌜ ClosedUp at (n - 1) (now (left .entry)) (now (left .exit)) ⌝ }
+    ensures group { λ r. ⌜ now (group .exit) ≡ set (now (group .entry)) (x .count) (getD (now (left .entry)) at 0) ⌝ }
+    ensures extent { λ r. ⌜ ExtentOk (rectsIn (now (w .entry))) r (now (group .exit)) ⌝ }
+    ensures count { λ r. ⌜ r .count ≡ x .count + 1 ⌝ }
+    ensures grows { λ r. ⌜ Grows (rectsIn (now (w .entry))) (r .cover) (take (n - 1) (now (left .exit))) (now (grows .exit)) ⌝ }
+{
+    let place = left[at];
+    let count = x.count;
+    let old = x.cover;
+    let cover = geometry::cover(old, rect_at(w, place));
+    let larger = geometry::area(cover);
+    let grown = Extent {
+        count: count + 1,
+        cover,
+        area: larger,
+    };
+    group[count] = place;
+    close_up(left, at, n - 1);
+    measure(w, left, n - 1, grown, grows);
+    grown
+}
+
+// One place joins a group.
+fn assign(
+    w: &[i32; CORNERS],
+    t: Extents,
+    left: &mut [usize; NINE],
+    n: usize,
+    one: &mut [usize; NINE],
+    two: &mut [usize; NINE],
+    growOne: &mut [u64; NINE],
+    growTwo: &mut [u64; NINE],
+) -> Extents
+    requires { ⌜ Corners (now w) ⌝ }
+    requires { ⌜ Assigned (rectsIn (now w)) t (now left) n (now one) (now two) (now growOne) (now growTwo) ⌝ }
+    requires { ⌜ 0 < n ⌝ }
+    ensures is { λ r. ⌜ ends (rectsIn (now (w .entry))) (n - 1) (groupsOf r (now (one .exit)) (now (two .exit)) (now (left .exit)) (n - 1)) ≡ ends (rectsIn (now (w .entry))) n (groupsOf t (now (one .entry)) (now (two .entry)) (now (left .entry)) n) ⌝ }
+    ensures ok { λ r. ⌜ Assigned (rectsIn (now (w .entry))) r (now (left .exit)) (n - 1) (now (one .exit)) (now (two .exit)) (now (growOne .exit)) (now (growTwo .exit)) ⌝ }
+{
+    let next = next_joining(t, left, n, growOne, growTwo);
+    let first = t.one;
+    let second = t.two;
+    let at = next.at;
+    if next.second {
+        let grown = join(w, second, at, left, n, two, growTwo);
+        return Extents {
+            one: first,
+            two: grown,
+        };
+    }
+    let grown = join(w, first, at, left, n, one, growOne);
+    Extents {
+        one: grown,
+        two: second,
     }
 }
 
-// Nine rectangles in two groups, by Guttman's quadratic split.
+// ---- all nine
+
+// Two groups of places in the order of joining, with zeros after them.
+pub struct Grouping {
+    pub one: [usize; NINE],
+    pub ones: usize,
+    pub two: [usize; NINE],
+    pub twos: usize,
+}
+
+// Nine rectangles in two groups, by Guttman's quadratic split. The earlier seed opens group 1.
 pub fn split_nine(nine: [Rect; NINE]) -> Grouping
     requires { ⌜ AllValid nine ⌝ }
     ensures one { λ r. ⌜ take (r .ones) (r .one) ≡ S.quadraticGroups nine .one ⌝ }
     ensures two { λ r. ⌜ take (r .twos) (r .two) ≡ S.quadraticGroups nine .two ⌝ }
-    ensures whole { λ r. ⌜ GroupsWhole nine r ⌝ }
+    ensures whole { λ r. ⌜ GroupsWhole r ⌝ }
 {
-    let p = pick_seeds(nine);
+    let w = flat(nine);
+    let p = pick_seeds(&w);
     let i = p.first;
     let j = p.second;
-    let mut t = begun(nine, i, j);
-    let mut n: usize = 0;
-    while n < UNSEEDED {
-        t = assign(nine, t);
-        n += 1;
+    let mut t = Extents {
+        one: alone(&w, i),
+        two: alone(&w, j),
+    };
+    let mut left = left_of(i, j);
+    let mut one = [0usize; NINE];
+    one[0] = i;
+    let mut two = [0usize; NINE];
+    two[0] = j;
+    let mut growOne = [0u64; NINE];
+    let mut growTwo = [0u64; NINE];
+    measure(&w, &left, UNSEEDED, t.one, &mut growOne);
+    measure(&w, &left, UNSEEDED, t.two, &mut growTwo);
+    let mut n = UNSEEDED;
+    while 0 < n {
+        t = assign(
+            &w,
+            t,
+            &mut left,
+            n,
+            &mut one,
+            &mut two,
+            &mut growOne,
+            &mut growTwo,
+        );
+        n -= 1;
     }
-    t
+    let first = t.one;
+    let second = t.two;
+    Grouping {
+        one,
+        ones: first.count,
+        two,
+        twos: second.count,
+    }
 }

@@ -11,58 +11,59 @@ use Rattle.insert.proofs.Steps.{back-one, two-ready, two-here, back-two
 use Rattle.insert.proofs.adjust.Statement.{statement}
 use Rattle.insert.proofs.adjust.Tie as tie
 
-tighten-requires : tie.Need-tighten-requires
-tighten-requires c κs =
+widen-requires : tie.Need-widen-requires
+widen-requires c κs =
     let start = c .before .before .before .before in
     let grown = c .before .before .grown in
     let w = start .args .pool .now in
-    let b = subst (Back w (start .args .s) (start .args .i)) (grown .given .1) (start .pre) in
+    let b = subst (Back w (start .args .s) (start .args .i) (start .args .new)) (grown .given .1) (start .pre) in
     (b .0 .fit, b .1)
 
-tighten-requires-2 : tie.Need-tighten-requires-2
-tighten-requires-2 c κs =
+tighten-requires : tie.Need-tighten-requires
+tighten-requires c κs =
     let start = c .before .before .before .before in
     let grown2 = c .before .before .grown2 in
     let w = start .args .pool .now in
-    let b = subst (Back w (start .args .s) (start .args .i)) (grown2 .given .1) (start .pre) in
+    let b = subst (Back w (start .args .s) (start .args .i) (start .args .new)) (grown2 .given .1) (start .pre) in
     (b .0 .fit, b .1)
 
 install-requires : tie.Need-install-requires
 install-requires c κs =
     let start = c .before .before .before .before .before .before .before in
     let grown2 = c .before .before .before .before .before .grown2 in
-    let tighten2 = c .before .before .tighten2 in
+    let tighten = c .before .before .tighten in
     let w = start .args .pool .now in
-    let b = subst (Back w (start .args .s) (start .args .i)) (grown2 .given .1) (start .pre) in
-    let v = tighten2 .last .0 in (
-      two-ready w (start .args .s) (start .args .i) _ _ b v (tighten2 .ensures .1) (tighten2 .ensures .0),
-      two-here w (start .args .s) (start .args .i) _ _ b v (tighten2 .ensures .1) (tighten2 .ensures .0),
+    let b = subst (Back w (start .args .s) (start .args .i) (start .args .new)) (grown2 .given .1) (start .pre) in
+    let v = tighten .last .0 in (
+      two-ready w (start .args .s) (start .args .i) (start .args .new) _ _ b v (tighten .ensures .1) (tighten .ensures .0),
+      two-here w (start .args .s) (start .args .i) (start .args .new) _ _ b v (tighten .ensures .1) (tighten .ensures .0),
     )
 
 returns : tie.Need-returns
 returns c =
     let start = c .before .before .before .before .before .before in
     let grown = c .before .before .before .before .grown in
-    let tighten = c .before .tighten in
+    let widen = c .before .widen in
     let w = start .args .pool .now in
-    let b = subst (Back w (start .args .s) (start .args .i)) (grown .given .1) (start .pre) in
-    let v = tighten .last .0 in
+    let b = subst (Back w (start .args .s) (start .args .i) (start .args .new)) (grown .given .1) (start .pre) in
+    let v = widen .last .0 in
     subst⁻¹ (λ (g : Growth). GrewTo (I.adjust I.ours (start .args .s) (start .args .i) (grownOf (read w) g)) (One (grown .given .0 .0)) v)
-    (grown .given .1) (back-one w (start .args .s) (start .args .i) (grown .given .0 .0) b v (tighten .ensures .1) (tighten .ensures .0))
+    (grown .given .1)
+    (back-one w (start .args .s) (start .args .i) (start .args .new) (grown .given .0 .0) b v (widen .ensures .1) (widen .ensures .0))
 
 returns-2 : tie.Need-returns-2
 returns-2 c =
     let start = c .before .before .before .before .before .before .before .before .before in
     let grown2 = c .before .before .before .before .before .before .before .grown2 in
-    let tighten2 = c .before .before .before .before .tighten2 in
+    let tighten = c .before .before .before .before .tighten in
     let install = c .before .install in
     let w = start .args .pool .now in
-    let b = subst (Back w (start .args .s) (start .args .i)) (grown2 .given .1) (start .pre) in
-    let v = tighten2 .last .0 in
+    let b = subst (Back w (start .args .s) (start .args .i) (start .args .new)) (grown2 .given .1) (start .pre) in
+    let v = tighten .last .0 in
     subst⁻¹ (λ (g : Growth). GrewTo (I.adjust I.ours (start .args .s) (start .args .i) (grownOf (read w) g)) (install .result)
     (install .last .0)) (grown2 .given .1)
-    (back-two w (start .args .s) (start .args .i) _ _ b v (tighten2 .ensures .1) (tighten2 .ensures .0) (install .result) (install .last .0)
-    (install .ensures))
+    (back-two w (start .args .s) (start .args .i) (start .args .new) _ _ b v (tighten .ensures .1) (tighten .ensures .0) (install .result)
+    (install .last .0) (install .ensures))
 
 returns-3 : tie.Need-returns-3
 returns-3 c =
@@ -76,9 +77,9 @@ adjust-spec =
     tie.close
     (tie.spec
     (λ c. search needs)
-    tighten-requires
+    widen-requires
     (λ c. search needs)
-    tighten-requires-2
+    tighten-requires
     install-requires
     (λ c. search needs)
     (λ c. search needs)

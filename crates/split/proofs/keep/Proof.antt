@@ -1,12 +1,16 @@
-use borrow.Author.Tests.{lt-ltb, le-ltb}
+-- `split::keep` meets its contract: part by part it is one of the two.
+use lib.Dec.{ltb}
+use Rattle.split.proofs.Seeds.{kept-parts}
+use borrow.Author.Needs.{needs}
 use Rattle.split.proofs.keep.Statement.{statement}
 use Rattle.split.proofs.keep.Tie as tie
 
 returns : tie.Need-returns
-returns c = rw (lt-ltb _ _ (c .if1 .taken))
-
-returns-2 : tie.Need-returns-2
-returns-2 c = rw (le-ltb _ _ (c .if1 .left))
+returns c =
+    let start = c .before .before .before .before .before in
+    let place-by = c .before .before .place-by in
+    rw (place-by .ensures, c .before .place-by2 .ensures, c .key-by .ensures)
+    (kept-parts (ltb (start .args .best .key) (start .args .other .key)) (start .args .other) (start .args .best))
 
 pub keep-spec : {M : Type 1} → statement M
-keep-spec = tie.close (tie.spec returns returns-2)
+keep-spec = tie.close (tie.spec (λ c κs. search needs) (λ c κs. search needs) (λ c κs. search needs) returns)

@@ -1,15 +1,15 @@
-use lib.IntN.{subℕ}
-use Rattle.rules.specs.Split.{seeds, wasteOf}
-use Rattle.split.proofs.Seeds.{kept, inner, inner-step, inner-none, kept-places, kept-keyed}
-use borrow.Author.Needs.{needs}
+-- `split::pairs_of` meets its contract: a turn keeps the better of the best pair and the next.
 use mathlib.Core.Path.{_≡_, refl, sym, _∙_}
 use mathlib.Core.List.{List}
 use Prim.Native.Nat.{ℕ, _+_, _-_, _≤_, _<_}
 use native.Mathlib.Omega.{arith}
+use lib.IntN.{subℕ}
 use Rattle.rules.specs.declared.Rect.{Rect}
-use Rattle.rules.specs.Choose.{rectFrom}
+use Rattle.rules.specs.Split.{seeds, wasteOf}
 use Rattle.split.specs.declared.KeyedSeeds.{KeyedSeeds}
-use Rattle.split.specs.State.{Keyed, seedsOf}
+use Rattle.split.specs.State.{rectsIn, Keyed, seedsOf}
+use Rattle.split.proofs.Seeds.{kept, inner, inner-step, inner-none, kept-places, kept-keyed}
+use borrow.Author.Needs.{needs}
 use Rattle.split.proofs.pairs_of.Statement.{statement}
 use Rattle.split.proofs.pairs_of.Tie as tie
 
@@ -21,10 +21,10 @@ record Pass (i : ℕ) (nine : List Rect) (b₀ b : KeyedSeeds) (j : ℕ) : Type 
   rest : inner nine i (seedsOf b) j ≡ inner nine i (seedsOf b₀) (i + 1)
 
 abbrev Inv-loop : tie.InvT-loop
-Inv-loop i nine a b₀ j₀ b j = Pass i nine b₀ b j
+Inv-loop w areas i a b₀ j₀ b j = Pass i (rectsIn w) b₀ b j
 
 abbrev μ-loop : tie.MeasureT-loop
-μ-loop i nine a b₀ j₀ b j = 9 - j
+μ-loop w areas i a b₀ j₀ b j = 9 - j
 
 -- the pair of i and j, with the key that the code has for it
 pair : ℕ → ℕ → ℕ → KeyedSeeds
@@ -45,29 +45,67 @@ module _ {i : ℕ} {nine : List Rect} {b₀ b : KeyedSeeds} {j : ℕ} (u : Pass 
     rest = rw (kept-places (u .keyed) new-keyed) (sym (inner-step nine i (seedsOf b) j h) ∙ u .rest);
   }
 
+rect-at-requires : tie.Need-rect-at-requires Inv-loop μ-loop
+rect-at-requires c κs = (c .pre .0 .long, c .pre .1 .1 .0)
+
+add-j : tie.Need-add-j Inv-loop μ-loop
+add-j c = omega (arith, c .before .pre .1 .1 .0)
+
 loop-holds : tie.Need-loop-holds Inv-loop μ-loop
-loop-holds c = record { most = omega arith; past = omega arith; keyed = c .before .pre .1 .1; rest = refl }
+loop-holds c = record { most = omega (arith, c .before .pre .1 .1 .0); past = omega arith; keyed = c .before .pre .1 .1 .1; rest = refl }
 
-waste-requires : tie.Need-waste-requires Inv-loop μ-loop
-unfolding rectFrom
-waste-requires c κs =
+rect-at-requires-2 : tie.Need-rect-at-requires-2 Inv-loop μ-loop
+rect-at-requires-2 c κs = (c .before .before .before .pre .0 .long, c .loop-test .taken)
+
+mul-waste-by : tie.Need-mul-waste-by Inv-loop μ-loop
+mul-waste-by c =
     let start = c .before .before .before .before in
-    let loop = c .before .before .loop in
-    (start .pre .0 .ok (start .args .i) (start .pre .1 .0), start .pre .0 .ok (loop .j) (c .before .loop-test .taken))
+    omega (arith, start .pre .1 .1 .0)
 
-loop-again : tie.Need-loop-again Inv-loop μ-loop
-unfolding pair wasteOf rectFrom
-loop-again c =
+element-copy-out-waste-by : tie.Need-element-copy-out-waste-by Inv-loop μ-loop
+element-copy-out-waste-by c =
+    let start = c .before .before .before .before in
+    omega (arith, start .pre .1 .1 .0)
+
+mul-waste-by-2 : tie.Need-mul-waste-by-2 Inv-loop μ-loop
+mul-waste-by-2 c = omega (arith, c .before .before .loop-test .taken)
+
+element-copy-out-waste-by-2 : tie.Need-element-copy-out-waste-by-2 Inv-loop μ-loop
+element-copy-out-waste-by-2 c = omega (arith, c .before .before .loop-test .taken)
+
+waste-by-requires : tie.Need-waste-by-requires Inv-loop μ-loop
+waste-by-requires c κs =
+    let start = c .before .before .before .before .before .before in
+    let rect-at = c .before .before .before .before .before .rect-at in
     let loop = c .before .before .before .before .loop in
     let loop-test = c .before .before .before .loop-test in
-    let waste = c .before .waste in
-    rw (c .keep .ensures) (pass (loop .inv) (loop-test .taken) (waste .result) (waste .ensures))
+    let rect-at2 = c .before .before .rect-at2 in
+    rw (rect-at .ensures, rect-at2 .ensures) (
+      (start .pre .0 .all .ok (start .args .i) (start .pre .1 .1 .0), start .pre .0 .all .ok (loop .j) (loop-test .taken)),
+      (start .pre .1 .0 .is (start .args .i) (start .pre .1 .1 .0), start .pre .1 .0 .is (loop .j) (loop-test .taken)),
+    )
+
+add-j-2 : tie.Need-add-j-2 Inv-loop μ-loop
+add-j-2 c =
+    let loop-test = c .before .before .before .before .before .loop-test in
+    omega (arith, loop-test .taken)
+
+loop-again : tie.Need-loop-again Inv-loop μ-loop
+unfolding pair wasteOf
+loop-again c =
+    let rect-at = c .before .before .before .before .before .before .before .rect-at in
+    let loop = c .before .before .before .before .before .before .loop in
+    let loop-test = c .before .before .before .before .before .loop-test in
+    let rect-at2 = c .before .before .before .before .rect-at2 in
+    let waste-by = c .before .waste-by in
+    rw (c .keep .ensures)
+    (pass (loop .inv) (loop-test .taken) (waste-by .result) (rw (rect-at .ensures, rect-at2 .ensures) at (waste-by .ensures)))
 
 returns : tie.Need-returns Inv-loop μ-loop
 returns c =
     let start = c .before .before .before in
     let loop = c .before .loop in (
-      sym (inner-none (start .args .t1) (start .args .i) (seedsOf (loop .b)) (loop .j) (c .loop-test .left)) ∙ loop .inv .rest,
+      sym (inner-none (rectsIn (start .args .w .now)) (start .args .i) (seedsOf (loop .b)) (loop .j) (c .loop-test .left)) ∙ loop .inv .rest,
       loop .inv .keyed,
     )
 
@@ -77,15 +115,17 @@ pairs-of-spec =
     (tie.spec
     Inv-loop
     μ-loop
-    (λ c. search needs)
-    (λ c. search needs)
-    (λ c. search needs)
+    rect-at-requires
+    add-j
     loop-holds
-    (λ c. search needs)
-    (λ c. search needs)
-    waste-requires
+    rect-at-requires-2
+    mul-waste-by
+    element-copy-out-waste-by
+    mul-waste-by-2
+    element-copy-out-waste-by-2
+    waste-by-requires
     (λ c κs. search needs)
-    (λ c. search needs)
-    (λ c. search needs)
+    add-j-2
+    (λ c. omega arith)
     loop-again
     returns)

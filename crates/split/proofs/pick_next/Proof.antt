@@ -1,82 +1,69 @@
-use borrow.Author.Needs.{needs}
-use mathlib.Core.Path.{_≡_, sym, _∙_}
-use mathlib.Core.Bool.{Bool, false, cond}
-use mathlib.Core.List.{List}
-use Prim.Native.Nat.{ℕ, _+_, _-_, _≤_, _<_}
+-- `split::pick_next` meets its contract: a turn keeps the better of the best place and the next.
+use Prim.Native.Nat.{_-_}
 use native.Mathlib.Omega.{arith}
-use lib.ListN.{length, getD}
-use Rattle.rules.specs.declared.Rect.{Rect}
-use Rattle.rules.specs.Choose.{rectFrom}
-use Rattle.rules.specs.Split.{preference, mostPreferring}
-use Rattle.split.specs.declared.KeyedPlace.{KeyedPlace}
-use Rattle.split.specs.State.{widerNext, unjoined}
-use Rattle.geometry.proofs.Rules.{chosen}
-use Rattle.split.proofs.Nexts.{ahead, Preferred, next-key, next-step, next-none, next-first}
+use Rattle.split.proofs.Lefts.{left-inside}
+use Rattle.split.proofs.Nexts.{Looking, looking-first, looking-more, looking-done}
+use borrow.Author.Needs.{needs}
 use Rattle.split.proofs.pick_next.Statement.{statement}
 use Rattle.split.proofs.pick_next.Tie as tie
 
--- the key is the place's preference, and the places from i on give what all give
-record Turn (one two : Rect) (nine : List Rect) (joined : List Bool) (best : KeyedPlace) (i : ℕ) : Type 0 where
-  most : i ≤ 9
-  marks : length joined ≡ 9
-  key : Preferred nine one two best
-  rest : ahead nine one two joined (best .at) i ≡ mostPreferring nine one two (unjoined joined 0)
-
--- a turn, whether the place has a group or not
-turn : {one two : Rect} {nine : List Rect} {joined : List Bool} {best : KeyedPlace} {i : ℕ} → Turn one two nine joined best i → i < 9
-    → Turn one two nine joined (cond (getD joined i false) best (widerNext nine one two best i)) (i + 1)
-turn {one} {two} {nine} {joined} {best} {i} u h =
-    let l : i < length joined = omega arith in
-    record {
-      most = omega arith;
-      marks = u .marks;
-      key = chosen (Preferred nine one two) (getD joined i false) (u .key) (next-key nine one two best i (u .key));
-      rest = sym (next-step nine one two joined best i l (u .key)) ∙ u .rest;
-    }
-
 abbrev Inv-loop : tie.InvT-loop
-Inv-loop one two nine joined at key best₀ i₀ best i = Turn one two nine joined best i
+Inv-loop left n growOne growTwo key best₀ i₀ best i = Looking left n growOne growTwo best i
 
 abbrev μ-loop : tie.MeasureT-loop
-μ-loop one two nine joined at key best₀ i₀ best i = 9 - i
+μ-loop left n growOne growTwo key best₀ i₀ best i = n - i
 
-mul-preference : tie.Need-mul-preference Inv-loop μ-loop
-mul-preference c = omega (arith, c .first-left .ensures .1)
-
-array-copy-out-preference : tie.Need-array-copy-out-preference Inv-loop μ-loop
-array-copy-out-preference c = c .first-left .ensures .1
+element-copy-out-preference : tie.Need-element-copy-out-preference Inv-loop μ-loop
+element-copy-out-preference c = omega (arith, c .pre .0 .nine)
 
 preference-requires : tie.Need-preference-requires Inv-loop μ-loop
-unfolding rectFrom
-preference-requires c κs =
-    let start = c .before .before in
-    let first-left = c .before .first-left in
-    (start .pre .0 .ok (first-left .result) (first-left .ensures .1), (start .pre .1 .0, start .pre .1 .1))
+preference-requires c κs = (left-inside (c .before .pre .0) 0 (c .before .pre .1 .0), c .before .pre .1 .1)
 
 loop-holds : tie.Need-loop-holds Inv-loop μ-loop
-unfolding preference rectFrom
 loop-holds c =
-    let start = c .before .before .before in
-    let f = c .before .before .first-left .ensures .0 in
-    record {
-      most = omega arith;
-      marks = search needs;
-      key = c .preference .ensures;
-      rest = rw f (next-first (start .args .t1) (start .args .one) (start .args .two) (unjoined (start .args .t2) 0));
-    }
+    let start = c .before .before in
+    looking-first (start .args .left .now) (start .args .n) (start .args .growOne .now) (start .args .growTwo .now) (start .pre .0)
+    (start .pre .1 .0) (c .preference .result) (c .preference .ensures)
 
-look-requires : tie.Need-look-requires Inv-loop μ-loop
-look-requires c κs = let s = c .before .before .before .before .before in (s .pre .0, (c .loop-test .taken, (s .pre .1 .0, s .pre .1 .1)))
+mul-preference : tie.Need-mul-preference Inv-loop μ-loop
+mul-preference c =
+    let start = c .before .before .before .before in
+    omega (arith, start .pre .0 .few)
+
+element-copy-out-preference-2 : tie.Need-element-copy-out-preference-2 Inv-loop μ-loop
+element-copy-out-preference-2 c =
+    let start = c .before .before .before .before in
+    omega (arith, start .pre .0 .nine, start .pre .0 .few)
+
+preference-requires-2 : tie.Need-preference-requires-2 Inv-loop μ-loop
+preference-requires-2 c κs =
+    let start = c .before .before .before .before .before in
+    let loop = c .before .before .loop in
+    (left-inside (start .pre .0) (loop .i) (c .before .loop-test .taken), start .pre .1 .1)
+
+add-i : tie.Need-add-i Inv-loop μ-loop
+add-i c =
+    let start = c .before .before .before .before .before .before .before in
+    omega (arith, start .pre .0 .few)
 
 loop-again : tie.Need-loop-again Inv-loop μ-loop
-loop-again c = rw (c .look .ensures) (turn (c .before .before .loop .inv) (c .before .loop-test .taken))
+loop-again c =
+    let start = c .before .before .before .before .before .before .before in
+    let loop = c .before .before .before .before .loop in
+    let loop-test = c .before .before .before .loop-test in
+    let preference2 = c .before .preference2 in
+    rw (c .wider .ensures)
+    (looking-more (start .args .left .now) (start .args .n) (start .args .growOne .now) (start .args .growTwo .now) (start .pre .0)
+    (loop .best) (loop .i) (loop-test .taken) (loop .inv) (preference2 .result) (preference2 .ensures))
 
 returns : tie.Need-returns Inv-loop μ-loop
 returns c =
-    let start = c .before .before .before .before .before in
-    let loop = c .before .loop in
-    let k : length (start .args .t2) ≤ loop .i = omega arith in
-    sym (next-none (start .args .t1) (start .args .one) (start .args .two) (start .args .t2) (loop .best .at) (loop .i) k) ∙ loop .inv .rest
+    let start = c .before .before .before .before in
+    let loop = c .before .loop in (
+      loop .inv .there,
+      looking-done (start .args .left .now) (start .args .n) (start .args .growOne .now) (start .args .growTwo .now) (start .pre .0)
+          (loop .best) (loop .i) (omega (arith, c .loop-test .left)) (loop .inv),
+    )
 
 pub pick-next-spec : {M : Type 1} → statement M
 pick-next-spec =
@@ -84,14 +71,14 @@ pick-next-spec =
     (tie.spec
     Inv-loop
     μ-loop
-    (λ c κs. search needs)
-    mul-preference
-    array-copy-out-preference
+    element-copy-out-preference
     preference-requires
     loop-holds
-    (λ c. search needs)
-    look-requires
-    (λ c. search needs)
-    (λ c. search needs)
+    mul-preference
+    element-copy-out-preference-2
+    preference-requires-2
+    (λ c κs. search needs)
+    add-i
+    (λ c. omega arith)
     loop-again
     returns)

@@ -1,74 +1,111 @@
+-- `split::split_nine` meets its contract: with each turn a place less is left, and what the groups come to stays the same.
 use borrow.Author.Needs.{needs}
-use mathlib.Core.Path.{_≡_, sym, ap, _∙_}
-use mathlib.Core.List.{List}
-use Prim.Native.Nat.{ℕ, _+_, _-_, _≤_}
+use mathlib.Core.Path.{_≡_, refl, _∙_}
 use native.Mathlib.Omega.{arith}
-use Rattle.rules.specs.declared.Rect.{Rect}
-use Rattle.rules.specs.Split as S
-use Rattle.rules.specs.Split.{quadraticGroups}
-use Rattle.split.specs.declared.Grouping.{Grouping}
-use Rattle.split.specs.State.{Fill, Ok, groupsOf, ends}
-use Rattle.split.proofs.Starts.{starts-same, ends-same, whole}
+use Rattle.split.specs.State.{rectsIn}
+use Rattle.split.proofs.Corners.{corners}
+use Rattle.split.proofs.Starts.{Turn, started, ended-one, ended-two, ended-whole}
 use Rattle.split.proofs.split_nine.Statement.{statement}
 use Rattle.split.proofs.split_nine.Tie as tie
 
--- n places have joined, and what the groups come to is what the definition says
-record Turn (nine : List Rect) (t : Grouping) (n : ℕ) : Type 0 where
-  most : n ≤ 7
-  ok : Ok nine t
-  count : t .ones + t .twos ≡ n + 2
-  fill : Fill t
-  rest : ends nine t ≡ quadraticGroups nine
-
 abbrev Inv-loop : tie.InvT-loop
-Inv-loop nine i j t₀ n₀ t n = Turn nine t n
+Inv-loop w i j t₀ left₀ one₀ two₀ growOne₀ growTwo₀ n₀ t left one two growOne growTwo n = Turn (rectsIn w) t left n one two growOne growTwo
 
 abbrev μ-loop : tie.MeasureT-loop
-μ-loop nine i j t₀ n₀ t n = 7 - n
+μ-loop w i j t₀ left₀ one₀ two₀ growOne₀ growTwo₀ n₀ t left one two growOne growTwo n = n
 
 pick-seeds-requires : tie.Need-pick-seeds-requires Inv-loop μ-loop
-pick-seeds-requires c κs = c .pre
+pick-seeds-requires c κs = corners (c .before .flat .ensures .0) (c .before .flat .ensures .1) (c .before .before .pre)
 
-begun-requires : tie.Need-begun-requires Inv-loop μ-loop
-begun-requires c κs = (c .before .pre, (c .pick-seeds .ensures .1 .order, c .pick-seeds .ensures .1 .inside))
+alone-requires : tie.Need-alone-requires Inv-loop μ-loop
+alone-requires c κs =
+    let start = c .before .before .before .before in
+    let flat = c .before .before .before .flat in
+    let pick-seeds = c .before .pick-seeds in (
+      corners (flat .ensures .0) (flat .ensures .1) (start .pre),
+      omega (arith, pick-seeds .ensures .1 .order, pick-seeds .ensures .1 .inside),
+    )
+
+alone-requires-2 : tie.Need-alone-requires-2 Inv-loop μ-loop
+alone-requires-2 c κs =
+    let start = c .before .before .before .before .before .before in
+    let flat = c .before .before .before .before .before .flat in
+    let pick-seeds = c .before .before .before .pick-seeds in
+    (corners (flat .ensures .0) (flat .ensures .1) (start .pre), pick-seeds .ensures .1 .inside)
+
+left-of-requires : tie.Need-left-of-requires Inv-loop μ-loop
+left-of-requires c κs =
+    let pick-seeds = c .before .before .before .before .pick-seeds in
+    (pick-seeds .ensures .1 .order, pick-seeds .ensures .1 .inside)
+
+measure-requires : tie.Need-measure-requires Inv-loop μ-loop
+measure-requires c κs =
+    let start = c .before .before .before .before .before .before .before .before .before .before .before in
+    let flat = c .before .before .before .before .before .before .before .before .before .before .flat in
+    let alone = c .before .before .before .before .before .before .alone in
+    let left-of = c .before .before .before .left-of in (
+      corners (flat .ensures .0) (flat .ensures .1) (start .pre),
+      (left-of .ensures .0, ((alone .ensures .0 .ok, alone .ensures .0 .area), refl)),
+    )
+
+measure-requires-2 : tie.Need-measure-requires-2 Inv-loop μ-loop
+measure-requires-2 c κs =
+    let at-left-of = c .before .before .before .before .before .before .before in
+    let start = at-left-of .before .before .before .before .before .before .before .before in
+    let flat = at-left-of .before .before .before .before .before .before .before .flat in
+    let alone2 = at-left-of .before .alone2 in
+    let left-of = at-left-of .left-of in (
+      corners (flat .ensures .0) (flat .ensures .1) (start .pre),
+      (left-of .ensures .0, ((alone2 .ensures .0 .ok, alone2 .ensures .0 .area), refl)),
+    )
 
 loop-holds : tie.Need-loop-holds Inv-loop μ-loop
 loop-holds c =
-    let start = c .before .before in
-    let pick-seeds = c .before .pick-seeds in
-    let b = c .begun .ensures in
-    let p = pick-seeds .result in
-    record {
-      most = omega arith;
-      ok = b .1 .0;
-      count = omega (arith, b .1 .1);
-      fill = record { one = omega (arith, b .1 .1); two = omega (arith, b .1 .1) };
-      rest = starts-same (start .args .nine) (c .begun .result) (p .first) (p .second) (start .pre .nine) (pick-seeds .ensures .0)
-          (b .1 .1 .0) (b .1 .1 .1) (b .0);
-    }
+    let at-left-of = c .before .before .before .before .before .before .before .before in
+    let start = at-left-of .before .before .before .before .before .before .before .before in
+    let flat = at-left-of .before .before .before .before .before .before .before .flat in
+    let pick-seeds = at-left-of .before .before .before .before .before .pick-seeds in
+    let alone = at-left-of .before .before .before .alone in
+    let alone2 = at-left-of .before .alone2 in
+    let left-of = at-left-of .left-of in
+    let measure = c .before .before .before .before .measure in
+    started (corners (flat .ensures .0) (flat .ensures .1) (start .pre) .all) (pick-seeds .ensures .0) (alone .ensures .0)
+    (alone .ensures .1) (alone2 .ensures .0) (alone2 .ensures .1) (left-of .ensures .0) (left-of .ensures .1) (measure .ensures)
+    (c .measure2 .ensures)
 
 assign-requires : tie.Need-assign-requires Inv-loop μ-loop
 assign-requires c κs =
-    let start = c .before .before .before .before in
-    let l = c .before .loop .inv in
-    (start .pre, (l .ok, (omega (arith, l .count, c .loop-test .taken), l .fill)))
+    let at-loop = c .before .before .before .before .before .before .before in
+    let start = at-loop .before .before .before .before .before .before .before .before .before .before .before .before .before .before .before .before .before in
+    let flat = at-loop .before .before .before .before .before .before .before .before .before .before .before .before .before .before .before .before .flat in
+    let loop = at-loop .loop in
+    let loop-test = c .before .before .before .before .before .before .loop-test in
+    (corners (flat .ensures .0) (flat .ensures .1) (start .pre), (loop .inv .assigned, loop-test .taken))
+
+sub-n : tie.Need-sub-n Inv-loop μ-loop
+sub-n c =
+    let loop-test = c .before .before .before .before .before .before .before .loop-test in
+    omega (arith, loop-test .taken)
+
+loop-less : tie.Need-loop-less Inv-loop μ-loop
+loop-less c =
+    let loop-test = c .before .before .before .before .before .before .before .loop-test in
+    omega (arith, loop-test .taken)
 
 loop-again : tie.Need-loop-again Inv-loop μ-loop
 loop-again c =
-    let l = c .before .before .loop .inv in
-    let a = c .assign .ensures in
-    record { most = omega arith; ok = a .1 .0; count = omega (arith, a .1 .1 .0, l .count); fill = a .1 .1 .1; rest = a .0 ∙ l .rest }
+    let loop = c .before .before .before .before .before .before .before .before .loop in
+    record { assigned = c .assign .ensures .1; rest = c .assign .ensures .0 ∙ loop .inv .rest }
 
 returns : tie.Need-returns Inv-loop μ-loop
-unfolding groupsOf
 returns c =
-    let start = c .before .before .before .before in
-    let loop = c .before .loop in
-    let l = loop .inv in
-    let t = loop .t in
-    let e : t .ones + t .twos ≡ 9 = omega (arith, l .count, l .most, c .loop-test .left) in
-    let q = sym (ends-same (start .args .nine) t e) ∙ l .rest in
-    (ap (λ (g : S.Groups). g .one) q, (ap (λ (g : S.Groups). g .two) q, whole (l .ok) (l .fill) e))
+    let at-loop = c .before .before .before in
+    let flat = at-loop .before .before .before .before .before .before .before .before .before .before .before .before .before .before .before .before .flat in
+    let loop = at-loop .loop in
+    let loop-test = c .before .before .loop-test in
+    let u = loop .inv in
+    let z : loop .n ≡ 0 = omega (arith, loop-test .left) in
+    (ended-one (flat .ensures .1) u z, (ended-two (flat .ensures .1) u z, ended-whole (flat .ensures .1) u z))
 
 pub split-nine-spec : {M : Type 1} → statement M
 split-nine-spec =
@@ -76,11 +113,18 @@ split-nine-spec =
     (tie.spec
     Inv-loop
     μ-loop
+    (λ c κs. search needs)
     pick-seeds-requires
-    begun-requires
+    alone-requires
+    alone-requires-2
+    left-of-requires
+    (λ c. omega arith)
+    (λ c. omega arith)
+    measure-requires
+    measure-requires-2
     loop-holds
     assign-requires
-    (λ c. search needs)
-    (λ c. search needs)
+    sub-n
+    loop-less
     loop-again
     returns)

@@ -1,12 +1,16 @@
-use borrow.Author.Tests.{lt-ltb, le-ltb}
+-- `split::wider` meets its contract: part by part it is one of the two.
+use lib.Dec.{ltb}
+use Rattle.split.proofs.Nexts.{wider-parts}
+use borrow.Author.Needs.{needs}
 use Rattle.split.proofs.wider.Statement.{statement}
 use Rattle.split.proofs.wider.Tie as tie
 
 returns : tie.Need-returns
-returns c = rw (lt-ltb _ _ (c .if1 .taken))
-
-returns-2 : tie.Need-returns-2
-returns-2 c = rw (le-ltb _ _ (c .if1 .left))
+returns c =
+    let start = c .before .before .before in
+    rw (c .before .place-by .ensures, c .key-by .ensures)
+    (wider-parts (ltb (start .args .best .key) (start .args .key)) (record { at = start .args .at; key = start .args .key })
+    (start .args .best))
 
 pub wider-spec : {M : Type 1} → statement M
-wider-spec = tie.close (tie.spec returns returns-2)
+wider-spec = tie.close (tie.spec (λ c κs. search needs) (λ c κs. search needs) returns)
