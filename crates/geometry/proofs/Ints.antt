@@ -7,9 +7,9 @@ use lib.Dec.{leb, ltb}
 use lib.IntN.{ℤ, pos, negsuc, _-ℤ_, subℕ}
 use lib.Signed.{leZ, ltZ}
 use borrow.Author.Tests.{ltb-true, ltb-false, leb-true, le-leb, lt-leb, le-ltb, lt-ltb}
-use mir.Syntax.{w32, w64}
+use mir.Syntax.{w32}
 use mir.Val.{SFits, toZ, ofZ}
-use mir.Facts.{toZ-ofZ, sfits-widen}
+use mir.Facts.{toZ-ofZ}
 use Rattle.rules.specs.Numbers.{inRange}
 use Rattle.rules_laws.proofs.Bools.{and-both, leb-same}
 
@@ -109,7 +109,7 @@ sub-off (negsuc a) (negsuc b) h k l =
     let y : b ≤ 999999999 = low b k in
     sub-pos (suc b) (suc a) (omega arith) ∙ ap pos (omega arith)
 
--- ---- .. and their bits: a number in range is read back at 32 bits, and at 64
+-- ---- .. and their bits: a number in range is read back at 32 bits
 
 pub range-fits : (z : ℤ) → inRange z ≡ true → SFits w32 z
 range-fits (pos n) h = record { sfits = omega (arith, high n h) }
@@ -118,11 +118,8 @@ range-fits (negsuc n) h = record { sfits = omega (arith, low n h) }
 pub read-back : (z : ℤ) → inRange z ≡ true → toZ w32 (ofZ w32 z) ≡ z
 read-back z h = toZ-ofZ (range-fits z h)
 
-pub read-wide : (z : ℤ) → inRange z ≡ true → toZ w64 (ofZ w64 (toZ w32 (ofZ w32 z))) ≡ z
-read-wide z h = rw (toZ-ofZ (range-fits z h), toZ-ofZ {w = w64} (sfits-widen {w = w32} tt (range-fits z h)))
-
--- the difference of two ends fits 64 bits
-pub span-fits : (a b : ℤ) → inRange a ≡ true → inRange b ≡ true → leZ a b ≡ true → SFits w64 (b -ℤ a)
+-- the difference of two ends fits 32 bits
+pub span-fits : (a b : ℤ) → inRange a ≡ true → inRange b ≡ true → leZ a b ≡ true → SFits w32 (b -ℤ a)
 span-fits a b h k l = rw (sub-off b a k h (off-order a b h k l)) (record { sfits = omega (arith, off-le b k) })
 
 -- .. and is a natural of 2,000,000,000 at most

@@ -130,7 +130,7 @@ pub fn cover(a: Rect, b: Rect) -> Rect
 
 // ---- measures
 
-// How far apart the ends of a valid rectangle are on one axis.
+// How far apart the ends of a valid rectangle are on one axis: at most 2,000,000,000, which 32 bits hold.
 fn span(low: i32, high: i32) -> u64
     requires { ⌜ N.inRange low ≡ true ⌝ }
     requires { ⌜ N.inRange high ≡ true ⌝ }
@@ -138,7 +138,7 @@ fn span(low: i32, high: i32) -> u64
     ensures is { λ r. ⌜ pos r ≡ high -ℤ low ⌝ }
     ensures small { λ r. ⌜ r ≤ 2000000000 ⌝ }
 {
-    (high as i64 - low as i64) as u64
+    (high - low) as u32 as u64
 }
 
 // Width times height, 4,000,000,000,000,000,000 at most.
@@ -160,11 +160,11 @@ pub fn enlargement(a: Rect, b: Rect) -> u64
     area(cover(a, b)) - area(a)
 }
 
-// PS1: d, which may be negative, and 8,000,000,000,000,000,000 more.
-pub fn waste(a: Rect, b: Rect) -> u64
-    requires { ⌜ G.valid a ≡ true ⌝ }
-    requires { ⌜ G.valid b ≡ true ⌝ }
+// PS1: d of two rectangles with areas m and n. It may be negative, and is counted from -8,000,000,000,000,000,000.
+pub fn waste(a: Rect, b: Rect, m: u64, n: u64) -> u64
+    requires { ⌜ (G.valid a ≡ true) × (G.valid b ≡ true) ⌝ }
+    requires { ⌜ (pos m ≡ G.area a) × (pos n ≡ G.area b) ⌝ }
     ensures { λ s. ⌜ subℕ s 8000000000000000000 ≡ G.waste a b ⌝ }
 {
-    area(cover(a, b)) + (8000000000000000000 - (area(a) + area(b)))
+    area(cover(a, b)) + (8000000000000000000 - (m + n))
 }

@@ -7,7 +7,7 @@ ghost use mathlib.Core.List.{map};
 ghost use Prim.Native.Nat.{_+_, _-_, _<_, _≤_};
 ghost use lib.Dec.{ltb};
 ghost use lib.ListN.{length, take, getD, set, replicate};
-ghost use lib.IntN.{pos, subℕ};
+ghost use lib.IntN.{pos};
 ghost use Rattle.rules.specs.Choose.{rectFrom, earliest};
 ghost use Rattle.rules.specs.Lists.{earliestBest, upFrom, lessThen};
 ghost use Rattle.rules.specs.Geometry as G;
@@ -113,16 +113,7 @@ fn areas_of(w: &[i32; CORNERS]) -> [u64; NINE]
     areas
 }
 
-// PS1: d of two rectangles with areas m and n. It may be negative, and is counted from -8,000,000,000,000,000,000.
-fn waste_by(a: Rect, b: Rect, m: u64, n: u64) -> u64
-    requires { ⌜ (G.valid a ≡ true) × (G.valid b ≡ true) ⌝ }
-    requires { ⌜ (pos m ≡ G.area a) × (pos n ≡ G.area b) ⌝ }
-    ensures { λ s. ⌜ subℕ s 8000000000000000000 ≡ G.waste a b ⌝ }
-{
-    geometry::area(geometry::cover(a, b)) + (8000000000000000000 - (m + n))
-}
-
-// Two places, the earlier first, and their d as `waste_by` counts it.
+// Two places, the earlier first, and their d as `geometry::waste` counts it.
 pub struct KeyedSeeds {
     pub first: usize,
     pub second: usize,
@@ -153,7 +144,7 @@ fn pairs_of(w: &[i32; CORNERS], areas: &[u64; NINE], i: usize, best: KeyedSeeds)
     let mut b = best;
     let mut j = i + 1;
     while j < NINE {
-        let key = waste_by(a, rect_at(w, j), areas[i], areas[j]);
+        let key = geometry::waste(a, rect_at(w, j), areas[i], areas[j]);
         b = keep(
             b,
             KeyedSeeds {
@@ -174,7 +165,7 @@ fn pick_seeds(w: &[i32; CORNERS]) -> KeyedSeeds
     ensures keyed { λ r. ⌜ Keyed (rectsIn (now (w .entry))) r ⌝ }
 {
     let areas = areas_of(w);
-    let key = waste_by(rect_at(w, 0), rect_at(w, 1), areas[0], areas[1]);
+    let key = geometry::waste(rect_at(w, 0), rect_at(w, 1), areas[0], areas[1]);
     let mut b = KeyedSeeds {
         first: 0,
         second: 1,

@@ -1,51 +1,55 @@
 use mathlib.Core.Path.{sym, ap₂, _∙_}
-use Prim.Native.Nat.{_+_, _-_, _≤_}
+use Prim.Native.Nat.{_+_, _-_}
 use lib.IntN.{_-ℤ_}
 use native.Mathlib.Omega.{arith}
 use Rattle.rules.specs.Geometry.{waste}
 use Rattle.geometry.proofs.Ints.{sub-same, sub-minus, pos-minus}
-use Rattle.geometry.proofs.Measures.{cover-valid}
+use Rattle.geometry.proofs.Measures.{cover-valid, area-small}
 use borrow.Author.Needs.{needs}
 use Rattle.geometry.proofs.waste.Statement.{statement}
 use Rattle.geometry.proofs.waste.Tie as tie
 
 area-requires : tie.Need-area-requires
-area-requires c κs =
-    let start = c .before in
-    let a = start .args .a in
-    let b = start .args .b in
-    let v = start .pre .0 in
-    let w = start .pre .1 in
-    rw (c .cover .ensures) (cover-valid a b v w)
+area-requires c κs = rw (c .cover .ensures) (cover-valid (c .before .args .a) (c .before .args .b) (c .before .pre .0 .0) (c .before .pre .0 .1))
+
+add-result : tie.Need-add-result
+add-result c =
+    let start = c .before .before in
+    omega (
+      arith,
+      area-small (start .args .a) (start .args .m) (start .pre .0 .0) (start .pre .1 .0),
+      area-small (start .args .b) (start .args .n) (start .pre .0 .1) (start .pre .1 .1),
+    )
+
+sub-result : tie.Need-sub-result
+sub-result c =
+    let start = c .before .before in
+    omega (
+      arith,
+      area-small (start .args .a) (start .args .m) (start .pre .0 .0) (start .pre .1 .0),
+      area-small (start .args .b) (start .args .n) (start .pre .0 .1) (start .pre .1 .1),
+    )
+
+add-result-2 : tie.Need-add-result-2
+add-result-2 c = omega (arith, c .area .ensures .1)
 
 returns : tie.Need-returns
 unfolding waste
 returns c =
-    let start = c .before .before .before .before in
-    let cover = c .before .before .before .cover in
-    let area = c .before .before .area in
-    let area2 = c .before .area2 in
-    let a = start .args .a in
-    let b = start .args .b in
-    let v = start .pre .0 in
-    let w = start .pre .1 in
-    let m = area .result in
-    let n = area2 .result in
-    let k = c .area3 .result in
-    let e : m ≤ 4000000000000000000 = area .ensures .1 in
-    sub-same (m + (8000000000000000000 - (n + k))) 8000000000000000000 m (n + k) (omega (arith, area2 .ensures .1, c .area3 .ensures .1))
+    let start = c .before .before in
+    let m = c .area .result in
+    let n = start .args .m in
+    let k = start .args .n in
+    sub-same (m + (8000000000000000000 - (n + k))) 8000000000000000000 m (n + k)
+    (omega (
+      arith,
+      area-small (start .args .a) n (start .pre .0 .0) (start .pre .1 .0),
+      area-small (start .args .b) k (start .pre .0 .1) (start .pre .1 .1),
+    ))
     ∙ sym (sub-minus m n k)
-    ∙ ap₂ _-ℤ_ (sym (pos-minus m n) ∙ ap₂ _-ℤ_ (rw (cover .ensures) at (area .ensures .0)) (area2 .ensures .0)) (c .area3 .ensures .0)
+    ∙ ap₂ _-ℤ_ (sym (pos-minus m n) ∙ ap₂ _-ℤ_ (rw (c .before .cover .ensures) at (c .area .ensures .0)) (start .pre .1 .0))
+    (start .pre .1 .1)
 
 pub waste-spec : {M : Type 1} → statement M
 waste-spec =
-    tie.close
-    (tie.spec
-    (λ c κs. search needs)
-    area-requires
-    (λ c κs. search needs)
-    (λ c κs. search needs)
-    (λ c. search needs)
-    (λ c. search needs)
-    (λ c. search needs)
-    returns)
+    tie.close (tie.spec (λ c κs. search needs) area-requires add-result sub-result add-result-2 returns)

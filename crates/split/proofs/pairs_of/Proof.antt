@@ -57,24 +57,24 @@ loop-holds c = record { most = omega (arith, c .before .pre .1 .1 .0); past = om
 rect-at-requires-2 : tie.Need-rect-at-requires-2 Inv-loop μ-loop
 rect-at-requires-2 c κs = (c .before .before .before .pre .0 .long, c .loop-test .taken)
 
-mul-waste-by : tie.Need-mul-waste-by Inv-loop μ-loop
-mul-waste-by c =
+mul-waste : tie.Need-mul-waste Inv-loop μ-loop
+mul-waste c =
     let start = c .before .before .before .before in
     omega (arith, start .pre .1 .1 .0)
 
-element-copy-out-waste-by : tie.Need-element-copy-out-waste-by Inv-loop μ-loop
-element-copy-out-waste-by c =
+element-copy-out-waste : tie.Need-element-copy-out-waste Inv-loop μ-loop
+element-copy-out-waste c =
     let start = c .before .before .before .before in
     omega (arith, start .pre .1 .1 .0)
 
-mul-waste-by-2 : tie.Need-mul-waste-by-2 Inv-loop μ-loop
-mul-waste-by-2 c = omega (arith, c .before .before .loop-test .taken)
+mul-waste-2 : tie.Need-mul-waste-2 Inv-loop μ-loop
+mul-waste-2 c = omega (arith, c .before .before .loop-test .taken)
 
-element-copy-out-waste-by-2 : tie.Need-element-copy-out-waste-by-2 Inv-loop μ-loop
-element-copy-out-waste-by-2 c = omega (arith, c .before .before .loop-test .taken)
+element-copy-out-waste-2 : tie.Need-element-copy-out-waste-2 Inv-loop μ-loop
+element-copy-out-waste-2 c = omega (arith, c .before .before .loop-test .taken)
 
-waste-by-requires : tie.Need-waste-by-requires Inv-loop μ-loop
-waste-by-requires c κs =
+waste-requires : tie.Need-waste-requires Inv-loop μ-loop
+waste-requires c κs =
     let start = c .before .before .before .before .before .before in
     let rect-at = c .before .before .before .before .before .rect-at in
     let loop = c .before .before .before .before .loop in
@@ -97,9 +97,9 @@ loop-again c =
     let loop = c .before .before .before .before .before .before .loop in
     let loop-test = c .before .before .before .before .before .loop-test in
     let rect-at2 = c .before .before .before .before .rect-at2 in
-    let waste-by = c .before .waste-by in
+    let waste = c .before .waste in
     rw (c .keep .ensures)
-    (pass (loop .inv) (loop-test .taken) (waste-by .result) (rw (rect-at .ensures, rect-at2 .ensures) at (waste-by .ensures)))
+    (pass (loop .inv) (loop-test .taken) (waste .result) (rw (rect-at .ensures, rect-at2 .ensures) at (waste .ensures)))
 
 returns : tie.Need-returns Inv-loop μ-loop
 returns c =
@@ -119,11 +119,11 @@ pairs-of-spec =
     add-j
     loop-holds
     rect-at-requires-2
-    mul-waste-by
-    element-copy-out-waste-by
-    mul-waste-by-2
-    element-copy-out-waste-by-2
-    waste-by-requires
+    mul-waste
+    element-copy-out-waste
+    mul-waste-2
+    element-copy-out-waste-2
+    waste-requires
     (λ c κs. search needs)
     add-j-2
     (λ c. omega arith)

@@ -32,8 +32,8 @@ rect-at-requires c κs = (c .before .pre .long, omega arith)
 rect-at-requires-2 : tie.Need-rect-at-requires-2 Inv-loop μ-loop
 rect-at-requires-2 c κs = (c .before .before .pre .long, omega arith)
 
-waste-by-requires : tie.Need-waste-by-requires Inv-loop μ-loop
-waste-by-requires c κs =
+waste-requires : tie.Need-waste-requires Inv-loop μ-loop
+waste-requires c κs =
     let start = c .before .before .before in
     let areas-of = c .before .before .areas-of in
     rw (c .before .rect-at .ensures, c .rect-at2 .ensures) (
@@ -51,7 +51,7 @@ loop-holds c =
       keyed = record {
         order = omega arith;
         inside = omega arith;
-        key = rw (rect-at .ensures, c .before .rect-at2 .ensures) at (c .waste-by .ensures);
+        key = rw (rect-at .ensures, c .before .rect-at2 .ensures) at (c .waste .ensures);
       };
       rest = outer-all (rectsIn (start .args .w .now)) (start .pre .all .nine);
     }
@@ -94,7 +94,7 @@ pick-seeds-spec =
     rect-at-requires-2
     (λ c. omega arith)
     (λ c. omega arith)
-    waste-by-requires
+    waste-requires
     loop-holds
     pairs-of-requires
     (λ c. omega arith)
