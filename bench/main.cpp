@@ -1,5 +1,6 @@
 // Times the proved map beside Boost.Geometry's R-tree, on the same requests in the same run. Prints tables.
 
+#include <algorithm>
 #include <chrono>
 #include <cstdio>
 #include <limits>
@@ -9,16 +10,22 @@
 #include "map.hpp"
 #include "workloads.hpp"
 
-// A pool, the records that it is given (it has room for some more), and how many of them are inserted or deleted in a batch.
+// A pool, the records that it is given (it has room for some more), and how many of them are inserted or deleted in a batch. All but the
+// smallest and the largest are there to show how times grow.
 struct Size {
     size_t slots;
     int records, changes;
+    bool all_shown;
 };
 
-constexpr Size sizes[] = {{128, 400, 200}, {4'096, 14'000, 1'024}};
+constexpr Size sizes[] = {{128, 400, 200, true}, {512, 1'700, 800, false}, {2'048, 7'000, 1'024, false}, {4'096, 14'000, 1'024, true}};
 
-// How the times grow with the pool is shown once, in large batches.
-constexpr Size scale[] = {{128, 400, 200}, {512, 1'700, 800}, {2'048, 7'000, 1'024}, {4'096, 14'000, 1'024}};
+// Every run has a site and requests of its own, drawn from a seed of its own: what is done again and again is learnt by the processor, which
+// then guesses every branch of it right, and no map in use is asked the same batch again and again.
+constexpr uint64_t first_seed = 1984;
+constexpr uint64_t runs = 25;
+
+// Calls with no request are the same again and again.
 constexpr int times = 7;
 
 // One at a time, the call costs far more than the request, and the same for each, so a part of them will do.
@@ -27,17 +34,26 @@ constexpr size_t eighth = 8;
 // Calls with no request: as many as the longest workload has with a batch of 1.
 constexpr size_t empty_calls = Map::most / eighth;
 
-// The least time of several runs, in microseconds, since anything else that runs at the time can only add. Each starts from a copy.
+using Clock = std::chrono::steady_clock;
+
+// One run, in microseconds, over a copy.
+template <class State, class Run> double took(State state, Run run) {
+    const auto began = Clock::now();
+    run(state);
+    return std::chrono::duration<double, std::micro>(Clock::now() - began).count();
+}
+
+// The least time of several runs, since anything else that runs at the time can only add.
 template <class State, class Run> double least(const State &start, Run run) {
     double best = std::numeric_limits<double>::infinity();
-    for (int k = 0; k < times; ++k) {
-        State state = start;
-        const auto began = std::chrono::steady_clock::now();
-        run(state);
-        const std::chrono::duration<double, std::micro> took = std::chrono::steady_clock::now() - began;
-        best = std::min(best, took.count());
-    }
+    for (int k = 0; k < times; ++k) best = std::min(best, took(start, run));
     return best;
+}
+
+// Of several runs that differ, the one in the middle.
+double middle(std::vector<double> all) {
+    std::nth_element(all.begin(), all.begin() + static_cast<std::ptrdiff_t>(all.size() / 2), all.end());
+    return all[all.size() / 2];
 }
 
 // Boost's time per request of a workload, bare and with the map's whole job. Both are negative where Boost is not there.
@@ -56,7 +72,7 @@ BoostTimes boost_times(const Workload &w, const Shown &ours) {
         std::exit(1);
     }
     const auto time = [&](Job job) {
-        return least(start, [&](Boost &b) { b.run(w.timed, job); }) / static_cast<double>(w.timed.size());
+        return took(start, [&](Boost &b) { b.run(w.timed, job); }) / static_cast<double>(w.timed.size());
     };
     return {time(Job::bare), time(Job::same)};
 }
@@ -71,21 +87,10 @@ BoostTimes boost_times(const Workload &, const Shown &) { return {}; }
 void print_boost_memory(const Requests &) { std::printf(" |\n"); }
 #endif
 
-// A line of the table; Boost's columns are empty where it is not there.
-void print_times(const Size &size, const Workload &w, size_t batch, double ours, const BoostTimes &boost) {
-    std::printf("| %zu | %s | %zu | %.3f |", size.slots, w.name.c_str(), batch, ours);
-    for (const double theirs : {boost.bare, boost.same}) {
-        if (theirs > 0) std::printf(" %.3f | %.2f |", theirs, ours / theirs);
-        else std::printf(" | |");
-    }
-    std::printf("\n");
-    std::fflush(stdout);
-}
-
 // The map's time for each of the first `count` requests of the workload.
 double map_time(const Map &start, const Workload &w, size_t count, size_t batch) {
     const Requests part(w.timed.begin(), w.timed.begin() + static_cast<std::ptrdiff_t>(count));
-    return least(start, [&](Map &m) { m.run(part, batch); }) / static_cast<double>(count);
+    return took(start, [&](Map &m) { m.run(part, batch); }) / static_cast<double>(count);
 }
 
 // The map as a workload finds it, with room for all that the workload finds.
@@ -96,24 +101,56 @@ Map before(const Size &size, const Workload &w) {
     return map;
 }
 
-void time_workload(const Size &size, const Workload &w) {
+// The times per request of one workload, a number for each run.
+struct Times {
+    std::string name;
+    size_t batch;
+    std::vector<double> single, batched, bare, same;
+};
+
+void run_once(const Size &size, const Workload &w, Times &times) {
     const Map start = before(size, w);
     const BoostTimes boost = boost_times(w, Map(start).shown(w.timed));
-    const size_t all = w.timed.size();
-    print_times(size, w, 1, map_time(start, w, all / eighth, 1), boost);
-    print_times(size, w, all, map_time(start, w, all, all), boost);
+    times.name = w.name;
+    times.batch = w.timed.size();
+    times.single.push_back(map_time(start, w, times.batch / eighth, 1));
+    times.batched.push_back(map_time(start, w, times.batch, times.batch));
+    times.bare.push_back(boost.bare);
+    times.same.push_back(boost.same);
 }
 
-void print_scaling() {
-    for (const Size &size : scale) {
-        std::printf("| %zu | %d |", size.slots, size.records);
-        for (const Workload &w : workloads(size.records, size.changes)) {
-            const size_t all = w.timed.size();
-            std::printf(" %.3f |", map_time(before(size, w), w, all, all));
-        }
-        std::printf("\n");
-        std::fflush(stdout);
+// Every workload of a size, over all runs.
+std::vector<Times> all_times(const Size &size) {
+    std::vector<Times> all(workload_count);
+    for (uint64_t run = 0; run < runs; ++run) {
+        const std::vector<Workload> drawn = workloads(first_seed + run, size.records, size.changes);
+        for (size_t k = 0; k < workload_count; ++k) run_once(size, drawn[k], all[k]);
     }
+    return all;
+}
+
+// A line of the table; Boost's columns are empty where it is not there.
+void print_line(const Size &size, const Times &t, size_t batch, double ours) {
+    std::printf("| %zu | %s | %zu | %.3f |", size.slots, t.name.c_str(), batch, ours);
+    for (const double theirs : {middle(t.bare), middle(t.same)}) {
+        if (theirs > 0) std::printf(" %.3f | %.2f |", theirs, ours / theirs);
+        else std::printf(" | |");
+    }
+    std::printf("\n");
+}
+
+void print_times(const Size &size, const std::vector<Times> &all) {
+    for (const Times &t : all) {
+        print_line(size, t, 1, middle(t.single));
+        print_line(size, t, t.batch, middle(t.batched));
+    }
+    std::fflush(stdout);
+}
+
+void print_scaling(const Size &size, const std::vector<Times> &all) {
+    std::printf("| %zu | %d |", size.slots, size.records);
+    for (const Times &t : all) std::printf(" %.3f |", middle(t.batched));
+    std::printf("\n");
 }
 
 // The pool as the inserts leave it, with as many records as the workloads have.
@@ -163,27 +200,37 @@ void print_memory(const Size &size, const Requests &inserts) {
 }
 
 // The inserts of as many records as the workloads have.
-Requests inserts(const Size &size) { return workload("", size.records, 0, [](Site &s) { return s.add(); }).before; }
+Requests inserts(const Size &size) { return workload("", first_seed, size.records, 0, [](Site &s) { return s.add(); }).before; }
+
+void print_growth(const std::vector<std::vector<Times>> &all) {
+    std::printf("\nHow the times grow, in large batches, in microseconds per request.\n\n| Slots | Records |");
+    for (const Times &t : all[0]) std::printf(" %s |", t.name.c_str());
+    std::printf("\n|---|---|---|---|---|---|---|---|\n");
+    for (size_t k = 0; k < all.size(); ++k) print_scaling(sizes[k], all[k]);
+}
 
 int main() {
     if (!HAVE_BOOST) std::printf("Boost.Geometry's headers are not installed (Debian: libboost-dev): its columns are empty.\n\n");
-    std::printf("Time per request, in microseconds, the least of %d runs. Boost, same job: it asks for the exact pair before an insert and for\n"
-                "both before an update, and sorts what a search finds. A batch of 1 pays at each call for the check that the whole pool is\n"
-                "sound and for its copy in the workspace, as document 01 demands.\n\n", times);
+    std::printf("Time per request, in microseconds, the middle of %d runs, each with a site and requests of its own. Boost, same job: it asks for\n"
+                "the exact pair before an insert and for both before an update, and sorts what a search finds. A batch of 1 pays at each call\n"
+                "for the check that the whole pool is sound and for its copy in the workspace, as document 01 demands.\n\n", static_cast<int>(runs));
     std::printf("| Slots | Requests | In a batch | dustmap | Boost, bare | dustmap / bare | Boost, same job | dustmap / same job |\n"
                 "|---|---|---|---|---|---|---|---|\n");
+    std::vector<std::vector<Times>> all;
     for (const Size &size : sizes) {
-        for (const Workload &w : workloads(size.records, size.changes)) time_workload(size, w);
+        all.push_back(all_times(size));
+        if (size.all_shown) print_times(size, all.back());
     }
     std::printf("\nThe call alone, with a batch of 0, in microseconds, and in copies of the pool: %zu one after another, the least of %d runs.\n"
                 "All pools but the sound one are refused.\n\n| Slots | Pool | Time | Copies |\n|---|---|---|---|\n", empty_calls, times);
-    for (const Size &size : sizes) print_calls(size, inserts(size));
-    std::printf("\nHow the times grow, in large batches, in microseconds per request.\n\n| Slots | Records |");
-    for (const Workload &w : workloads(scale[0].records, 0)) std::printf(" %s |", w.name.c_str());
-    std::printf("\n|---|---|---|---|---|---|---|---|\n");
-    print_scaling();
+    for (const Size &size : sizes) {
+        if (size.all_shown) print_calls(size, inserts(size));
+    }
+    print_growth(all);
     std::printf("\nMemory per record. The workspace has as many words again as the pool.\n\n"
                 "| Slots | Records | Words of the pool | Words of slots in use | Bytes of the pool | Bytes of slots in use | "
                 "Boost, bytes |\n|---|---|---|---|---|---|---|\n");
-    for (const Size &size : sizes) print_memory(size, inserts(size));
+    for (const Size &size : sizes) {
+        if (size.all_shown) print_memory(size, inserts(size));
+    }
 }

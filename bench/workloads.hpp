@@ -1,4 +1,4 @@
-// The requests to be timed, drawn once from a fixed seed and done by both.
+// The requests to be timed, drawn from a fixed seed and done by both.
 #pragma once
 
 #include <cmath>
@@ -98,14 +98,16 @@ struct Workload {
     Requests timed;
 };
 
+constexpr size_t workload_count = 6;
+
 // The side of a window that meets about so many of the records.
 inline int32_t side_for(double found, int records) {
     return static_cast<int32_t>(2.0 * reach * std::sqrt(found / records)) - widest / 2;
 }
 
 // A workload: the records are inserted, then requests are drawn by `draw`.
-template <class Draw> Workload workload(const char *name, int records, int count, Draw draw) {
-    Site site(1984);
+template <class Draw> Workload workload(const char *name, uint64_t seed, int records, int count, Draw draw) {
+    Site site(seed);
     Workload w{name, {}, {}};
     for (int k = 0; k < records; ++k) w.before.push_back(site.add());
     for (int k = 0; k < count; ++k) w.timed.push_back(draw(site));
@@ -113,15 +115,15 @@ template <class Draw> Workload workload(const char *name, int records, int count
 }
 
 // The workloads for a map of so many records. `changes` records are inserted or deleted; the pool has no room for more.
-inline std::vector<Workload> workloads(int records, int changes) {
+inline std::vector<Workload> workloads(uint64_t seed, int records, int changes) {
     const int most = 1'024;
     const int32_t few = side_for(5, records), many = side_for(records / 20.0, records);
     return {
-        workload("insert", records - changes, changes, [](Site &s) { return s.add(); }),
-        workload("search, about 5 found", records, most, [=](Site &s) { return s.look(few); }),
-        workload("search, 5 in 100 found", records, most, [=](Site &s) { return s.look(many); }),
-        workload("delete", records, changes, [](Site &s) { return s.take(); }),
-        workload("update", records, most, [](Site &s) { return s.move(); }),
-        workload("mixed", records, most, [=](Site &s) { return s.any_kind(few); }),
+        workload("insert", seed, records - changes, changes, [](Site &s) { return s.add(); }),
+        workload("search, about 5 found", seed, records, most, [=](Site &s) { return s.look(few); }),
+        workload("search, 5 in 100 found", seed, records, most, [=](Site &s) { return s.look(many); }),
+        workload("delete", seed, records, changes, [](Site &s) { return s.take(); }),
+        workload("update", seed, records, most, [](Site &s) { return s.move(); }),
+        workload("mixed", seed, records, most, [=](Site &s) { return s.any_kind(few); }),
     };
 }
