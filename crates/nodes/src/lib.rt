@@ -1,5 +1,5 @@
-// The node reader: a node by any slot number, the entry at a place of it, what an entry stands for, a node's cover. The walks of soundness,
-// search and FindLeaf read nodes by it and by `pool` alone.
+// The node reader: how many entries a node has, by any slot number, what an entry stands for, a node's cover. The walks of soundness, search
+// and FindLeaf read nodes by it and by `pool` alone.
 ghost use mathlib.Core.Path.{_≡_};
 ghost use mathlib.Core.Bool.{true};
 ghost use Prim.Native.Nat.{_-_, _<_, _≤_};
@@ -17,14 +17,6 @@ use rules::Rect;
 use rules::SlotNumber;
 
 // ---- slot numbers
-
-pub fn same_slot(a: SlotNumber, b: SlotNumber) -> bool
-    ensures { λ r. ⌜ r ≡ P.sameSlot a b ⌝ }
-{
-    let m = a.0;
-    let n = b.0;
-    m == n
-}
 
 // "a slot from 1 to N"
 pub fn is_slot(pool: &[i32], s: SlotNumber) -> bool
@@ -71,14 +63,6 @@ fn pointed_number(p: Pointer) -> RecordNumber
     }
 }
 
-// The child that an inner entry leads to.
-pub fn child(e: Entry) -> SlotNumber
-    ensures { λ r. ⌜ r ≡ P.childOf e ⌝ }
-{
-    let p = e.pointer;
-    pointed_child(p)
-}
-
 // A leaf entry's record number.
 pub fn number_of(e: Entry) -> RecordNumber
     ensures { λ r. ⌜ r ≡ P.numberOf e ⌝ }
@@ -110,24 +94,6 @@ pub fn count_at(pool: &[i32], s: SlotNumber) -> usize
         return 0;
     }
     pool::count_of(pool, t)
-}
-
-// The rectangle of the entry at place i.
-pub fn rect_at(pool: &[i32], s: SlotNumber, i: usize) -> Rect
-    requires { ⌜ L.validLength (now pool) ≡ true ⌝ }
-    requires { ⌜ i < length (P.entriesAt (L.read (now pool)) s) ⌝ }
-    ensures { λ r. ⌜ r ≡ P.entryAt (L.read (now (pool .entry))) s i .rect ⌝ }
-{
-    pool::rect_of(pool, slot_read(s), i)
-}
-
-// The entry at place i.
-pub fn entry_at(pool: &[i32], s: SlotNumber, i: usize) -> Entry
-    requires { ⌜ L.validLength (now pool) ≡ true ⌝ }
-    requires { ⌜ i < length (P.entriesAt (L.read (now pool)) s) ⌝ }
-    ensures { λ r. ⌜ r ≡ P.entryAt (L.read (now (pool .entry))) s i ⌝ }
-{
-    pool::entry_of(pool, slot_read(s), i)
 }
 
 // The child that the entry at place i leads to. Its rectangle is not read.
