@@ -28,6 +28,9 @@ constexpr uint64_t runs = 25;
 // Calls with no request are the same again and again.
 constexpr int times = 7;
 
+// How often a batch is run that is to be learnt.
+constexpr int lessons = 300;
+
 // One at a time, the call costs far more than the request, and the same for each, so a part of them will do.
 constexpr size_t eighth = 8;
 
@@ -44,9 +47,9 @@ template <class State, class Run> double took(State state, Run run) {
 }
 
 // The least time of several runs, since anything else that runs at the time can only add.
-template <class State, class Run> double least(const State &start, Run run) {
+template <class State, class Run> double least(int count, const State &start, Run run) {
     double best = std::numeric_limits<double>::infinity();
-    for (int k = 0; k < times; ++k) best = std::min(best, took(start, run));
+    for (int k = 0; k < count; ++k) best = std::min(best, took(start, run));
     return best;
 }
 
@@ -62,6 +65,16 @@ struct BoostTimes {
 };
 
 #if HAVE_BOOST
+// .. once the processor has learnt the batch.
+BoostTimes learnt_boost_times(const Workload &w) {
+    Boost start;
+    start.run(w.before, Job::bare);
+    const auto time = [&](Job job) {
+        return least(lessons, start, [&](Boost &b) { b.run(w.timed, job); }) / static_cast<double>(w.timed.size());
+    };
+    return {time(Job::bare), time(Job::same)};
+}
+
 // .. after a check that both maps find the same, in the same order, and would refuse nothing.
 BoostTimes boost_times(const Workload &w, const Shown &ours) {
     Boost start;
@@ -83,6 +96,7 @@ void print_boost_memory(const Requests &inserts) {
     std::printf(" %.1f |\n", static_cast<double>(bytes_held) / static_cast<double>(boost.records()));
 }
 #else
+BoostTimes learnt_boost_times(const Workload &) { return {}; }
 BoostTimes boost_times(const Workload &, const Shown &) { return {}; }
 void print_boost_memory(const Requests &) { std::printf(" |\n"); }
 #endif
@@ -129,22 +143,35 @@ std::vector<Times> all_times(const Size &size) {
     return all;
 }
 
+constexpr const char *heading =
+    "| Slots | Requests | In a batch | dustmap | Boost, bare | dustmap / bare | Boost, same job | dustmap / same job |\n"
+    "|---|---|---|---|---|---|---|---|\n";
+
 // A line of the table; Boost's columns are empty where it is not there.
-void print_line(const Size &size, const Times &t, size_t batch, double ours) {
-    std::printf("| %zu | %s | %zu | %.3f |", size.slots, t.name.c_str(), batch, ours);
-    for (const double theirs : {middle(t.bare), middle(t.same)}) {
+void print_line(const Size &size, const std::string &name, size_t batch, double ours, const BoostTimes &boost) {
+    std::printf("| %zu | %s | %zu | %.3f |", size.slots, name.c_str(), batch, ours);
+    for (const double theirs : {boost.bare, boost.same}) {
         if (theirs > 0) std::printf(" %.3f | %.2f |", theirs, ours / theirs);
         else std::printf(" | |");
     }
     std::printf("\n");
+    std::fflush(stdout);
 }
 
 void print_times(const Size &size, const std::vector<Times> &all) {
     for (const Times &t : all) {
-        print_line(size, t, 1, middle(t.single));
-        print_line(size, t, t.batch, middle(t.batched));
+        const BoostTimes boost{middle(t.bare), middle(t.same)};
+        print_line(size, t.name, 1, middle(t.single), boost);
+        print_line(size, t.name, t.batch, middle(t.batched), boost);
     }
-    std::fflush(stdout);
+}
+
+void print_learnt(const Size &size) {
+    for (const Workload &w : workloads(first_seed, size.records, size.changes)) {
+        const size_t batch = w.timed.size();
+        const double ours = least(lessons, before(size, w), [&](Map &m) { m.run(w.timed, batch); }) / static_cast<double>(batch);
+        print_line(size, w.name, batch, ours, learnt_boost_times(w));
+    }
 }
 
 void print_scaling(const Size &size, const std::vector<Times> &all) {
@@ -162,7 +189,7 @@ Map filled(const Size &size, const Requests &inserts) {
 
 // The time of one of several calls, or of copies, one after another.
 template <class Call> double each(const Map &map, Call call) {
-    const double all = least(map, [&](Map &m) {
+    const double all = least(times, map, [&](Map &m) {
         for (size_t k = 0; k < empty_calls; ++k) call(m);
     });
     return all / static_cast<double>(empty_calls);
@@ -214,8 +241,7 @@ int main() {
     std::printf("Time per request, in microseconds, the middle of %d runs, each with a site and requests of its own. Boost, same job: it asks for\n"
                 "the exact pair before an insert and for both before an update, and sorts what a search finds. A batch of 1 pays at each call\n"
                 "for the check that the whole pool is sound and for its copy in the workspace, as document 01 demands.\n\n", static_cast<int>(runs));
-    std::printf("| Slots | Requests | In a batch | dustmap | Boost, bare | dustmap / bare | Boost, same job | dustmap / same job |\n"
-                "|---|---|---|---|---|---|---|---|\n");
+    std::printf("%s", heading);
     std::vector<std::vector<Times>> all;
     for (const Size &size : sizes) {
         all.push_back(all_times(size));
@@ -227,6 +253,9 @@ int main() {
         if (size.all_shown) print_calls(size, inserts(size));
     }
     print_growth(all);
+    std::printf("\nOne batch again and again, in the smallest pool: the least of %d runs of the same requests, once the processor has learnt them.\n\n%s",
+                lessons, heading);
+    print_learnt(sizes[0]);
     std::printf("\nMemory per record. The workspace has as many words again as the pool.\n\n"
                 "| Slots | Records | Words of the pool | Words of slots in use | Bytes of the pool | Bytes of slots in use | "
                 "Boost, bytes |\n|---|---|---|---|---|---|---|\n");
