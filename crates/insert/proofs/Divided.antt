@@ -2,7 +2,7 @@
 -- make the two groups of the quadratic split, and what is known of the free slots stays true.
 use mathlib.Core.Path.{_≡_, refl, sym, ap, subst⁻¹, _∙_}
 use mathlib.Core.Logic.{_≢_}
-use mathlib.Core.List.{List, [], _∷_, _++_, map}
+use mathlib.Core.List.{List, [], _∷_, _++_, map, map-map}
 use Prim.Native.Nat.{ℕ, zero, suc, _≤_, _<_}
 use native.Mathlib.Omega.{arith}
 use lib.ListN.{length, getD, take, length-append, length-map}
@@ -16,10 +16,12 @@ use Rattle.rules.specs.declared.Entry.{Entry}
 use Rattle.rules.specs.declared.FreeSlot.the-variants.{At, Nowhere}
 use Rattle.rules.specs.Numbers.{most, mostSlots}
 use Rattle.rules.specs.Pool.{Node, Pool, node, entry, noEntry, nodeAt, entriesAt, entryFrom, rects, coverOf, lowestFree, putNode, putEntries}
-use Rattle.rules.specs.Split.{quadraticGroups, halves, quadraticSplit}
+use Rattle.rules.specs.Geometry.{coverAll}
+use Rattle.rules.specs.Choose.{rectFrom}
+use Rattle.rules.specs.Split.{coverGroup, quadraticGroups, halves, quadraticSplit}
 use Rattle.rules.specs.Insert.{Grown, Split, ours, splitInto, install}
 use Rattle.rules.specs.Layout.{read}
-use Rattle.rules_laws.proofs.Places.{Among, at-place}
+use Rattle.rules_laws.proofs.Places.{Among, at-place, map-same}
 use Rattle.split.specs.declared.Grouping.{Grouping}
 use Rattle.split.specs.State.{AllValid, GroupsWhole}
 use Rattle.pool.specs.Slots.{Fit, SmallAll, KindAll}
@@ -30,10 +32,8 @@ use Rattle.free_slots.proofs.LowestSlot.{lowest-at}
 use Rattle.free_slots.proofs.Known.{known-at, known-put, lowest-put}
 use Rattle.sound_laws.specs.Tree.{Slot, NodeIn, Tree}
 use Rattle.sound_laws.proofs.Walk.{no-tree, tree-node, tree-positive}
-use Rattle.sound_laws.proofs.Frame.{put-same, put-slot}
-use Rattle.sound_laws.proofs.Free.{lowest-slot}
+use Rattle.sound_laws.proofs.Frame.{put-slot}
 use Rattle.insert_laws.specs.Grown.{Fits}
-use Rattle.insert_laws.proofs.Under.{entries-are}
 use Rattle.insert_laws.proofs.Install.{putTwo, all-fit, split-none, split-at, install-room, install-full}
 use Rattle.insert.specs.declared.Growth.the-variants.{One, Two, Stuck}
 use Rattle.insert.specs.Left.{GrewTo}
@@ -93,6 +93,13 @@ module _ {p : Pool} {s : SlotNumber} {e : Entry} (h : Here p s e) where
 pub slot-kept : {p q : Pool} (s t : SlotNumber) (n : Node) → Slot p t → q ≡ putNode p s n → Slot q t
 slot-kept {p} s t n k e = rw e (put-slot p s n t .1 k)
 
+-- a group's cover by its rectangles, and by its entries
+cover-places : (es : List Entry) (places : List ℕ) → coverGroup (rects es) places ≡ coverOf (map (entryFrom es) places)
+unfolding coverGroup coverOf rects entryFrom
+cover-places es places =
+    ap coverAll (map-same (rectFrom (rects es)) (λ i. entryFrom es i .rect) places (λ i m. rect-entry es i)
+    ∙ sym (map-map (λ (e : Entry). e .rect) (entryFrom es) places))
+
 group-length : (es : List Entry) (places : List ℕ) (n : ℕ) → n ≤ length places → length (map (entryFrom es) (take n places)) ≡ n
 group-length es places n h = length-map (take n places) (entryFrom es) ∙ length-take-le n places h
 
@@ -117,7 +124,7 @@ module _ {p : Pool} {s : SlotNumber} {e : Entry} (h : Here p s e) (full : 8 ≤ 
     pub rects-are : rs ≡ rects es
     pub one : take (g .ones) (g .one) ≡ quadraticGroups rs .one
     pub two : take (g .twos) (g .two) ≡ quadraticGroups rs .two
-    pub whole : GroupsWhole g
+    pub whole : GroupsWhole rs g
 
   module _ {es : List Entry} {rs : List Rect} {g : Grouping} (a : Parts es rs g) where
     one-is : map (entryFrom es) (take (g .ones) (g .one)) ≡ quadraticSplit nine .one
@@ -132,26 +139,24 @@ module _ {p : Pool} {s : SlotNumber} {e : Entry} (h : Here p s e) (full : 8 ≤ 
         ap (map (entryFrom es)) (a .two ∙ ap (λ (xs : List Rect). quadraticGroups xs .two) (a .rects-are))
         ∙ ap (λ (xs : List Entry). map (entryFrom xs) (quadraticGroups (rects xs) .two)) (a .entries)
 
+    -- the partner's cover
+    cover-is : g .coverTwo ≡ coverOf (quadraticSplit nine .two)
+    cover-is =
+        a .whole .coverTwo ∙ ap (λ (xs : List Rect). coverGroup xs (take (g .twos) (g .two))) (a .rects-are)
+        ∙ cover-places es (take (g .twos) (g .two)) ∙ ap coverOf two-is
+
     -- the two nodes put
     module _ (l : ℕ) (at : l ≡ nodeAt p s .level) (q r : Pool)
         (first : q ≡ putNode p s (node l (map (entryFrom es) (take (g .ones) (g .one)))))
         (second : r ≡ putNode q t (node l (map (entryFrom es) (take (g .twos) (g .two))))) where
-      first-slot : Slot q t
-      first-slot = slot-kept s t _ (lowest-slot p t low) first
-
-      second-entries : entriesAt r t ≡ map (entryFrom es) (take (g .twos) (g .two))
-      second-entries = rw second (entries-are (putNode q t _) l t _ (put-same q t _ first-slot))
-
       both-are : r ≡ both
       both-are =
           second ∙ (λ i. putNode (first i) t (node l (two-is i)))
           ∙ (λ i. putNode (putNode p s (node l (one-is i))) t (node l (quadraticSplit nine .two)))
           ∙ ap (λ (k : ℕ). putTwo p s (node k (quadraticSplit nine .one)) t (node k (quadraticSplit nine .two))) at
 
-      pub split-made : (x : Rect) → x ≡ coverOf (entriesAt r t) → install ours p s e ≡ Split r (entry x (Child t))
-      split-made x c =
-          let cover : x ≡ coverOf (quadraticSplit nine .two) = c ∙ ap coverOf (second-entries ∙ two-is) in
-          split-is ∙ sym (λ i. Split (both-are i) (entry (cover i) (Child t)))
+      pub split-made : install ours p s e ≡ Split r (entry (g .coverTwo) (Child t))
+      split-made = split-is ∙ sym (λ i. Split (both-are i) (entry (cover-is i) (Child t)))
 
 -- ---- what is known then
 

@@ -132,9 +132,9 @@ fn split_node(pool: &mut [i32], s: SlotNumber, e: Entry, t: SlotNumber) -> Entry
     let ones = g.ones;
     let two = g.two;
     let twos = g.twos;
+    let rect = g.coverTwo;
     put_group(pool, s, level, nine, one, ones);
     put_group(pool, t, level, nine, two, twos);
-    let rect = nodes::cover_of(pool, t);
     Entry {
         rect,
         pointer: Pointer::Child(t),

@@ -6,6 +6,8 @@ use native.Mathlib.Omega.{arith}
 use native.Mathlib.Decide.{decLe}
 use lib.ListN.{length, take, getD}
 use lib.Seq.{length-take-le, getD-take, ext-getD}
+use Rattle.rules.specs.declared.Rect.{Rect}
+use Rattle.rules.specs.Split as S
 use Rattle.split.specs.declared.Grouping.{Grouping}
 use Rattle.split.specs.State.{GroupsWhole}
 
@@ -23,9 +25,9 @@ module _ (xs ys : List ℕ) (m n : ℕ) (long : length xs ≡ 9) (other : length
       all k (no h) =
           sym (getD-take m xs k 0 (omega (arith, h))) ∙ ap (λ (l : List ℕ). getD l k 0) e ∙ getD-take n ys k 0 (omega (arith, h, many-same))
 
-pub groups-once : (s t : Grouping) → take (s .ones) (s .one) ≡ take (t .ones) (t .one) → take (s .twos) (s .two) ≡ take (t .twos) (t .two)
-    → GroupsWhole s → GroupsWhole t → s ≡ t
-groups-once s t e f a b =
+pub groups-once : (rs : List Rect) (s t : Grouping) → take (s .ones) (s .one) ≡ take (t .ones) (t .one) → take (s .twos) (s .two) ≡ take (t .twos) (t .two)
+    → GroupsWhole rs s → GroupsWhole rs t → s ≡ t
+groups-once rs s t e f a b =
     let o : s .ones ≤ 9 = omega (arith, a .all) in
     let p : t .ones ≤ 9 = omega (arith, b .all) in
     let u : s .twos ≤ 9 = omega (arith, a .all) in
@@ -34,4 +36,5 @@ groups-once s t e f a b =
     let twos = many-same (s .two) (t .two) (s .twos) (t .twos) (a .two9) (b .two9) u v f in
     let one = places-same (s .one) (t .one) (s .ones) (t .ones) (a .one9) (b .one9) o p e (a .afterOne) (b .afterOne) in
     let two = places-same (s .two) (t .two) (s .twos) (t .twos) (a .two9) (b .two9) u v f (a .afterTwo) (b .afterTwo) in
-    λ i. record { one = one i; ones = ones i; two = two i; twos = twos i }
+    let cover = a .coverTwo ∙ ap (S.coverGroup rs) f ∙ sym (b .coverTwo) in
+    λ i. record { one = one i; ones = ones i; two = two i; twos = twos i; coverTwo = cover i }

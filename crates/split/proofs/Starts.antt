@@ -64,7 +64,7 @@ module _ {rs nine : List Rect} (same : rs ≡ nine) {t : Extents} {left one two 
   unfolding groupsOf
   ended-two = ap (λ (g : S.Groups). g .two) ended
 
-  pub ended-whole : GroupsWhole (record { one = one; ones = t .one .count; two = two; twos = t .two .count })
+  pub ended-whole : GroupsWhole nine (record { one = one; ones = t .one .count; two = two; twos = t .two .count; coverTwo = t .two .cover })
   ended-whole =
       let o = u .assigned in
       record {
@@ -77,4 +77,5 @@ module _ {rs nine : List Rect} (same : rs ≡ nine) {t : Extents} {left one two 
         inTwo = o .second .inside;
         afterOne = o .first .after;
         afterTwo = o .second .after;
+        coverTwo = o .second .cover ∙ ap (λ (xs : List Rect). S.coverGroup xs (take (t .two .count) two)) same;
       }

@@ -134,9 +134,9 @@ pub record Next (t : Extents) (left : List ℕ) (n : ℕ) (growOne growTwo : Lis
 unfoldable pub ends : List Rect → ℕ → S.Groups → S.Groups
 ends rs n g = S.distribute (S.pickNext rs) (S.joinsTwo rs) n g
 
--- what a caller may rely on beside the groups: every place has joined one, there are 3 to 6 in each, all of them places of the nine, and
--- zeros after them
-pub record GroupsWhole (t : Grouping) : Type 0 where
+-- what a caller may rely on beside the groups: every place has joined one, there are 3 to 6 in each, all of them places of the nine,
+-- zeros after them, and the cover of group 2
+pub record GroupsWhole (rs : List Rect) (t : Grouping) : Type 0 where
   pub all : t .ones + t .twos ≡ 9
   pub ones : 3 ≤ t .ones
   pub twos : 3 ≤ t .twos
@@ -146,3 +146,4 @@ pub record GroupsWhole (t : Grouping) : Type 0 where
   pub inTwo : (k : ℕ) → k < t .twos → getD (t .two) k 0 < 9
   pub afterOne : (k : ℕ) → t .ones ≤ k → getD (t .one) k 0 ≡ 0
   pub afterTwo : (k : ℕ) → t .twos ≤ k → getD (t .two) k 0 ≡ 0
+  pub coverTwo : t .coverTwo ≡ S.coverGroup rs (take (t .twos) (t .two))

@@ -442,12 +442,13 @@ fn assign(
 
 // ---- all nine
 
-// Two groups of places in the order of joining, with zeros after them.
+// Two groups of places in the order of joining, with zeros after them; and the cover of group 2, which gets an entry of its own.
 pub struct Grouping {
     pub one: [usize; NINE],
     pub ones: usize,
     pub two: [usize; NINE],
     pub twos: usize,
+    pub coverTwo: Rect,
 }
 
 // Nine rectangles in two groups, by Guttman's quadratic split. The earlier seed opens group 1.
@@ -455,7 +456,7 @@ pub fn split_nine(nine: [Rect; NINE]) -> Grouping
     requires { ⌜ AllValid nine ⌝ }
     ensures one { λ r. ⌜ take (r .ones) (r .one) ≡ S.quadraticGroups nine .one ⌝ }
     ensures two { λ r. ⌜ take (r .twos) (r .two) ≡ S.quadraticGroups nine .two ⌝ }
-    ensures whole { λ r. ⌜ GroupsWhole r ⌝ }
+    ensures whole { λ r. ⌜ GroupsWhole nine r ⌝ }
 {
     let w = flat(nine);
     let p = pick_seeds(&w);
@@ -490,10 +491,12 @@ pub fn split_nine(nine: [Rect; NINE]) -> Grouping
     }
     let first = t.one;
     let second = t.two;
+    let coverTwo = second.cover;
     Grouping {
         one,
         ones: first.count,
         two,
         twos: second.count,
+        coverTwo,
     }
 }

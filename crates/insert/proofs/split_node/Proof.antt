@@ -44,9 +44,9 @@ split-nine-requires c κs =
 
 put-group-requires : tie.Need-put-group-requires
 put-group-requires c κs =
-    let start = c .before .before .before .before .before .before .before .before .before in
-    let level-of = c .before .before .before .before .before .before .before .level-of in
-    let nine-entries = c .before .before .before .before .before .nine-entries in
+    let start = c .before .before .before .before .before .before .before .before .before .before in
+    let level-of = c .before .before .before .before .before .before .before .before .level-of in
+    let nine-entries = c .before .before .before .before .before .before .nine-entries in
     let w = start .args .pool .now in
     let h = start .pre .1 .0 in
     let r = start .pre .0 .right in
@@ -54,7 +54,7 @@ put-group-requires c κs =
     let full = start .pre .1 .1 .0 in
     let es = nine-entries .result in
     let is = nine-entries .ensures in
-    let g = c .before .before .before .split-nine .ensures .1 .1 in (
+    let g = c .before .before .before .before .split-nine .ensures .1 .1 in (
       start .pre .0,
       (
         slot-in w (start .args .s) r (here-node h .slot),
@@ -73,9 +73,9 @@ put-group-requires c κs =
 
 put-group-requires-2 : tie.Need-put-group-requires-2
 put-group-requires-2 c κs =
-    let start = c .before .before .before .before .before .before .before .before .before .before .before .before in
-    let level-of = c .before .before .before .before .before .before .before .before .before .before .level-of in
-    let nine-entries = c .before .before .before .before .before .before .before .before .nine-entries in
+    let start = c .before .before .before .before .before .before .before .before .before .before .before .before .before in
+    let level-of = c .before .before .before .before .before .before .before .before .before .before .before .level-of in
+    let nine-entries = c .before .before .before .before .before .before .before .before .before .nine-entries in
     let put-group = c .before .before .put-group in
     let w = start .args .pool .now in
     let h = start .pre .1 .0 in
@@ -85,7 +85,7 @@ put-group-requires-2 c κs =
     let low = start .pre .1 .1 .1 in
     let es = nine-entries .result in
     let is = nine-entries .ensures in
-    let g = c .before .before .before .before .before .before .split-nine .ensures .1 .1 in (
+    let g = c .before .before .before .before .before .before .before .split-nine .ensures .1 .1 in (
       put-group .ensures .1,
       (
         slot-in (put-group .last .0) (start .args .t) (put-group .ensures .1 .right)
@@ -103,25 +103,15 @@ put-group-requires-2 c κs =
       ),
     )
 
-cover-of-requires : tie.Need-cover-of-requires
-cover-of-requires c κs =
-    let s = c .before .before .before .before .before .before .before .before .before .before .before .before .before .before .before in
-    let low = s .pre .1 .1 .1 in
-    let first = c .before .before .before .before .before .put-group in
-    let second = c .before .before .put-group2 in
-    let kept = slot-kept (s .args .s) (s .args .t) _ (lowest-slot (read (s .args .pool .now)) (s .args .t) low) (first .ensures .0) in
-    slot-in (second .last .0) (s .args .t) (second .ensures .1 .right) (slot-kept (s .args .t) (s .args .t) _ kept (second .ensures .0))
-
 returns : tie.Need-returns
 returns c =
-    let at-put-group = c .before .before .before .before .before .before in
-    let start = at-put-group .before .before .before .before .before .before .before .before .before .before in
-    let level-of = at-put-group .before .before .before .before .before .before .before .before .level-of in
-    let nine-entries = at-put-group .before .before .before .before .before .before .nine-entries in
-    let rects-of = at-put-group .before .before .before .before .before .rects-of in
-    let split-nine = at-put-group .before .before .before .before .split-nine in
-    let put-group = at-put-group .put-group in
-    let put-group2 = c .before .before .before .put-group2 in
+    let start = c .before .before .before .before .before .before .before .before .before .before .before .before .before .before .before in
+    let level-of = c .before .before .before .before .before .before .before .before .before .before .before .before .before .level-of in
+    let nine-entries = c .before .before .before .before .before .before .before .before .before .before .before .nine-entries in
+    let rects-of = c .before .before .before .before .before .before .before .before .before .before .rects-of in
+    let split-nine = c .before .before .before .before .before .before .before .before .before .split-nine in
+    let put-group = c .before .before .before .before .put-group in
+    let put-group2 = c .before .put-group2 in
     let h = start .pre .1 .0 in
     let full = start .pre .1 .1 .0 in
     let low = start .pre .1 .1 .1 in
@@ -133,7 +123,7 @@ returns c =
       whole = split-nine .ensures .1 .1;
     } in (
       split-made h full low a (level-of .result) (level-of .ensures) (read (put-group .last .0)) (read (put-group2 .last .0))
-          (put-group .ensures .0) (put-group2 .ensures .0) (c .cover-of .result) (c .cover-of .ensures),
+          (put-group .ensures .0) (put-group2 .ensures .0),
       put-group2 .ensures .1,
     )
 
@@ -147,6 +137,5 @@ split-node-spec =
     split-nine-requires
     put-group-requires
     put-group-requires-2
-    cover-of-requires
     (λ c. search needs)
     returns)
