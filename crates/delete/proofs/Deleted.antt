@@ -105,8 +105,8 @@ module _ {w₀ : List ℤ} {r : Record} {way : Way} (g : ToDelete w₀ r way) wh
   pub records-small : p .records ≤ 2147483647
   records-small = omega (arith, records-few w₀ (g .fit .right) (g .whole))
 
-  -- the leaf at the end of the way
-  whole-way : ComesDown p (p .height) way
+  -- the way comes down to the pair
+  pub whole-way : ComesDown p (p .height) way
   whole-way = record {
     pair = r;
     tree = g .whole .tree;
@@ -116,10 +116,7 @@ module _ {w₀ : List ℤ} {r : Record} {way : Way} (g : ToDelete w₀ r way) wh
     high = high;
   }
 
-  pub leaf-found : InPool w₀ (nodeOn (way .nodes) 0)
-  leaf-found = in-pool (g .fit) (leaf-rewritable p way (p .height) whole-way (few-read (g .fit)) .slot)
-
-  pub found-keeps : thinAt p (nodeOn (way .nodes) 0) ≡ false → KeepsEnough p (p .height) (leafOf path)
+  found-keeps : thinAt p (nodeOn (way .nodes) 0) ≡ false → KeepsEnough p (p .height) (leafOf path)
   found-keeps thick =
       subst (KeepsEnough p (p .height)) (sym (way-leaf way (p .height) (down-high p way (p .height) whole-way)))
       (thin-keeps p (nodeOn (way .nodes) 0) thick)

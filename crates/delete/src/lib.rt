@@ -157,7 +157,7 @@ fn relieve(pool: &mut [i32], s: SlotNumber, i: usize, t: SlotNumber, asides: Asi
 
 // Whether a leaf would be left with too few entries, and leave its parent: only then is anything set aside. A root that is a leaf may have
 // any number.
-pub fn thin(pool: &[i32], leaf: SlotNumber) -> bool
+fn thin(pool: &[i32], leaf: SlotNumber) -> bool
     requires { ⌜ InPool (now pool) leaf ⌝ }
     ensures { λ r. ⌜ r ≡ thinAt (L.read (now (pool .entry))) leaf ⌝ }
 {

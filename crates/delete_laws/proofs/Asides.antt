@@ -3,6 +3,7 @@
 use mathlib.Core.Path.{_≡_, refl, sym, ap, subst, _∙_}
 use mathlib.Core.List.{List, [], _∷_, _++_, map, map-map, Memᴰ·of-map}
 use Prim.Native.Nat.{ℕ, zero, suc, _+_, _≤_}
+use lib.ListN.{length, length-map}
 use Rattle.rules.specs.declared.SlotNumber.{SlotNumber}
 use Rattle.rules.specs.declared.Entry.{Entry}
 use Rattle.rules.specs.Lists.{total, joined}
@@ -20,6 +21,10 @@ use Rattle.insert_laws.proofs.Counts.{timesOf, times-under}
 use Rattle.delete_laws.specs.Shrunk.{slotsAside, weightAside}
 
 module _ (p : Pool) where
+  pub asides-many : (s : SlotNumber) → length (asides p s) ≡ length (entriesAt p s)
+  unfolding asides
+  asides-many s = length-map (entriesAt p s) (λ (e : Entry). record { level = nodeAt p s .level; entry = e })
+
   pub slots-aside-none : slotsAside p [] ≡ []
   unfolding slotsAside
   slots-aside-none = joined-none (λ (a : Aside). slotsUnder p (a .level) (a .entry))

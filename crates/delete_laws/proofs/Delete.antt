@@ -4,7 +4,7 @@ use mathlib.Core.Logic.{_≢_}
 use mathlib.Core.Bool.{Bool, true, false}
 use mathlib.Core.List.{List, [], _∷_}
 use mathlib.Core.Option.{Option, none, some}
-use Prim.Native.Nat.{ℕ, zero, suc, _+_, _-_, _*_, _≤_}
+use Prim.Native.Nat.{ℕ, zero, suc, _+_, _-_, _≤_}
 use native.Mathlib.Omega.{arith}
 use lib.ListN.{length}
 use Rattle.rules.specs.declared.SlotNumber.{SlotNumber}
@@ -24,11 +24,12 @@ use Rattle.sound_laws.proofs.Free.{head-free}
 use Rattle.insert_laws.specs.Standing.{Standing}
 use Rattle.insert_laws.proofs.Standing.{standing-once}
 use Rattle.insert_laws.proofs.Whole.{head-standing, whole-standing, standing-whole, standing-stored, head-records}
-use Rattle.delete_laws.specs.Way.{Leads, EachWay, Found}
-use Rattle.delete_laws.specs.Shrunk.{Shrunk, Waiting, PutBack, Shortened, Deleted, EachPool, Sure, roomFor, SlotRoom, deleteRoom}
+use Rattle.delete_laws.specs.Way.{Leads, EachWay, Found, mostBack}
+use Rattle.delete_laws.specs.Shrunk.{Shrunk, Waiting, PutBack, Shortened, Deleted, EachPool, Sure, roomFor, SlotRoom}
 use Rattle.delete_laws.proofs.Finds.{find-leads}
 use Rattle.delete_laws.proofs.Held.{find-held}
 use Rattle.delete_laws.proofs.Condense.{condense-shrunk, shrunk-count, shrunk-waiting}
+use Rattle.delete_laws.proofs.Thin.{thin-head, condense-few}
 use Rattle.delete_laws.proofs.Again.{reinsert-puts}
 use Rattle.delete_laws.proofs.Spare.{room-least, reinsert-room}
 use Rattle.delete_laws.proofs.Short.{shorten-stands}
@@ -135,13 +136,24 @@ module _ (c : Choice) where
         (each-short (PutBack (out .pool) (out .setAside)) (Deleted p r) now-deleted (reinsert c (out .pool) (out .setAside))
         (reinsert-puts c lawful (out .setAside) (out .pool) waiting))
 
-    -- .. and is sure to be, with enough slots
+    -- .. and is sure to be, with enough slots for so many as are put back
+    abbrev n : ℕ
+    n = mostBack p way
+
+    few : length (out .setAside) ≤ n
+    unfolding out
+    few =
+        omega (
+          arith,
+          condense-few less r (less .height) (less .root) way (stands .tree) (standing-once less [] stands) way-leads,
+          thin-head p (p .records - 1) way,
+        )
+
     room-short : (q : Pool) → PutBack (out .pool) (out .setAside) q → SlotRoom (out .pool) (length (out .setAside)) q
-        → SlotRoom p (2 * (p .height - 1)) (shorten q)
+        → SlotRoom p n (shorten q)
     unfolding putRecords
     room-short q g k =
         let s = shorten-stands q (g .stands) in
-        let few : length (out .setAside) ≤ 2 * (p .height - 1) = omega (arith, shrunk .two-each, shrunk .fewer) in
         let same = shrunk .head .height in
         record {
           high = omega (arith, s .high, k .high, few, same);
@@ -151,14 +163,13 @@ module _ (c : Choice) where
             k .left,
             shrunk .spare,
             head-free p (p .records - 1),
-            room-least (length (out .setAside)) (2 * (p .height - 1)) (p .height) (out .pool .height) few (omega (arith, same)),
+            room-least (length (out .setAside)) n (p .height) (out .pool .height) few (omega (arith, same)),
           );
         }
 
-    back-room : deleteRoom (p .height) ≤ freeCount p → Sure (SlotRoom p (2 * (p .height - 1))) (putBack c (condense less way))
-    unfolding putRecords deleteRoom
+    back-room : roomFor n (p .height) ≤ freeCount p → Sure (SlotRoom p n) (putBack c (condense less way))
+    unfolding putRecords
     back-room room =
-        let few : length (out .setAside) ≤ 2 * (p .height - 1) = omega (arith, shrunk .two-each, shrunk .fewer) in
         let same = shrunk .head .height in
         let enough : roomFor (length (out .setAside)) (out .pool .height) ≤ freeCount (out .pool) =
         omega (
@@ -166,10 +177,10 @@ module _ (c : Choice) where
           room,
           shrunk .spare,
           head-free p (p .records - 1),
-          room-least (length (out .setAside)) (2 * (p .height - 1)) (p .height) (out .pool .height) few (omega (arith, same)),
+          room-least (length (out .setAside)) n (p .height) (out .pool .height) few (omega (arith, same)),
         ) in
         rw (← out-is, back-is out)
-        (sure-short (PutBack (out .pool) (out .setAside)) (SlotRoom (out .pool) (length (out .setAside))) (SlotRoom p (2 * (p .height - 1))) room-short
+        (sure-short (PutBack (out .pool) (out .setAside)) (SlotRoom (out .pool) (length (out .setAside))) (SlotRoom p n) room-short
         (reinsert c (out .pool) (out .setAside)) (reinsert-puts c lawful (out .setAside) (out .pool) waiting)
         (reinsert-room c lawful (out .setAside) (out .pool) waiting enough))
 
@@ -204,17 +215,16 @@ module _ (c : Choice) where
               (back-deleted lawful p w r way (subst (EachWay (Leads p r (p .height) (p .root))) h (find-leads p r (p .height) (p .root))))
 
       -- with enough slots a delete is done, and leaves as many
-      pub delete-room : Lawful c → deleteRoom (p .height) ≤ freeCount p → Sure (SlotRoom p (2 * (p .height - 1))) (deleteRecord c p r)
-      delete-room lawful room = go (pathTo p r) refl
-        where
-          go : (o : Option Path) → pathTo p r ≡ o → Sure (SlotRoom p (2 * (p .height - 1))) (deleteRecord c p r)
-          go none h = rw (delete-missing h) (record { high = omega arith; left = omega arith })
-          go (some way) h =
-              rw (delete-found way h)
-              (back-room lawful p w r way (subst (EachWay (Leads p r (p .height) (p .root))) h (find-leads p r (p .height) (p .root))) room)
+      module _ (lawful : Lawful c) (way : Path) (finds : pathTo p r ≡ some way)
+          (room : roomFor (mostBack p way) (p .height) ≤ freeCount p) where
+        pub delete-room : Sure (SlotRoom p (mostBack p way)) (deleteRecord c p r)
+        delete-room =
+            rw (delete-found way finds)
+            (back-room lawful p w r way
+            (subst (EachWay (Leads p r (p .height) (p .root))) finds (find-leads p r (p .height) (p .root))) room)
 
-      pub delete-fits : Lawful c → deleteRoom (p .height) ≤ freeCount p → deleteRecord c p r ≢ NoneFree
-      delete-fits lawful room e = subst (Sure (SlotRoom p (2 * (p .height - 1)))) e (delete-room lawful room)
+        pub delete-fits : deleteRecord c p r ≢ NoneFree
+        delete-fits e = subst (Sure (SlotRoom p (mostBack p way))) e delete-room
 
 -- what is true of the pool that a change leaves, where it leaves one
 pub pool-left : (P : Pool → Type 0) (o : Change) → ((q : Pool) → o ≡ Done q → P q) → EachPool P o

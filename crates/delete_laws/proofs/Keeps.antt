@@ -1,7 +1,6 @@
 -- A leaf that keeps enough entries, or is the root: nothing is set aside, and what CondenseTree does is to take the pair out and to make
 -- covers tight up the way. Above a cover that is tight already nothing changes: a node that is as it was has a tight cover.
 use mathlib.Core.Path.{_≡_, sym, ap, subst, subst₂, _∙_}
-use mathlib.Core.Logic.{_≢_}
 use mathlib.Core.List.{List, [], _∷_}
 use mathlib.Core.Option.{some}
 use Prim.Native.Nat.{ℕ, zero, suc, _-_, _≤_, _<_}
@@ -13,18 +12,17 @@ use Rattle.rules.specs.declared.Record.{Record}
 use Rattle.rules.specs.declared.Pointer.the-variants.{Child}
 use Rattle.rules.specs.declared.Entry.{Entry}
 use Rattle.rules.specs.Numbers.{least}
-use Rattle.rules.specs.Pool.{Node, Pool, entry, noEntry, freeNode, nodeAt, entriesAt, entryFrom, entryAt, childOf, coverOf, entryFor, freeCount, putNode, putEntries, putRecords, tighten}
-use Rattle.rules.specs.Insert.{Choice, Done, NoneFree}
+use Rattle.rules.specs.Pool.{Node, Pool, entry, noEntry, freeNode, nodeAt, entriesAt, entryFrom, entryAt, childOf, coverOf, entryFor, putNode, putEntries, putRecords, tighten}
+use Rattle.rules.specs.Insert.{Choice, Done}
 use Rattle.rules.specs.Lawful.{Lawful}
 use Rattle.rules.specs.Delete.{place, Path, Aside, Condensed, takeOut, pathTo, condense, shorten, shortened, reinsert, deleteRecord}
 use Rattle.sound_laws.specs.Tree.{slotsIn, Once, Tree, Whole}
 use Rattle.sound_laws.proofs.Frame.{entries-same}
 use Rattle.insert_laws.proofs.Beside.{childAt, among-here, child-entry, Others, tight-many}
 use Rattle.sound_laws.proofs.Apart.{once-child}
-use Rattle.sound_laws.proofs.Free.{head-free}
 use Rattle.insert_laws.proofs.Standing.{standing-once}
 use Rattle.delete_laws.specs.Way.{Leads, EachWay, leafOf, KeepsEnough}
-use Rattle.delete_laws.specs.Shrunk.{Shrunk, condensed, Sure}
+use Rattle.delete_laws.specs.Shrunk.{Shrunk, condensed}
 use Rattle.delete_laws.proofs.Condense.{leads-from, condense-one, condense-up, condense-shrunk}
 use Rattle.delete_laws.proofs.Narrow.{relieve-enough}
 use Rattle.delete_laws.proofs.Finds.{find-leads}
@@ -142,12 +140,9 @@ module _ (c : Choice) (lawful : Lawful c) (p : Pool) (w : Whole p) (r : Record) 
   left : Shrunk less (less .height) (less .root) r (condense less way)
   left = subst (Shrunk less (less .height) (less .root) r) (out-is c lawful p w r way led) (shrunk c lawful p w r way led)
 
-  pub kept-high : condense less way .pool .height ≡ p .height
+  kept-high : condense less way .pool .height ≡ p .height
   unfolding putRecords
   kept-high = left .head .height
-
-  pub kept-free : freeCount p ≤ freeCount (condense less way .pool)
-  kept-free = omega (arith, left .spare, head-free p (p .records - 1))
 
   stays-root : shorten (condense less way .pool) ≡ condense less way .pool
   unfolding putRecords entriesAt nodeAt
@@ -165,6 +160,3 @@ module _ (c : Choice) (lawful : Lawful c) (p : Pool) (w : Whole p) (r : Record) 
       let q = condense less way .pool in
       delete-found c p r way finds ∙ back-is c (condense less way) ∙ ap (λ (xs : List Aside). shortened (reinsert c q xs)) (kept .none)
       ∙ ap shortened (reinsert-none c q) ∙ short-done c q ∙ ap Done stays-root
-
-  pub kept-fits : deleteRecord c p r ≢ NoneFree
-  kept-fits e = subst (Sure (λ q. Unit {0})) (sym delete-kept ∙ e) tt

@@ -6,6 +6,7 @@ pub mod Asides
 pub mod Out
 pub mod Narrow
 pub mod Condense
+pub mod Thin
 pub mod Again
 pub mod Spare
 pub mod Short

@@ -7,7 +7,7 @@ use Prim.Native.Nat.{ℕ, suc, _≤_, _<_}
 use native.Mathlib.Decide.{decLe}
 use native.Mathlib.Omega.{arith}
 use borrow.Author.Tests.{lt-ltb, le-ltb}
-use lib.ListN.{length, length-append, length-map}
+use lib.ListN.{length, length-append}
 use Rattle.rules.specs.declared.SlotNumber.{SlotNumber}
 use Rattle.rules.specs.declared.Record.{Record}
 use Rattle.rules.specs.declared.Entry.{Entry}
@@ -30,7 +30,7 @@ use Rattle.insert_laws.proofs.Beside.{childAt, parent-node, child-entry, child-
 use Rattle.insert_laws.proofs.Beside.{Others, top-same, top-level, now-slot, beside-same, tight-many, tight-long, tight-other}
 use Rattle.insert_laws.proofs.Beside.{tight-below, tight-free, tight-head, tight-tree, tight-weighs}
 use Rattle.delete_laws.specs.Shrunk.{weightAside, Shrunk, condensed}
-use Rattle.delete_laws.proofs.Asides.{weight-aside-append, weight-asides, asides-fit, weight-aside-below}
+use Rattle.delete_laws.proofs.Asides.{asides-many, weight-aside-append, weight-asides, asides-fit, weight-aside-below}
 
 -- CT3: it has too few entries, or enough
 module _ (a : Place) (t : SlotNumber) (d : Condensed) where
@@ -189,10 +189,6 @@ module _ (p : Pool) (l : ℕ) (s : SlotNumber) (d : Tree p (suc (suc l)) s) (i :
         put-used q s (node (suc (suc l)) rest) (now-slot beside) (omega arith) (omega (arith, top-level beside)),
       )
 
-  asides-length : length (asides q child) ≡ length (entriesAt q child)
-  unfolding asides
-  asides-length = length-map (entriesAt q child) (λ (e : Entry). record { level = nodeAt q child .level; entry = e })
-
   gone-made : length (entriesAt q child) < least → Shrunk p (suc (suc l)) s r (condensed gone all)
   gone-made small = record {
     freed = child ∷ g .freed;
@@ -222,7 +218,7 @@ module _ (p : Pool) (l : ℕ) (s : SlotNumber) (d : Tree p (suc (suc l)) s) (i :
       arith,
       g .two-each,
       length-append (x .setAside) (asides q child),
-      asides-length,
+      asides-many q child,
       small,
     );
     fewer = omega (arith, g .fewer);

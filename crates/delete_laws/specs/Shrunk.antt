@@ -2,7 +2,7 @@
 use mathlib.Core.Path.{_≡_}
 use mathlib.Core.Bool.{Bool}
 use mathlib.Core.List.{List, [], _∷_, map}
-use Prim.Native.Nat.{ℕ, suc, _+_, _-_, _*_, _≤_, _<_}
+use Prim.Native.Nat.{ℕ, suc, _+_, _*_, _≤_, _<_}
 use lib.ListN.{length}
 use Rattle.rules.specs.declared.SlotNumber.{SlotNumber}
 use Rattle.rules.specs.declared.Record.{Record}
@@ -91,7 +91,3 @@ roomFor n h = n * (h + n)
 pub record SlotRoom (p : Pool) (n : ℕ) (q : Pool) : Type 0 where
   pub high : q .height ≤ p .height + n
   pub left : freeCount p ≤ freeCount q + roomFor n (p .height)
-
--- two entries set aside for each level below the root: what a delete may take
-unfoldable pub deleteRoom : ℕ → ℕ
-deleteRoom h = roomFor (2 * (h - 1)) h

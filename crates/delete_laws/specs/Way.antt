@@ -1,8 +1,10 @@
 -- The way that FindLeaf comes down.
 use mathlib.Core.Path.{_≡_}
+use mathlib.Core.Bool.{cond, _&&_}
 use mathlib.Core.List.{[], _∷_}
 use mathlib.Core.Option.{Option, none, some}
-use Prim.Native.Nat.{ℕ, zero, suc, _≤_, _<_}
+use Prim.Native.Nat.{ℕ, zero, suc, _*_, _≤_, _<_}
+use lib.Dec.{leb}
 use lib.ListN.{length}
 use Rattle.rules.specs.declared.SlotNumber.{SlotNumber}
 use Rattle.rules.specs.declared.Record.{Record}
@@ -36,3 +38,19 @@ leafOf (a ∷ b ∷ way) = leafOf (b ∷ way)
 -- a leaf at the end of l levels that is the root, or keeps enough entries when one goes out: then no node leaves its parent
 abbrev pub KeepsEnough : Pool → ℕ → SlotNumber → Type 0
 KeepsEnough p l s = 2 ≤ l → least < length (entriesAt p s)
+
+-- of the m nodes of the way below one of so many entries, the n lowest leave their parents; that one leaves too where all of them do, since
+-- only then it loses an entry, and where it has none to spare
+unfoldable pub nextLeaves : ℕ → ℕ → ℕ → ℕ
+nextLeaves m n entries = cond (leb m n && leb entries least) (suc n) n
+
+-- so many nodes leave their parents when the pair at the end of the way goes out: from the leaf up, as far as one keeps enough; the first
+-- of the way stays
+unfoldable pub thinLevels : Pool → Path → ℕ
+thinLevels p [] = 0
+thinLevels p (a ∷ []) = 0
+thinLevels p (a ∷ b ∷ way) = nextLeaves (length way) (thinLevels p (b ∷ way)) (length (entriesAt p (b .node)))
+
+-- at most so many entries are set aside then, and put back: two of each (`condense-few`)
+abbrev pub mostBack : Pool → Path → ℕ
+mostBack p way = 2 * thinLevels p way

@@ -3,5 +3,6 @@ pub mod Rows
 pub mod Sounds
 pub mod Cases
 pub mod Turns
+pub mod Leaves
 pub mod Listing
 pub mod Replaced

@@ -1,33 +1,32 @@
 -- What one request leaves: the pool in the words lent, the answer, and the records that a search lists, as items in the workspace.
 use mathlib.Core.Path.{_≡_}
-use mathlib.Core.Bool.{Bool, true, not, cond, _&&_}
+use mathlib.Core.Bool.{Bool, true, not, _&&_}
 use mathlib.Core.List.{List, []}
 use mathlib.Core.Option.{some}
-use Prim.Native.Nat.{ℕ, suc, _+_, _-_, _*_, _≤_}
-use lib.ListN.{length, getD}
+use Prim.Native.Nat.{ℕ, suc, _+_, _*_, _≤_}
+use lib.ListN.{length}
 use lib.IntN.{ℤ}
 use Rattle.rules.specs.declared.Rect.{Rect}
-use Rattle.rules.specs.declared.SlotNumber.{SlotNumber}
 use Rattle.rules.specs.declared.Record.{Record}
 use Rattle.rules.specs.declared.Request.{Request}
 use Rattle.rules.specs.declared.Asked.{Asked}
 use Rattle.rules.specs.declared.Reply.{Reply}
 use Rattle.rules.specs.declared.Reply.the-variants.{Changed, NoSlot}
 use Rattle.rules.specs.Geometry.{samePair}
-use Rattle.rules.specs.Pool.{Pool, slot, held}
+use Rattle.rules.specs.Pool.{Pool, held}
 use Rattle.rules.specs.Layout.{validLength, read}
 use Rattle.rules.specs.Sound.{sound}
 use Rattle.rules.specs.Answers.{answerOf}
 use Rattle.rules.specs.Insert.{ours}
+use Rattle.rules.specs.Delete.{Path}
 use Rattle.rules.specs.Request.{Turn, asked, request}
 use Rattle.free_slots.specs.declared.FreeSlots.{FreeSlots}
 use Rattle.free_slots.specs.Known.{Known}
 use Rattle.found_items.specs.Items.{itemsFrom, Pointing}
-use Rattle.delete_laws.specs.Shrunk.{deleteRoom}
-use Rattle.find_leaf.specs.declared.Way.{Way}
+use Rattle.delete_laws.specs.Way.{mostBack}
+use Rattle.delete_laws.specs.Shrunk.{roomFor}
 use Rattle.insert.specs.declared.Outcome.{Outcome}
 use Rattle.insert.specs.declared.Outcome.the-variants.{Made, Refused}
-use Rattle.delete.specs.Aside.{thinAt}
 use Rattle.request.specs.declared.Served.{Served}
 
 -- a sound pool, and what is known of its free slots
@@ -79,19 +78,10 @@ abbrev pub TakenBack : Outcome → List ℤ → List ℤ → List ℤ → Type 0
 TakenBack (Made f) changed copy w = w ≡ changed
 TakenBack Refused changed copy w = w ≡ copy
 
--- so many free slots are enough for an update, and for a delete, in a tree of h levels (`update-fits`, `delete-fits` of crate
--- `delete_laws`)
-unfoldable pub enoughFor : ℕ → ℕ
-enoughFor h = deleteRoom h + suc (h + 2 * (h - 1))
-
--- the leaf at the end of the way that the code has
-abbrev pub leafAt : Way → SlotNumber
-leafAt way = getD (way .nodes) 0 (slot 0)
-
--- so many are enough to take a pair out of this leaf: those of any delete and update, where it is thin; from another leaf a delete takes no
--- slot, and `more` are enough for what comes after it (`kept-fits`, `update-kept` of crate `delete_laws`)
-unfoldable pub roomFrom : Pool → SlotNumber → ℕ → ℕ
-roomFrom p leaf more = cond (thinAt p leaf) (enoughFor (p .height)) more
+-- so many free slots are enough to take out the pair at the end of the way, and to put in so many records after it: for a delete none, for
+-- an update one (`delete-fits`, `update-fits` of crate `delete_laws`)
+unfoldable pub roomFrom : Pool → Path → ℕ → ℕ
+roomFrom p way records = roomFor (mostBack p way) (p .height) + records * suc (p .height + mostBack p way)
 
 -- 6: "update: new pair held and not the old pair"
 unfoldable pub otherHeld : Pool → Record → Rect → Bool

@@ -2,7 +2,7 @@
 ghost use mathlib.Core.Path.{_≡_};
 ghost use mathlib.Core.Bool.{true, false};
 ghost use mathlib.Core.Option.{some};
-ghost use Prim.Native.Nat.{_-_, _*_, _≤_};
+ghost use Prim.Native.Nat.{_≤_};
 ghost use lib.Dec.{ltb};
 ghost use lib.ListN.{length};
 ghost use Rattle.rules.specs.declared.Asked.the-variants as K;
@@ -14,17 +14,20 @@ ghost use Rattle.rules.specs.Delete as D;
 ghost use Rattle.rules.specs.Answers as T;
 ghost use Rattle.rules.specs.Request as R;
 ghost use Rattle.rules.specs.Call.{isRequest};
-ghost use Rattle.pool.specs.Slots.{Fit, InPool};
+ghost use Rattle.pool.specs.Slots.{Fit};
 ghost use Rattle.free_slots.specs.Known.{Known};
 ghost use Rattle.sound_laws.specs.Tree.{Whole};
-ghost use Rattle.find_leaf.specs.Ways.{Gives};
+ghost use Rattle.delete_laws.specs.Way.{thinLevels};
+ghost use Rattle.find_leaf.specs.Ways.{Gives, pathOf};
+ghost use Rattle.delete.specs.Aside.{ComesDown};
 ghost use Rattle.delete.specs.Removed.{Removes};
-ghost use Rattle.request.specs.Serving.{Ready, Serves, ChangesTo, ServesTo, replied, came, TakenBack, enoughFor, leafAt, roomFrom, otherHeld};
+ghost use Rattle.request.specs.Serving.{Ready, Serves, ChangesTo, ServesTo, replied, came, TakenBack, roomFrom, otherHeld};
 use find_leaf::Way;
 use free_slots::FreeSlots;
 use insert::Outcome;
 use rules::Answer;
 use rules::Asked;
+use rules::LEAST;
 use rules::Record;
 use rules::RecordNumber;
 use rules::Rect;
@@ -191,39 +194,37 @@ fn insert(pool: &mut [i32], r: Record, free: FreeSlots) -> Served
     came_to(o, free)
 }
 
-// How many entries a delete may have to put back: two for each level below the root.
-fn most_back(h: usize) -> usize
-    requires { ⌜ h ≤ 8 ⌝ }
-    ensures is { λ r. ⌜ r ≡ 2 * (h - 1) ⌝ }
-    ensures most { λ r. ⌜ r ≤ 14 ⌝ }
-{
-    if h == 0 { 0 } else { 2 * (h - 1) }
-}
-
-// Whether free slots are so few that an update or a delete may be refused halfway: each entry put back takes at most a slot for each level
-// and one more, and the tree grows by at most one level.
-fn scarce(pool: &[i32], free: FreeSlots) -> bool
-    requires { ⌜ L.validLength (now pool) ≡ true ⌝ }
-    requires { ⌜ L.read (now pool) .height ≤ 8 ⌝ }
-    ensures { λ r. ⌜ r ≡ ltb (free .count) (enoughFor (L.read (now (pool .entry)) .height)) ⌝ }
-{
-    let h = pool::height_of(pool);
-    let n = most_back(h);
-    free.count < n * (h + n) + (h + n + 1)
-}
-
-// Whether a change that takes out the pair at the end of the way may be refused halfway. Only from a thin leaf is anything put back; from
-// another a delete takes no slot, and `more` free slots are enough for what comes after it.
-fn risky(pool: &[i32], way: Way, free: FreeSlots, more: usize) -> bool
-    requires { ⌜ InPool (now pool) (leafAt way) ⌝ }
-    requires { ⌜ L.read (now pool) .height ≤ 8 ⌝ }
-    ensures { λ r. ⌜ r ≡ ltb (free .count) (roomFrom (L.read (now (pool .entry))) (leafAt way) more) ⌝ }
+// How many nodes leave their parents when the pair at the end of the way goes out. A leaf leaves that would be left with too few entries; a
+// node above loses an entry only where its child leaves. So they are counted from the leaf up, as far as one keeps enough; the root stays.
+fn leaving(pool: &[i32], way: Way, height: usize) -> usize
+    requires { ⌜ Fit (now pool) ⌝ }
+    requires { ⌜ ComesDown (L.read (now pool)) height way ⌝ }
+    ensures is { λ r. ⌜ r ≡ thinLevels (L.read (now (pool .entry))) (pathOf height way) ⌝ }
+    ensures few { λ r. ⌜ r ≤ 7 ⌝ }
 {
     let nodes = way.nodes;
-    if delete::thin(pool, nodes[0]) {
-        return scarce(pool, free);
+    let mut k: usize = 0;
+    while k + 1 < height {
+        if LEAST < pool::count_of(pool, nodes[k]) {
+            return k;
+        }
+        k += 1;
     }
-    free.count < more
+    k
+}
+
+// Whether free slots are so few that a change may be refused halfway: one that takes out the pair at the end of the way, and then puts in
+// so many records. Only the entries of the nodes that leave are put back, fewer than the least of each. Whatever goes in takes at most a
+// slot for each level and one more, and the tree grows by at most one level.
+fn scarce(pool: &[i32], way: Way, free: FreeSlots, records: usize) -> bool
+    requires { ⌜ Fit (now pool) ⌝ }
+    requires { ⌜ ComesDown (L.read (now pool)) (L.read (now pool) .height) way ⌝ }
+    requires { ⌜ records ≤ 1 ⌝ }
+    ensures { λ r. ⌜ r ≡ ltb (free .count) (roomFrom (L.read (now (pool .entry))) (pathOf (L.read (now (pool .entry)) .height) way) records) ⌝ }
+{
+    let h = pool::height_of(pool);
+    let n = (LEAST - 1) * leaving(pool, way, h);
+    free.count < n * (h + n) + records * (h + n + 1)
 }
 
 // 3, 4 and 5, and then the pair goes out.
@@ -245,7 +246,7 @@ fn delete(pool: &mut [i32], work: &mut [i32], r: Record, free: FreeSlots) -> Ser
     if !way.found {
         return told(Reply::NotHeld, free);
     }
-    keep(pool, work, risky(pool, way, free, 0));
+    keep(pool, work, scarce(pool, way, free, 0));
     let o = delete::delete_record(pool, r, way, free);
     take_back(pool, work, o);
     came_to(o, free)
@@ -307,11 +308,7 @@ fn update(pool: &mut [i32], work: &mut [i32], old: Record, new: Rect, free: Free
     if other_held(pool, old, new) {
         return told(Reply::Held, free);
     }
-    keep(
-        pool,
-        work,
-        risky(pool, way, free, pool::height_of(pool) + 1),
-    );
+    keep(pool, work, scarce(pool, way, free, 1));
     let o = replace(pool, old, new, way, free);
     take_back(pool, work, o);
     came_to(o, free)

@@ -1,9 +1,10 @@
 use mathlib.Core.Path.{refl, sym, _∙_}
+use native.Mathlib.Omega.{arith}
 use Rattle.rules_laws.proofs.Bools.{not-true, not-false}
 use Rattle.rules.specs.declared.Asked.the-variants.{Delete}
 use Rattle.rules.specs.declared.Reply.the-variants.{BadRectangle, BadNumber, NotHeld}
-use Rattle.find_leaf.proofs.Held.{shows-held, low-enough}
-use Rattle.delete.proofs.Deleted.{leaf-found}
+use Rattle.find_leaf.proofs.Held.{shows-held}
+use Rattle.delete.proofs.Deleted.{whole-way}
 use Rattle.request.proofs.Turns.{ready-fit, ready-whole, row-applies, to-delete, delete-changes}
 use Rattle.request.proofs.Rows.{delete-3, delete-4, delete-5}
 use borrow.Author.Needs.{needs}
@@ -58,15 +59,17 @@ returns-3 c =
       refl,
     )
 
-risky-requires : tie.Need-risky-requires
-risky-requires c κs =
+scarce-requires : tie.Need-scarce-requires
+scarce-requires c κs =
     let start = c .before .before .before .before .before .before .before .before .before .before .before .before in
     let find-leaf = c .before .before .before .before .find-leaf in
     let if3 = c .before .before .if3 in (
-      leaf-found (to-delete (start .args .pool .now) (start .args .free) (start .pre .0) (start .args .r) (find-leaf .result)
-          (not-false _ (if3 .left)) (find-leaf .ensures)),
-      low-enough (start .args .pool .now) ((start .pre .0) .right)
-          (ready-whole (start .args .pool .now) (start .args .free) (start .pre .0)),
+      ready-fit (start .args .pool .now) (start .args .free) (start .pre .0),
+      (
+        whole-way (to-delete (start .args .pool .now) (start .args .free) (start .pre .0) (start .args .r) (find-leaf .result)
+            (not-false _ (if3 .left)) (find-leaf .ensures)),
+        omega arith,
+      ),
     )
 
 keep-requires : tie.Need-keep-requires
@@ -97,15 +100,15 @@ take-back-requires c κs =
 
 returns-4 : tie.Need-returns-4
 returns-4 c =
-    let at-risky = c .before .before .before .before .before .before .before .before .before .before in
-    let start = at-risky .before .before .before .before .before .before .before .before .before .before .before .before .before in
-    let valid = at-risky .before .before .before .before .before .before .before .before .before .before .valid in
-    let if1 = at-risky .before .before .before .before .before .before .before .before .before .if1 in
-    let good-number = at-risky .before .before .before .before .before .before .before .before .good-number in
-    let if2 = at-risky .before .before .before .before .before .before .before .if2 in
-    let find-leaf = at-risky .before .before .before .before .before .find-leaf in
-    let if3 = at-risky .before .before .before .if3 in
-    let risky = at-risky .risky in
+    let at-scarce = c .before .before .before .before .before .before .before .before .before .before in
+    let start = at-scarce .before .before .before .before .before .before .before .before .before .before .before .before .before in
+    let valid = at-scarce .before .before .before .before .before .before .before .before .before .before .valid in
+    let if1 = at-scarce .before .before .before .before .before .before .before .before .before .if1 in
+    let good-number = at-scarce .before .before .before .before .before .before .before .before .good-number in
+    let if2 = at-scarce .before .before .before .before .before .before .before .if2 in
+    let find-leaf = at-scarce .before .before .before .before .before .find-leaf in
+    let if3 = at-scarce .before .before .before .if3 in
+    let scarce = at-scarce .scarce in
     let keep = c .before .before .before .before .before .before .before .before .before .keep in
     let delete-record = c .before .before .before .before .before .before .delete-record in
     let take-back = c .before .before .take-back in
@@ -116,7 +119,7 @@ returns-4 c =
           (find-leaf .ensures))
           ∙ not-false _ (if3 .left)) (find-leaf .result)
           (to-delete (start .args .pool .now) (start .args .free) (start .pre .0) (start .args .r) (find-leaf .result) (not-false _ (if3 .left))
-          (find-leaf .ensures)) _ (λ e. keep .ensures .1 (risky .ensures ∙ e)) _ _ (delete-record .ensures) _ (search needs)
+          (find-leaf .ensures)) _ _ (scarce .ensures) (keep .ensures .1) _ _ (delete-record .ensures) _ (search needs)
           (take-back .ensures),
       keep .ensures .0,
     )
@@ -135,7 +138,7 @@ delete-spec =
     (λ c κs. search needs)
     (λ c. search needs)
     returns-3
-    risky-requires
+    scarce-requires
     keep-requires
     delete-record-requires
     take-back-requires

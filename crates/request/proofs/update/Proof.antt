@@ -3,8 +3,8 @@ use native.Mathlib.Omega.{arith}
 use Rattle.rules_laws.proofs.Bools.{not-true, not-false}
 use Rattle.rules.specs.declared.Asked.the-variants.{Update}
 use Rattle.rules.specs.declared.Reply.the-variants.{BadRectangle, BadNumber, NotHeld, Held}
-use Rattle.find_leaf.proofs.Held.{shows-held, low-enough}
-use Rattle.delete.proofs.Deleted.{leaf-found}
+use Rattle.find_leaf.proofs.Held.{shows-held}
+use Rattle.delete.proofs.Deleted.{whole-way}
 use Rattle.request.proofs.Turns.{ready-fit, ready-whole, row-applies, to-delete, update-changes}
 use Rattle.request.proofs.Rows.{update-old, update-new, update-4, update-5, update-6}
 use borrow.Author.Needs.{needs}
@@ -106,38 +106,28 @@ returns-5 c =
       refl,
     )
 
-height-of-requires : tie.Need-height-of-requires
-height-of-requires c κs =
-    let start = c .before .before .before .before .before .before .before .before .before .before .before .before .before .before .before .before .before in
-    (start .pre .0) .right
-
-add-risky : tie.Need-add-risky
-add-risky c =
-    let start = c .before .before .before .before .before .before .before .before .before .before .before .before .before .before .before .before .before .before in
-    let low = low-enough (start .args .pool .now) ((start .pre .0) .right)
-    (ready-whole (start .args .pool .now) (start .args .free) (start .pre .0)) in
-    omega (arith, c .height-of .ensures, low)
-
-risky-requires : tie.Need-risky-requires
-risky-requires c κs =
-    let at-find-leaf = c .before .before .before .before .before .before .before .before in
+scarce-requires : tie.Need-scarce-requires
+scarce-requires c κs =
+    let at-find-leaf = c .before .before .before .before .before .before .before in
     let start = at-find-leaf .before .before .before .before .before .before .before .before .before .before in
     let find-leaf = at-find-leaf .find-leaf in
-    let if4 = c .before .before .before .before .before .before .if4 in (
-      leaf-found (to-delete (start .args .pool .now) (start .args .free) (start .pre .0) (start .args .old) (find-leaf .result)
-          (not-false _ (if4 .left)) (find-leaf .ensures)),
-      low-enough (start .args .pool .now) ((start .pre .0) .right)
-          (ready-whole (start .args .pool .now) (start .args .free) (start .pre .0)),
+    let if4 = c .before .before .before .before .before .if4 in (
+      ready-fit (start .args .pool .now) (start .args .free) (start .pre .0),
+      (
+        whole-way (to-delete (start .args .pool .now) (start .args .free) (start .pre .0) (start .args .old) (find-leaf .result)
+            (not-false _ (if4 .left)) (find-leaf .ensures)),
+        omega arith,
+      ),
     )
 
 keep-requires : tie.Need-keep-requires
 keep-requires c κs =
-    let start = c .before .before .before .before .before .before .before .before .before .before .before .before .before .before .before .before .before .before .before in
+    let start = c .before .before .before .before .before .before .before .before .before .before .before .before .before .before .before .before .before .before in
     sym (start .pre .1)
 
 replace-requires : tie.Need-replace-requires
 replace-requires c κs =
-    let at-if4 = c .before .before .before .before .before .before .before .before .before .before in
+    let at-if4 = c .before .before .before .before .before .before .before .before .before in
     let start = at-if4 .before .before .before .before .before .before .before .before .before .before .before .before in
     let valid2 = at-if4 .before .before .before .before .before .before .before .valid2 in
     let if2 = at-if4 .before .before .before .before .before .before .if2 in
@@ -164,14 +154,14 @@ replace-requires c κs =
 take-back-requires : tie.Need-take-back-requires
 take-back-requires c κs =
     let at-keep = c .before .before .before .before .before .before in
-    let start = at-keep .before .before .before .before .before .before .before .before .before .before .before .before .before .before .before .before .before .before .before .before in
+    let start = at-keep .before .before .before .before .before .before .before .before .before .before .before .before .before .before .before .before .before .before .before in
     let keep = at-keep .keep in
     let replace = c .before .before .before .replace in
     keep .ensures .0 ∙ start .pre .1 ∙ sym (replace .kept .0)
 
 returns-6 : tie.Need-returns-6
 returns-6 c =
-    let at-if5 = c .before .before .before .before .before .before .before .before .before .before .before .before .before .before in
+    let at-if5 = c .before .before .before .before .before .before .before .before .before .before .before .before .before in
     let start = at-if5 .before .before .before .before .before .before .before .before .before .before .before .before .before .before .before in
     let valid = at-if5 .before .before .before .before .before .before .before .before .before .before .before .before .valid in
     let if1 = at-if5 .before .before .before .before .before .before .before .before .before .before .before .if1 in
@@ -183,8 +173,7 @@ returns-6 c =
     let if4 = at-if5 .before .before .before .if4 in
     let other-held = at-if5 .before .other-held in
     let if5 = at-if5 .if5 in
-    let height-of = c .before .before .before .before .before .before .before .before .before .before .before .height-of in
-    let risky = c .before .before .before .before .before .before .before .before .before .before .risky in
+    let scarce = c .before .before .before .before .before .before .before .before .before .before .scarce in
     let keep = c .before .before .before .before .before .before .before .before .before .keep in
     let replace = c .before .before .before .before .before .before .replace in
     let take-back = c .before .before .take-back in
@@ -196,7 +185,7 @@ returns-6 c =
           ∙ not-false _ (if4 .left)) (find-leaf .result)
           (to-delete (start .args .pool .now) (start .args .free) (start .pre .0) (start .args .old) (find-leaf .result)
           (not-false _ (if4 .left)) (find-leaf .ensures)) _ (start .args .new) (sym (valid2 .ensures) ∙ not-false _ (if2 .left))
-          (sym (other-held .ensures) ∙ if5 .left) _ (omega (arith, height-of .ensures)) (λ e. keep .ensures .1 (risky .ensures ∙ e)) _ _
+          (sym (other-held .ensures) ∙ if5 .left) _ (scarce .ensures) (keep .ensures .1) _ _
           (replace .ensures) _ (search needs) (take-back .ensures),
       keep .ensures .0,
     )
@@ -222,9 +211,7 @@ update-spec =
     (λ c κs. search needs)
     (λ c. search needs)
     returns-5
-    height-of-requires
-    add-risky
-    risky-requires
+    scarce-requires
     keep-requires
     replace-requires
     take-back-requires
