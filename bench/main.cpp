@@ -147,11 +147,18 @@ constexpr const char *heading =
     "| Slots | Requests | In a batch | dustmap | Boost, bare | dustmap / bare | Boost, same job | dustmap / same job |\n"
     "|---|---|---|---|---|---|---|---|\n";
 
+// How many times as long as Boost's, run by run, the middle one: what else the machine does at the time slows both.
+double ratio(const std::vector<double> &ours, const std::vector<double> &theirs) {
+    std::vector<double> all;
+    for (size_t k = 0; k < ours.size(); ++k) all.push_back(ours[k] / theirs[k]);
+    return middle(all);
+}
+
 // A line of the table; Boost's columns are empty where it is not there.
-void print_line(const Size &size, const std::string &name, size_t batch, double ours, const BoostTimes &boost) {
-    std::printf("| %zu | %s | %zu | %.3f |", size.slots, name.c_str(), batch, ours);
-    for (const double theirs : {boost.bare, boost.same}) {
-        if (theirs > 0) std::printf(" %.3f | %.2f |", theirs, ours / theirs);
+void print_line(const Size &size, const Times &t, size_t batch, const std::vector<double> &ours) {
+    std::printf("| %zu | %s | %zu | %.3f |", size.slots, t.name.c_str(), batch, middle(ours));
+    for (const std::vector<double> &theirs : {t.bare, t.same}) {
+        if (theirs[0] > 0) std::printf(" %.3f | %.2f |", middle(theirs), ratio(ours, theirs));
         else std::printf(" | |");
     }
     std::printf("\n");
@@ -160,9 +167,8 @@ void print_line(const Size &size, const std::string &name, size_t batch, double 
 
 void print_times(const Size &size, const std::vector<Times> &all) {
     for (const Times &t : all) {
-        const BoostTimes boost{middle(t.bare), middle(t.same)};
-        print_line(size, t.name, 1, middle(t.single), boost);
-        print_line(size, t.name, t.batch, middle(t.batched), boost);
+        print_line(size, t, 1, t.single);
+        print_line(size, t, t.batch, t.batched);
     }
 }
 
@@ -170,7 +176,8 @@ void print_learnt(const Size &size) {
     for (const Workload &w : workloads(first_seed, size.records, size.changes)) {
         const size_t batch = w.timed.size();
         const double ours = least(lessons, before(size, w), [&](Map &m) { m.run(w.timed, batch); }) / static_cast<double>(batch);
-        print_line(size, w.name, batch, ours, learnt_boost_times(w));
+        const BoostTimes boost = learnt_boost_times(w);
+        print_line(size, {w.name, batch, {}, {ours}, {boost.bare}, {boost.same}}, batch, {ours});
     }
 }
 
@@ -238,7 +245,7 @@ void print_growth(const std::vector<std::vector<Times>> &all) {
 
 int main() {
     if (!HAVE_BOOST) std::printf("Boost.Geometry's headers are not installed (Debian: libboost-dev): its columns are empty.\n\n");
-    std::printf("Time per request, in microseconds, the middle of %d runs, each with a site and requests of its own. Boost, same job: it asks for\n"
+    std::printf("Time per request, in microseconds, the middle of %d runs, each with a site and requests of its own, and so are the ratios. Boost, same job: it asks for\n"
                 "the exact pair before an insert and for both before an update, and sorts what a search finds. A batch of 1 pays at each call\n"
                 "for the check that the whole pool is sound and for its copy in the workspace, as document 01 demands.\n\n", static_cast<int>(runs));
     std::printf("%s", heading);
