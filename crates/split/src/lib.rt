@@ -489,12 +489,11 @@ pub fn split_nine(nine: [Rect; NINE]) -> Grouping
         );
         n -= 1;
     }
-    let first = t.one;
     let second = t.two;
     let coverTwo = second.cover;
     Grouping {
         one,
-        ones: first.count,
+        ones: t.one.count,
         two,
         twos: second.count,
         coverTwo,

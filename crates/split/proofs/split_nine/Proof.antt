@@ -99,10 +99,10 @@ loop-again c =
 
 returns : tie.Need-returns Inv-loop μ-loop
 returns c =
-    let at-loop = c .before .before .before .before in
+    let at-loop = c .before .before .before in
     let flat = at-loop .before .before .before .before .before .before .before .before .before .before .before .before .before .before .before .before .flat in
     let loop = at-loop .loop in
-    let loop-test = c .before .before .before .loop-test in
+    let loop-test = c .before .before .loop-test in
     let u = loop .inv in
     let z : loop .n ≡ 0 = omega (arith, loop-test .left) in
     (ended-one (flat .ensures .1) u z, (ended-two (flat .ensures .1) u z, ended-whole (flat .ensures .1) u z))
