@@ -50,14 +50,16 @@ def record(ns):
     return f"record {{ number = number ({integer(ns[0])}); rect = {rect(ns[1:])} }}"
 
 
-KINDS = {"insert": 1, "delete": 2, "update": 3, "search": 4}
+# the words that a script has for requests, with their kinds; the last three are the modes of a search, which have a window and no number
+KINDS = {"insert": 1, "delete": 2, "update": 3, "search": 4, "inside": 5, "enclosing": 6}
+SEARCHES = ("search", "inside", "enclosing")
 
 
 def request(line):
     """A line of a script as a request of ten words."""
     kind, *ns = line.split()
     ns = [int(n) for n in ns]
-    number, rest = (0, ns) if kind == "search" else (ns[0], ns[1:])
+    number, rest = (0, ns) if kind in SEARCHES else (ns[0], ns[1:])
     first, second = rest[:4], (rest[4:] + [0] * 4)[:4]
     return f"asking {KINDS[kind]} ({integer(number)}) {rect(first)} {rect(second)}"
 

@@ -11,7 +11,7 @@ use Rattle.rules.specs.declared.Record.{Record}
 use Rattle.rules.specs.declared.Entry.{Entry}
 use Rattle.rules.specs.Lists.{without}
 use Rattle.rules.specs.Numbers.{least}
-use Rattle.rules.specs.Geometry.{meets, samePair}
+use Rattle.rules.specs.Compare.{compared, isMeeting, exactPair}
 use Rattle.rules.specs.Pool.{Pool, nodeAt, entriesAt, entryAt, childOf, recordOf, putEntries, zeroSlot, putRoot, putRecords, tighten, isLeaf}
 use Rattle.rules.specs.Insert.{Choice, Change, Done, NoneFree, insertAt, insertRecord}
 
@@ -32,7 +32,7 @@ Path = List Place
 -- FL2: the first of the leaf's entries, from place i on, that is the pair
 unfoldable pub findEntry : Record → SlotNumber → ℕ → List Entry → Option Path
 findEntry r s i [] = none
-findEntry r s i (e ∷ es) = elim (samePair r (recordOf e)) [ true ↦ some (place s i ∷ []) | false ↦ findEntry r s (suc i) es ]
+findEntry r s i (e ∷ es) = elim (exactPair r (recordOf e)) [ true ↦ some (place s i ∷ []) | false ↦ findEntry r s (suc i) es ]
 
 -- the way on from place i, or else what the later entries give
 unfoldable pub orLater : SlotNumber → ℕ → Option Path → Option Path → Option Path
@@ -43,7 +43,7 @@ orLater s i none later = later
 unfoldable pub findChild : (SlotNumber → Option Path) → Rect → SlotNumber → ℕ → List Entry → Option Path
 findChild find r s i [] = none
 findChild find r s i (e ∷ es) =
-    elim (meets (e .rect) r) [
+    elim (isMeeting (compared (e .rect) r)) [
       | true ↦ orLater s i (find (childOf e)) (findChild find r s (suc i) es)
       | false ↦ findChild find r s (suc i) es
     ]

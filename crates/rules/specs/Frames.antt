@@ -74,8 +74,12 @@ requestIn k n a b = record { kind = k; number = number n; first = a; second = b 
 unfoldable pub ofKind : Frame → ℕ → ℕ → Bool
 ofKind f k n = eqb (f .kind) k && eqb (length (f .body)) (4 * n)
 
--- "Kind 1 insert and 2 delete: number, rectangle (length 22). 3 update: number, old, new (38). 4 search: window (18)." Lengths count the
--- kind's two bytes too. Any other kind or length is a bad frame
+-- a search of the kind k: it has no number
+unfoldable pub windowIn : ℤ → List ℕ → Request
+windowIn k body = requestIn k (pos 0) (rectIn (wordValues 4 body) 0) noRect
+
+-- "Kind 1 insert and 2 delete: number, rectangle (length 22). 3 update: number, old, new (38). 4 search: window (18)." Req 01: "kinds 5 and 6,
+-- of the same layout". Lengths count the kind's two bytes too. Any other kind or length is a bad frame
 unfoldable pub frameRequest : Frame → Option Request
 frameRequest f =
     firstRow (
@@ -83,7 +87,9 @@ frameRequest f =
     ∷ row (ofKind f 2 5) (requestIn (pos 2) (wordAt (wordValues 5 (f .body)) 0) (rectIn (wordValues 5 (f .body)) 1) noRect)
     ∷ row (ofKind f 3 9)
     (requestIn (pos 3) (wordAt (wordValues 9 (f .body)) 0) (rectIn (wordValues 9 (f .body)) 1) (rectIn (wordValues 9 (f .body)) 5))
-    ∷ row (ofKind f 4 4) (requestIn (pos 4) (pos 0) (rectIn (wordValues 4 (f .body)) 0) noRect)
+    ∷ row (ofKind f 4 4) (windowIn (pos 4) (f .body))
+    ∷ row (ofKind f 5 4) (windowIn (pos 5) (f .body))
+    ∷ row (ofKind f 6 4) (windowIn (pos 6) (f .body))
     ∷ [])
 
 -- ---- lines

@@ -3,6 +3,7 @@ pub mod Mixed
 pub mod TwoLevels
 pub mod DeleteRefused
 pub mod UpdateRefused
+pub mod Modes
 use mathlib.Core.List.{List, _++_, map}
 use Prim.Native.Nat.{ℕ}
 use lib.ListN.{length, take, replicate}
@@ -38,6 +39,12 @@ update n old new = asking 3 (pos n) old new
 
 abbrev pub search : Rect → Request
 search window = asking 4 (pos 0) window noRect
+
+abbrev pub searchInside : Rect → Request
+searchInside window = asking 5 (pos 0) window noRect
+
+abbrev pub searchEnclosing : Rect → Request
+searchEnclosing window = asking 6 (pos 0) window noRect
 
 -- ---- histories
 

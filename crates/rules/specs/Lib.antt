@@ -1,8 +1,9 @@
 -- Document 01 as definitions, in the document's order. `call` in Call.antt is the top, and everything else is a part of it; of document 02,
--- Doubles and Survey are Req 03.
+-- Compare is Req 01, and Doubles and Survey are Req 03.
 pub mod Lists
 pub mod Numbers
 pub mod Geometry
+pub mod Compare
 pub mod Pool
 pub mod Layout
 pub mod Sound
@@ -21,4 +22,5 @@ pub mod Survey
 pub mod Computed
 pub mod Histories
 pub mod Examples
+pub mod ModeExamples
 pub mod SurveyExamples

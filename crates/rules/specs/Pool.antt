@@ -15,7 +15,8 @@ use Rattle.rules.specs.declared.Entry.{Entry}
 use Rattle.rules.specs.declared.FreeSlot.{FreeSlot}
 use Rattle.rules.specs.declared.FreeSlot.the-variants.{At, Nowhere}
 use Rattle.rules.specs.Lists.{those, oneOf, joined, upFrom}
-use Rattle.rules.specs.Geometry.{noRect, coverAll, samePair}
+use Rattle.rules.specs.Geometry.{noRect, coverAll}
+use Rattle.rules.specs.Compare.{exactPair}
 
 -- "Level 0 is free, 1 a leaf." The entries are those in use; the count is their number
 pub record Node : Type 0 where
@@ -112,7 +113,7 @@ stored p = map recordOf (joined (map (λ (n : Node). n .entries) (those isLeaf (
 
 -- a pair is held where some leaf has it
 unfoldable pub held : Pool → Record → Bool
-held p r = oneOf (samePair r) (stored p)
+held p r = oneOf (exactPair r) (stored p)
 
 -- "the lowest free slot", of the nodes from slot s on
 unfoldable pub freeFrom : ℕ → List Node → FreeSlot

@@ -11,25 +11,31 @@ use Rattle.rules.specs.declared.Record.{Record}
 use Rattle.rules.specs.declared.Request.{Request}
 use Rattle.rules.specs.declared.Asked.{Asked}
 use Rattle.rules.specs.declared.Asked.the-variants.{Insert, Delete, Update, Search}
+use Rattle.rules.specs.declared.Mode.{Mode}
+use Rattle.rules.specs.declared.Mode.the-variants.{Meeting, OnlyInside, OnlyEnclosing}
 use Rattle.rules.specs.declared.Reply.{Reply}
 use Rattle.rules.specs.declared.Reply.the-variants.{Changed, Listed, BadRectangle, BadNumber, NotHeld, Held, NoSlot, NoRoom}
 use Rattle.rules.specs.Lists.{same}
 use Rattle.rules.specs.Numbers.{goodNumber}
-use Rattle.rules.specs.Geometry.{valid, samePair}
+use Rattle.rules.specs.Geometry.{valid}
+use Rattle.rules.specs.Compare.{exactPair}
 use Rattle.rules.specs.Pool.{Pool, held}
 use Rattle.rules.specs.Search.{found, opened}
 use Rattle.rules.specs.Insert.{Choice, Change, Done, NoneFree, insertRecord}
 use Rattle.rules.specs.Delete.{deleteRecord, updateRecord}
 use Rattle.rules.specs.Answers.{row, firstRow}
 
--- "A request is of one of the four kinds; fields that its kind doesn't use are not looked at". Any other kind is no request
+-- "A request is of one of the four kinds; fields that its kind doesn't use are not looked at". Req 01: "kind 4 keeps meeting; kinds 5 and 6,
+-- of the same layout, are inside and enclosing". Any other kind is no request
 unfoldable pub asked : Request → Option Asked
 asked q =
     firstRow (
     row (same (q .kind) (pos 1)) (Insert (record { number = q .number; rect = q .first }))
     ∷ row (same (q .kind) (pos 2)) (Delete (record { number = q .number; rect = q .first }))
     ∷ row (same (q .kind) (pos 3)) (Update (record { number = q .number; rect = q .first }) (q .second))
-    ∷ row (same (q .kind) (pos 4)) (Search (q .first))
+    ∷ row (same (q .kind) (pos 4)) (Search Meeting (q .first))
+    ∷ row (same (q .kind) (pos 5)) (Search OnlyInside (q .first))
+    ∷ row (same (q .kind) (pos 6)) (Search OnlyEnclosing (q .first))
     ∷ [])
 
 -- what a request leaves: the pool, the reply, and the records that a search lists
@@ -71,15 +77,15 @@ updateFault p old new =
     row (not (valid (old .rect)) || not (valid new)) BadRectangle
     ∷ row (not (goodNumber (old .number))) BadNumber
     ∷ row (not (held p old)) NotHeld
-    ∷ row (held p (record { number = old .number; rect = new }) && not (samePair old (record { number = old .number; rect = new }))) Held
+    ∷ row (held p (record { number = old .number; rect = new }) && not (exactPair old (record { number = old .number; rect = new }))) Held
     ∷ [])
 
 -- 3 and 8 for a search: "more found than places left in the found list"
-unfoldable pub searchFault : Pool → ℕ → Rect → Option Reply
-searchFault p room window =
+unfoldable pub searchFault : Pool → ℕ → Mode → Rect → Option Reply
+searchFault p room mode window =
     firstRow (
     row (not (valid window)) BadRectangle
-    ∷ row (ltb room (length (found p window))) (NoRoom (length (found p window)) (opened p window))
+    ∷ row (ltb room (length (found p mode window))) (NoRoom (length (found p mode window)) (opened p window))
     ∷ [])
 
 -- a request done in a pool, with `filled` places of the found list filled and `room` left
@@ -90,8 +96,8 @@ request c p filled room (Delete r) =
     elim (deleteFault p r) [ some reply ↦ turn p reply [] | none ↦ afterChange p (deleteRecord c p r) ]
 request c p filled room (Update old new) =
     elim (updateFault p old new) [ some reply ↦ turn p reply [] | none ↦ afterChange p (updateRecord c p old new) ]
-request c p filled room (Search window) =
-    elim (searchFault p room window) [
+request c p filled room (Search mode window) =
+    elim (searchFault p room mode window) [
       | some reply ↦ turn p reply []
-      | none ↦ turn p (Listed (length (found p window)) filled (opened p window)) (found p window)
+      | none ↦ turn p (Listed (length (found p mode window)) filled (opened p window)) (found p mode window)
     ]

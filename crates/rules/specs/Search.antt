@@ -6,22 +6,27 @@ use Rattle.rules.specs.declared.Rect.{Rect}
 use Rattle.rules.specs.declared.SlotNumber.{SlotNumber}
 use Rattle.rules.specs.declared.Record.{Record}
 use Rattle.rules.specs.declared.Entry.{Entry}
+use Rattle.rules.specs.declared.Mode.{Mode}
 use Rattle.rules.specs.Lists.{those, joined, total, lessThen}
-use Rattle.rules.specs.Geometry.{meets}
+use Rattle.rules.specs.Compare.{compared, isMeeting, wanted}
 use Rattle.rules.specs.Pool.{Pool, entriesAt, childOf, recordOf}
 
--- the entries "whose entry rectangle meets the window"
+-- the entries "whose entry rectangle meets the window". Req 01: "All modes open the nodes whose cover meets the window."
 unfoldable pub meeting : Rect → List Entry → List Entry
-meeting window es = those (λ (e : Entry). meets (e .rect) window) es
+meeting window es = those (λ (e : Entry). isMeeting (compared (e .rect) window)) es
+
+-- a leaf's entries that a search of the mode lists
+unfoldable pub listedBy : Mode → Rect → List Entry → List Entry
+listedBy mode window es = those (λ (e : Entry). wanted mode (compared (e .rect) window)) es
 
 -- S1 and S2: "Search descends from the root and opens every child whose entry rectangle meets the window": what it finds from the node at s
 -- down, which has the level given
-unfoldable pub foundIn : Pool → Rect → ℕ → SlotNumber → List Record
-foundIn p window zero s = []
-foundIn p window (suc zero) s = map recordOf (meeting window (entriesAt p s))
-foundIn p window (suc (suc l)) s = joined (map (λ (e : Entry). foundIn p window (suc l) (childOf e)) (meeting window (entriesAt p s)))
+unfoldable pub foundIn : Pool → Mode → Rect → ℕ → SlotNumber → List Record
+foundIn p mode window zero s = []
+foundIn p mode window (suc zero) s = map recordOf (listedBy mode window (entriesAt p s))
+foundIn p mode window (suc (suc l)) s = joined (map (λ (e : Entry). foundIn p mode window (suc l) (childOf e)) (meeting window (entriesAt p s)))
 
--- .. and how many nodes it opens
+-- .. and how many nodes it opens, in every mode
 unfoldable pub openedIn : Pool → Rect → ℕ → SlotNumber → ℕ
 openedIn p window zero s = 0
 openedIn p window (suc zero) s = 1
@@ -45,11 +50,11 @@ ordered [] = []
 ordered (r ∷ rs) = placed r (ordered rs)
 
 -- what is found from the root down, in the order in which the search meets it
-abbrev pub foundFromRoot : Pool → Rect → List Record
-foundFromRoot p window = foundIn p window (p .height) (p .root)
+abbrev pub foundFromRoot : Pool → Mode → Rect → List Record
+foundFromRoot p mode window = foundIn p mode window (p .height) (p .root)
 
-unfoldable pub found : Pool → Rect → List Record
-found p window = ordered (foundFromRoot p window)
+unfoldable pub found : Pool → Mode → Rect → List Record
+found p mode window = ordered (foundFromRoot p mode window)
 
 -- "The root is always opened."
 unfoldable pub opened : Pool → Rect → ℕ

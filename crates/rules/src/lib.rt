@@ -58,7 +58,25 @@ pub enum FreeSlot {
     Nowhere,
 }
 
-// A place of the lent request list. `kind` is 1 insert, 2 delete, 3 update, 4 search; `first` is the
+// Req 01: "The comparison of two rectangles shall now say apart, inside, enclosing, equal or otherwise meeting": what the first is to the
+// second.
+pub enum Relation {
+    Apart,
+    Inside,
+    Enclosing,
+    Equal,
+    OtherwiseMeeting,
+}
+
+// "A search carries one of three modes": it lists every record that meets the window, "only records inside the window, or only those that
+// enclose it".
+pub enum Mode {
+    Meeting,
+    OnlyInside,
+    OnlyEnclosing,
+}
+
+// A place of the lent request list. `kind` is 1 insert, 2 delete, 3 update, 4 search, 5 search inside, 6 search enclosing; `first` is the
 // rectangle inserted, deleted or to be replaced, or the window; `second` is an update's new one.
 #[repr(C)]
 pub struct Request {
@@ -68,12 +86,12 @@ pub struct Request {
     pub second: Rect,
 }
 
-// "A request is of one of the four kinds", with the fields that its kind uses and no other.
+// "A request is of one of the four kinds", with the fields that its kind uses and no other. A search has its mode and its window.
 pub enum Asked {
     Insert(Record),
     Delete(Record),
     Update(Record, Rect),
-    Search(Rect),
+    Search(Mode, Rect),
 }
 
 // The outcome of a request: a case for each row of the table of document 01 that speaks of requests.
