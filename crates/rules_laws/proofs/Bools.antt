@@ -31,6 +31,12 @@ pub not-false : (b : Bool) → not b ≡ false → b ≡ true
 not-false true e = refl
 not-false false e = sym e
 
+-- two tests that each follow from the other have the same answer
+pub same-test : (p q : Bool) → (p ≡ true → q ≡ true) → (q ≡ true → p ≡ true) → p ≡ q
+same-test true q f g = sym (f refl)
+same-test false true f g = g refl
+same-test false false f g = refl
+
 pub leb-same : (a b c d : ℕ) → (a ≤ b → c ≤ d) → (b < a → d < c) → leb a b ≡ leb c d
 leb-same a b c d f g = go (leb a b) refl
   where

@@ -4,6 +4,7 @@ pub mod Places
 pub mod Parts
 pub mod Sums
 pub mod Joins
+pub mod Compares
 pub mod Earliest
 pub mod Picks
 pub mod Splits

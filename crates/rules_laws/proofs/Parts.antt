@@ -82,6 +82,18 @@ module _ {A : Type 0} where
   those-nothing t [] h = those-none t
   those-nothing t (x ∷ xs) h = those-no t x xs (h x (List·Memᴰ·head refl)) ∙ those-nothing t xs (λ y m. h y (List·Memᴰ·tail m))
 
+  -- two tests with the same answers
+  pub those-same : (s t : A → Bool) (xs : List A) → ((x : A) → Among x xs → s x ≡ t x) → those s xs ≡ those t xs
+  those-same s t [] h = rw (those-none s, those-none t)
+  those-same s t (x ∷ xs) h = go (s x) refl (those-same s t xs (λ y m. h y (List·Memᴰ·tail m)))
+    where
+      here : s x ≡ t x
+      here = h x (List·Memᴰ·head refl)
+
+      go : (b : Bool) → s x ≡ b → those s xs ≡ those t xs → those s (x ∷ xs) ≡ those t (x ∷ xs)
+      go true e r = rw (those-yes s x xs e, those-yes t x xs (sym here ∙ e), r)
+      go false e r = rw (those-no s x xs e, those-no t x xs (sym here ∙ e), r)
+
   -- one test, and then another
   pub those-and : (a b : A → Bool) (xs : List A) → those (λ x. a x && b x) xs ≡ those b (those a xs)
   those-and a b [] = rw (those-none a, those-none b, those-none (λ x. a x && b x))

@@ -9,8 +9,8 @@ use Rattle.rules.specs.declared.Rect.{Rect}
 use Rattle.rules.specs.declared.Entry.{Entry}
 use Rattle.rules.specs.Geometry.{meets, smaller, larger, cover, coverAll}
 use Rattle.rules.specs.Pool.{rects, coverOf}
-use Rattle.rules_laws.proofs.Bools.{and-both}
-use Rattle.rules_laws.proofs.Orders.{at-most-on, never-both, ltZ-strict, not-less, at-most-self}
+use Rattle.rules_laws.proofs.Orders.{never-both, ltZ-strict, not-less, at-most-self}
+use Rattle.rules_laws.proofs.Compares.{HoldsRect, holds-self, holds-on, holds-meets}
 use Rattle.rules_laws.proofs.Places.{Among}
 
 -- ---- numbers
@@ -37,52 +37,6 @@ larger-both a b = go (leZ a b) refl
     go : (t : Bool) → leZ a b ≡ t → (leZ a (cond t b a) ≡ true) × (leZ b (cond t b a) ≡ true)
     go true p = (p, at-most-self b)
     go false p = (at-most-self a, at-least a b p)
-
--- ---- rectangles
-
--- a holds b
-pub record HoldsRect (a b : Rect) : Type 0 where
-  pub lowX : leZ (a .lowX) (b .lowX) ≡ true
-  pub lowY : leZ (a .lowY) (b .lowY) ≡ true
-  pub highX : leZ (b .highX) (a .highX) ≡ true
-  pub highY : leZ (b .highY) (a .highY) ≡ true
-
-pub holds-self : (a : Rect) → HoldsRect a a
-holds-self a = record {
-  lowX = at-most-self (a .lowX);
-  lowY = at-most-self (a .lowY);
-  highX = at-most-self (a .highX);
-  highY = at-most-self (a .highY);
-}
-
-pub holds-on : {a b c : Rect} → HoldsRect a b → HoldsRect b c → HoldsRect a c
-holds-on {a} {b} {c} h k = record {
-  lowX = at-most-on (a .lowX) (b .lowX) (c .lowX) (h .lowX) (k .lowX);
-  lowY = at-most-on (a .lowY) (b .lowY) (c .lowY) (h .lowY) (k .lowY);
-  highX = at-most-on (c .highX) (b .highX) (a .highX) (k .highX) (h .highX);
-  highY = at-most-on (c .highY) (b .highY) (a .highY) (k .highY) (h .highY);
-}
-
--- what holds something that meets a window meets it too
-pub holds-meets : {a b : Rect} (window : Rect) → HoldsRect a b → meets b window ≡ true → meets a window ≡ true
-unfolding meets
-holds-meets {a} {b} w h m =
-    let q = and-both _ (leZ (w .lowY) (b .highY)) m in
-    let r = and-both _ (leZ (b .lowY) (w .highY)) (q .0) in
-    let s = and-both (leZ (b .lowX) (w .highX)) (leZ (w .lowX) (b .highX)) (r .0) in
-    rw (
-      at-most-on (a .lowX) (b .lowX) (w .highX) (h .lowX) (s .0),
-      at-most-on (w .lowX) (b .highX) (a .highX) (s .1) (h .highX),
-      at-most-on (a .lowY) (b .lowY) (w .highY) (h .lowY) (r .1),
-      at-most-on (w .lowY) (b .highY) (a .highY) (q .1) (h .highY),
-    )
-
-pub holds-misses : {a b : Rect} (window : Rect) → HoldsRect a b → meets a window ≡ false → meets b window ≡ false
-holds-misses {a} {b} window h n = go (meets b window) refl
-  where
-    go : (t : Bool) → meets b window ≡ t → t ≡ false
-    go true m = never-both (holds-meets window h m) n
-    go false m = refl
 
 -- ---- covers
 

@@ -10,6 +10,7 @@ use lib.ListN.{length}
 use Rattle.rules.specs.declared.Rect.{Rect}
 use Rattle.rules.specs.declared.SlotNumber.{SlotNumber}
 use Rattle.rules.specs.declared.Record.{Record}
+use Rattle.rules.specs.declared.Mode.{Mode}
 use Rattle.rules.specs.Lists.{those}
 use Rattle.rules.specs.Geometry.{samePair}
 use Rattle.rules.specs.Pool.{Pool, slotNumbers, nodeAt, stored}
@@ -21,17 +22,14 @@ use Rattle.sound_laws.specs.Tree.{treeSlots, Whole}
 use Rattle.sound_laws.proofs.Whole.{used-in}
 use Rattle.sound_laws.proofs.Heights.{height-records}
 use Rattle.sound_laws.proofs.Sound.{sound-whole}
-use Rattle.search_laws.specs.Window.{recordMeets, nodeMeets, otherNode}
+use Rattle.search_laws.specs.Window.{recordWanted, nodeMeets, otherNode}
 use Rattle.search_laws.specs.Order.{Alike}
 use Rattle.search_laws.proofs.Found.{found-alike}
 use Rattle.search_laws.proofs.Opened.{opened-tree}
 use Rattle.search_laws.proofs.Order.{alike-back, alike-among, ordered-alike, ordered-same}
 
+-- in every mode
 module _ (p : Pool) (w : Whole p) (window : Rect) where
-  pub search-exact : found p window ≡ ordered (those (recordMeets window) (stored p))
-  unfolding found
-  search-exact = ordered-same (foundFromRoot p window) (those (recordMeets window) (stored p)) (found-alike p window w)
-
   pub opened-exact : opened p window ≡ suc (length (those (nodeMeets p window) (those (otherNode p) (slotNumbers p))))
   opened-exact =
       opened-tree p window w
@@ -46,36 +44,41 @@ module _ (p : Pool) (w : Whole p) (window : Rect) where
       other : SlotNumber → Bool
       other s = not (isRoot p s)
 
+module _ (p : Pool) (w : Whole p) (mode : Mode) (window : Rect) where
+  pub search-exact : found p mode window ≡ ordered (those (recordWanted mode window) (stored p))
+  unfolding found
+  search-exact = ordered-same (foundFromRoot p mode window) (those (recordWanted mode window) (stored p)) (found-alike p mode window w)
+
   -- ---- what follows from this
 
-  found-stored : Alike (found p window) (those (recordMeets window) (stored p))
-  found-stored = rw search-exact (ordered-alike (those (recordMeets window) (stored p)))
+  found-stored : Alike (found p mode window) (those (recordWanted mode window) (stored p))
+  found-stored = rw search-exact (ordered-alike (those (recordWanted mode window) (stored p)))
 
-  -- a record is found where it is stored and meets the window
-  pub among-found : (r : Record) → Among r (found p window) ↔ (Among r (stored p) × (recordMeets window r ≡ true))
+  -- a record is found where it is stored and the mode wants it
+  pub among-found : (r : Record) → Among r (found p mode window) ↔ (Among r (stored p) × (recordWanted mode window r ≡ true))
   among-found r = (
     λ m. stand .0 (alike-among found-stored r m),
     λ h. alike-among (alike-back found-stored) r (stand .1 h),
   )
     where
-      stand : Among r (those (recordMeets window) (stored p)) ↔ (Among r (stored p) × (recordMeets window r ≡ true))
-      stand = among-those (recordMeets window) r (stored p)
+      stand : Among r (those (recordWanted mode window) (stored p)) ↔ (Among r (stored p) × (recordWanted mode window r ≡ true))
+      stand = among-those (recordWanted mode window) r (stored p)
 
   -- nothing is found more often than it is stored; so no pair is found twice where none is stored twice
-  pub found-fewer : (q : Record → Bool) → length (those q (found p window)) ≤ length (those q (stored p))
-  found-fewer q = omega (arith, found-stored .each q, count-fewer q (recordMeets window) (stored p))
+  pub found-fewer : (q : Record → Bool) → length (those q (found p mode window)) ≤ length (those q (stored p))
+  found-fewer q = omega (arith, found-stored .each q, count-fewer q (recordWanted mode window) (stored p))
 
-  pub found-once : ((x : Record) → length (those (samePair x) (stored p)) ≤ 1) → (x : Record) → length (those (samePair x) (found p window)) ≤ 1
+  pub found-once : ((x : Record) → length (those (samePair x) (stored p)) ≤ 1) → (x : Record) → length (those (samePair x) (found p mode window)) ≤ 1
   found-once h x = omega (arith, h x, found-fewer (samePair x))
 
 -- ---- of a sound pool
 
-pub record Exact (p : Pool) (window : Rect) : Type 0 where
-  pub finds : found p window ≡ ordered (those (recordMeets window) (stored p))
+pub record Exact (p : Pool) (mode : Mode) (window : Rect) : Type 0 where
+  pub finds : found p mode window ≡ ordered (those (recordWanted mode window) (stored p))
   pub opens : opened p window ≡ suc (length (those (nodeMeets p window) (those (otherNode p) (slotNumbers p))))
   pub high : (p .height ≡ 1) ⊎ (2 * 3 ^ (p .height - 1) ≤ p .records)
 
-pub sound-exact : (p : Pool) → soundPool p ≡ true → (window : Rect) → Exact p window
-sound-exact p s window =
+pub sound-exact : (p : Pool) → soundPool p ≡ true → (mode : Mode) (window : Rect) → Exact p mode window
+sound-exact p s mode window =
     let w = sound-whole p s in
-    record { finds = search-exact p w window; opens = opened-exact p w window; high = height-records p w }
+    record { finds = search-exact p w mode window; opens = opened-exact p w window; high = height-records p w }

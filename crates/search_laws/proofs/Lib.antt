@@ -4,4 +4,6 @@ pub mod Clauses
 pub mod Found
 pub mod Opened
 pub mod Order
+pub mod Modes
 pub mod Exact
+pub mod Site

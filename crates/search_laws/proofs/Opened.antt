@@ -23,8 +23,8 @@ use Rattle.sound_laws.specs.Tree.{slotsIn, treeSlots, Tree, Whole}
 use Rattle.sound_laws.proofs.Tests.{root-is}
 use Rattle.sound_laws.proofs.Walk.{slots-leaf, slots-inner, no-tree, inner-of, among-cases}
 use Rattle.sound_laws.proofs.Whole.{all-once}
+use Rattle.rules_laws.proofs.Compares.{HoldsRect, holds-self, holds-on, holds-misses}
 use Rattle.search_laws.specs.Window.{nodeMeets}
-use Rattle.search_laws.proofs.Covers.{HoldsRect, holds-self, holds-on, holds-misses}
 use Rattle.search_laws.proofs.Clauses.{opened-leaf, opened-inner}
 use Rattle.search_laws.proofs.Found.{child-holds}
 

@@ -1,14 +1,22 @@
--- Whether a record, or the node of a slot, meets a window, wherever it is in the tree.
+-- Whether a search is to list a record, and whether the node of a slot meets its window, wherever they are in the tree.
 use mathlib.Core.Bool.{Bool, not, _&&_}
+use lib.IntN.{pos, negsuc}
 use Rattle.rules.specs.declared.Rect.{Rect}
 use Rattle.rules.specs.declared.SlotNumber.{SlotNumber}
 use Rattle.rules.specs.declared.Record.{Record}
+use Rattle.rules.specs.declared.Mode.{Mode}
 use Rattle.rules.specs.Geometry.{meets}
-use Rattle.rules.specs.Pool.{Pool, nodeAt, entriesAt, coverOf}
+use Rattle.rules.specs.Compare.{compared, wanted}
+use Rattle.rules.specs.Pool.{Pool, rectangle, nodeAt, entriesAt, coverOf}
 use Rattle.rules.specs.Sound.{inUse, isRoot}
 
-abbrev pub recordMeets : Rect → Record → Bool
-recordMeets window r = meets (r .rect) window
+-- a record, by what its rectangle is to the window
+abbrev pub recordWanted : Mode → Rect → Record → Bool
+recordWanted mode window r = wanted mode (compared (r .rect) window)
+
+-- the whole site: "Coordinates: -1,000,000,000 to 1,000,000,000."
+abbrev pub wholeSite : Rect
+wholeSite = rectangle (negsuc 999999999) (negsuc 999999999) (pos 1000000000) (pos 1000000000)
 
 -- a node, by the smallest rectangle that holds its entries
 abbrev pub nodeMeets : Pool → Rect → SlotNumber → Bool

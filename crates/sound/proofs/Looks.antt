@@ -20,7 +20,7 @@ use Rattle.rules.specs.Geometry.{valid, smaller, larger, cover, coverAll}
 use Rattle.rules.specs.Choose.{rectFrom}
 use Rattle.rules.specs.Pool.{Pool, number, noEntry, nodeAt, entriesAt, entryAt, entryFrom, rects, coverOf}
 use Rattle.rules.specs.Layout.{pointerWord, pointerPlace, wordAt, read}
-use Rattle.rules_laws.proofs.Bools.{and-both, both-and}
+use Rattle.rules_laws.proofs.Bools.{and-both, both-and, same-test}
 use Rattle.rules_laws.proofs.Orders.{never-both, at-most-on}
 use Rattle.rules_laws.proofs.Everies.{every-is}
 use Rattle.rules_laws.proofs.Places.{Among, place-of}
@@ -31,16 +31,11 @@ use Rattle.pool.proofs.Written.{pointer-number}
 use Rattle.nodes.specs.Reading.{pointedNumber}
 use Rattle.nodes.proofs.Pointers.{number-is}
 use Rattle.nodes.proofs.Covers.{ahead, first, step}
-use Rattle.search_laws.proofs.Covers.{HoldsRect, cover-of-holds}
+use Rattle.rules_laws.proofs.Compares.{HoldsRect}
+use Rattle.search_laws.proofs.Covers.{cover-of-holds}
 use Rattle.sound_laws.specs.Tree.{LeafEntry}
 use Rattle.sound.specs.Walked.{upright, plainEntry}
 use Rattle.sound.proofs.Everies.{every-more, every-none}
-
--- two tests that hold together
-pub same-test : (a b : Bool) → (a ≡ true → b ≡ true) → (b ≡ true → a ≡ true) → a ≡ b
-same-test true b f g = sym (f refl)
-same-test false true f g = g refl
-same-test false false f g = refl
 
 -- ---- rectangles
 

@@ -15,7 +15,7 @@ use Rattle.rules.specs.Lists.{every}
 use Rattle.rules.specs.Pool.{Node, Pool, slot, freeNode, slotNumbers, nodeAt, stored}
 use Rattle.rules.specs.Layout.{slotStart, validLength, nodeWords, headWords, read}
 use Rattle.rules.specs.Sound.{isSlot, recordsSound, soundPool, nothingElse, sound}
-use Rattle.rules_laws.proofs.Bools.{and-both, both-and}
+use Rattle.rules_laws.proofs.Bools.{and-both, both-and, same-test}
 use Rattle.rules_laws.proofs.Orders.{never-both}
 use Rattle.rules_laws.proofs.Everies.{every-is}
 use Rattle.rules_laws.proofs.Places.{getD-alike}
@@ -34,7 +34,6 @@ use Rattle.sound_laws.proofs.Sound.{sound-is-whole}
 use Rattle.sound_laws.proofs.Heights.{height-eight}
 use Rattle.sound.specs.Walked.{markOf, Unmet, Marked, TidySlot, SoundRoot, RootAnswer, metOrZero, headSound}
 use Rattle.sound.proofs.Everies.{slots-at}
-use Rattle.sound.proofs.Looks.{same-test}
 
 -- no slot is marked before the walk
 abbrev pub unmarked : List ℕ

@@ -1,5 +1,5 @@
 -- The tests of sameness say that two things are equal: each at most the other is the same number, and a thing is its parts.
-use mathlib.Core.Path.{_≡_, refl, ap}
+use mathlib.Core.Path.{_≡_, refl, ap, subst}
 use mathlib.Core.Logic.{_↔_}
 use mathlib.Core.Bool.{true}
 use lib.IntN.{ℤ}
@@ -9,10 +9,12 @@ use Rattle.rules.specs.declared.Rect.{Rect}
 use Rattle.rules.specs.declared.SlotNumber.{SlotNumber}
 use Rattle.rules.specs.declared.Record.{Record}
 use Rattle.rules.specs.Lists.{same}
-use Rattle.rules.specs.Geometry.{sameRect, samePair}
+use Rattle.rules.specs.Geometry.{meets, sameRect, samePair}
+use Rattle.rules.specs.Compare.{compared, isEqual, exactPair}
 use Rattle.rules.specs.Pool.{sameSlot}
 use Rattle.rules_laws.proofs.Bools.{and-both, both-and}
 use Rattle.rules_laws.proofs.Orders.{both-at-most, at-most-self}
+use Rattle.rules_laws.proofs.Compares.{equal-same, same-equal}
 
 pub same-is : (a b : ℤ) → (same a b ≡ true) ↔ (a ≡ b)
 unfolding same
@@ -48,6 +50,19 @@ same-pair a b = (to, λ e. rw (e, same-is (b .number .0) (b .number .0) .1 refl,
     to h =
         let q = and-both (same (a .number .0) (b .number .0)) (sameRect (a .rect) (b .rect)) h in
         λ i. record { number = record { 0 = same-is (a .number .0) (b .number .0) .0 (q .0) i }; rect = same-rect (a .rect) (b .rect) .0 (q .1) i }
+
+-- an exact pair by the comparison is the same pair; and a pair is exactly itself, where no low of it is above its high
+pub exact-same : (a b : Record) → exactPair a b ≡ true → a ≡ b
+unfolding exactPair
+exact-same a b h =
+    let q = and-both (same (a .number .0) (b .number .0)) (isEqual (compared (a .rect) (b .rect))) h in
+    λ i. record { number = record { 0 = same-is (a .number .0) (b .number .0) .0 (q .0) i }; rect = equal-same (a .rect) (b .rect) (q .1) i }
+
+pub exact-self : (a b : Record) → meets (a .rect) (a .rect) ≡ true → a ≡ b → exactPair a b ≡ true
+unfolding exactPair
+exact-self a b m e =
+    subst (λ (x : Record). exactPair a x ≡ true) e
+    (both-and (same (a .number .0) (a .number .0)) (isEqual (compared (a .rect) (a .rect))) (same-is (a .number .0) (a .number .0) .1 refl) (same-equal (a .rect) m))
 
 pub same-slot : (s t : SlotNumber) → (sameSlot s t ≡ true) ↔ (s ≡ t)
 unfolding sameSlot

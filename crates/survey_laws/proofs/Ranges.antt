@@ -12,7 +12,7 @@ use lib.Ieee.Exact.{HasValue}
 use lib.Ieee.Scale.{finite}
 use borrow.Author.Tests.{leb-true}
 use Rattle.rules.specs.Doubles.{Double, unit, minusSign, withSign, millimetres, isNumber, exactOf, floorOf, ceilingOf}
-use Rattle.rules_laws.proofs.Bools.{and-both, both-and}
+use Rattle.rules_laws.proofs.Bools.{and-both, both-and, same-test}
 use Rattle.rules_laws.proofs.Orders.{at-most-on}
 use Rattle.survey_laws.specs.Sizes.{sizeOf, NumberWithin, spans}
 use Rattle.rules.specs.Numbers.{inRange}
@@ -20,12 +20,6 @@ use Rattle.rules.specs.Survey.{inOrder, moderate}
 use Rattle.survey_laws.proofs.Values.{unit-pos, number-is, own-value, le-value}
 use Rattle.survey_laws.proofs.Linear.{over, under, le-parts, parts-le, le-or, over-mul, under-mul, over-neg, under-neg}
 use Rattle.survey_laws.proofs.Floors.{more, floor-is, ceiling-is}
-
--- ---- tests
-pub same-test : (p q : Bool) → (p ≡ true → q ≡ true) → (q ≡ true → p ≡ true) → p ≡ q
-same-test true q f g = sym (f refl)
-same-test false true f g = g refl
-same-test false false f g = refl
 
 -- ---- whole millimetres
 pub whole-le : (n k : ℤ) → leZ (millimetres n) (millimetres k) ≡ true → leZ n k ≡ true

@@ -1,0 +1,69 @@
+-- Over a window that holds every record stored, a search of mode inside finds what one of mode meeting finds: each record then lies in the
+-- window, and so meets it too. The whole site is such a window, since every record stored has a valid rectangle.
+use mathlib.Core.Path.{_≡_, sym, ap, _∙_}
+use mathlib.Core.Bool.{true, _&&_}
+use lib.IntN.{ℤ, pos, negsuc}
+use lib.Signed.{leZ}
+use Rattle.rules.specs.declared.Rect.{Rect}
+use Rattle.rules.specs.declared.Record.{Record}
+use Rattle.rules.specs.declared.Mode.the-variants.{Meeting, OnlyInside}
+use Rattle.rules.specs.Numbers.{inRange, goodNumber}
+use Rattle.rules.specs.Geometry.{valid}
+use Rattle.rules.specs.Pool.{Pool, stored}
+use Rattle.rules.specs.Search.{ordered, found}
+use Rattle.rules_laws.proofs.Bools.{and-both}
+use Rattle.rules_laws.proofs.Places.{Among}
+use Rattle.rules_laws.proofs.Parts.{those-same}
+use Rattle.rules_laws.proofs.Compares.{HoldsRect, valid-meets, held-meets, meets-is, wanted-inside, wanted-meeting}
+use Rattle.sound_laws.specs.Tree.{treeRecords, Whole}
+use Rattle.sound_laws.proofs.Whole.{stored-in}
+use Rattle.search_laws.specs.Window.{recordWanted, wholeSite}
+use Rattle.search_laws.specs.Order.{Alike}
+use Rattle.search_laws.proofs.Order.{alike-among}
+use Rattle.search_laws.proofs.Found.{record-good}
+use Rattle.search_laws.proofs.Exact.{search-exact}
+
+-- a record that is stored is as a leaf entry is to be
+pub stored-good : (p : Pool) → Whole p → (r : Record) → Among r (stored p) → (valid (r .rect) ≡ true) × (goodNumber (r .number) ≡ true)
+stored-good p w r m = record-good p (p .height) (p .root) (w .tree) r (alike-among stored-alike r m)
+  where
+    stored-alike : Alike (stored p) (treeRecords p)
+    stored-alike = record { each = stored-in p w }
+
+between : (z : ℤ) → inRange z ≡ true → (leZ (negsuc 999999999) z ≡ true) × (leZ z (pos 1000000000) ≡ true)
+unfolding inRange
+between z h = and-both (leZ (negsuc 999999999) z) (leZ z (pos 1000000000)) h
+
+pub site-holds : (r : Rect) → valid r ≡ true → HoldsRect wholeSite r
+unfolding valid
+site-holds r v =
+    let lows = inRange (r .lowX) && inRange (r .lowY) in
+    let a = and-both _ (leZ (r .lowY) (r .highY)) v in
+    let b = and-both _ (leZ (r .lowX) (r .highX)) (a .0) in
+    let c = and-both (lows && inRange (r .highX)) (inRange (r .highY)) (b .0) in
+    let d = and-both lows (inRange (r .highX)) (c .0) in
+    let e = and-both (inRange (r .lowX)) (inRange (r .lowY)) (d .0) in
+    record {
+      lowX = between (r .lowX) (e .0) .0;
+      lowY = between (r .lowY) (e .1) .0;
+      highX = between (r .highX) (d .1) .1;
+      highY = between (r .highY) (c .1) .1;
+    }
+
+module _ (p : Pool) (w : Whole p) where
+  pub inside-all : (window : Rect) → ((r : Record) → Among r (stored p) → HoldsRect window (r .rect))
+      → found p OnlyInside window ≡ found p Meeting window
+  inside-all window h =
+      search-exact p w OnlyInside window
+      ∙ ap ordered (those-same (recordWanted OnlyInside window) (recordWanted Meeting window) (stored p) same)
+      ∙ sym (search-exact p w Meeting window)
+    where
+      same : (r : Record) → Among r (stored p) → recordWanted OnlyInside window r ≡ recordWanted Meeting window r
+      same r m =
+          let v = stored-good p w r m .0 in
+          wanted-inside (r .rect) window v .1 (h r m)
+          ∙ sym (wanted-meeting (r .rect) window v .1 (meets-is (r .rect) window .0 (held-meets (r .rect) window (valid-meets (r .rect) v) (h r m))))
+
+  -- for planners: over the whole site, inside is meeting
+  pub whole-site : found p OnlyInside wholeSite ≡ found p Meeting wholeSite
+  whole-site = inside-all wholeSite (λ r m. site-holds (r .rect) (stored-good p w r m .0))
