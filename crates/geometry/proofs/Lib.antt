@@ -2,4 +2,5 @@
 pub mod Ints
 pub mod Measures
 pub mod Rects
+pub mod Relations
 pub mod Rules

@@ -1,4 +1,4 @@
-// Rectangles of whole millimetres and their measures, as document 01 has them. It knows nothing of nodes or pools.
+// Rectangles of whole millimetres, their comparison and their measures, as documents 01 and 02 have them. It knows nothing of nodes or pools.
 // A measure that cannot be negative is a u64; d can be, and is counted from -8,000,000,000,000,000,000.
 ghost use mathlib.Core.Path.{_≡_};
 ghost use mathlib.Core.Bool.{true, cond, not, _&&_, _||_};
@@ -8,9 +8,12 @@ ghost use lib.Signed.{leZ};
 ghost use Rattle.rules.specs.Lists as L;
 ghost use Rattle.rules.specs.Numbers as N;
 ghost use Rattle.rules.specs.Geometry as G;
+ghost use Rattle.rules.specs.Compare as C;
+use rules::Mode;
 use rules::Record;
 use rules::RecordNumber;
 use rules::Rect;
+use rules::Relation;
 
 // ---- truths and comparisons
 
@@ -72,7 +75,7 @@ pub fn valid(r: Rect) -> bool
 }
 
 // Touching counts.
-pub fn meets(a: Rect, b: Rect) -> bool
+fn meets(a: Rect, b: Rect) -> bool
     ensures { λ r. ⌜ r ≡ G.meets a b ⌝ }
 {
     let x = and(le(a.lowX, b.highX), le(b.lowX, a.highX));
@@ -92,13 +95,110 @@ fn same_number(a: RecordNumber, b: RecordNumber) -> bool
     same(a.0, b.0)
 }
 
-// The same number and the same rectangle.
-pub fn same_pair(a: Record, b: Record) -> bool
-    ensures { λ r. ⌜ r ≡ G.samePair a b ⌝ }
+// ---- Req 01: the comparison, and the questions on it
+
+// Whether a lies in b. A side may lie on a side.
+pub fn lies_in(a: Rect, b: Rect) -> bool
+    ensures { λ r. ⌜ r ≡ C.liesIn a b ⌝ }
+{
+    let low = and(le(b.lowX, a.lowX), le(b.lowY, a.lowY));
+    and(and(low, le(a.highX, b.highX)), le(a.highY, b.highY))
+}
+
+// Two that meet, by whether the first lies in the second, and the second in the first.
+fn meeting_as(inside: bool, enclosing: bool) -> Relation
+    ensures { λ r. ⌜ r ≡ C.meetingAs inside enclosing ⌝ }
+{
+    if inside {
+        if enclosing {
+            Relation::Equal
+        } else {
+            Relation::Inside
+        }
+    } else {
+        if enclosing {
+            Relation::Enclosing
+        } else {
+            Relation::OtherwiseMeeting
+        }
+    }
+}
+
+// "apart, inside, enclosing, equal or otherwise meeting": what a is to b. All three answers are there before the first is looked at, so that
+// nothing branches on them; where only one question is asked of the outcome, the compiler leaves out what that does not need.
+pub fn compare(a: Rect, b: Rect) -> Relation
+    ensures { λ r. ⌜ r ≡ C.compared a b ⌝ }
+{
+    let meeting = meets(a, b);
+    let inside = lies_in(a, b);
+    let enclosing = lies_in(b, a);
+    if meeting {
+        meeting_as(inside, enclosing)
+    } else {
+        Relation::Apart
+    }
+}
+
+// All but apart.
+pub fn is_meeting(r: Relation) -> bool
+    ensures { λ s. ⌜ s ≡ C.isMeeting r ⌝ }
+{
+    match r {
+        Relation::Inside | Relation::Enclosing | Relation::Equal | Relation::OtherwiseMeeting =>
+            true,
+        Relation::Apart => false,
+    }
+}
+
+// "Equal counts as inside and as enclosing."
+fn is_inside(r: Relation) -> bool
+    ensures { λ s. ⌜ s ≡ C.isInside r ⌝ }
+{
+    match r {
+        Relation::Inside | Relation::Equal => true,
+        Relation::Apart | Relation::Enclosing | Relation::OtherwiseMeeting => false,
+    }
+}
+
+fn is_enclosing(r: Relation) -> bool
+    ensures { λ s. ⌜ s ≡ C.isEnclosing r ⌝ }
+{
+    match r {
+        Relation::Enclosing | Relation::Equal => true,
+        Relation::Apart | Relation::Inside | Relation::OtherwiseMeeting => false,
+    }
+}
+
+pub fn is_equal(r: Relation) -> bool
+    ensures { λ s. ⌜ s ≡ C.isEqual r ⌝ }
+{
+    match r {
+        Relation::Equal => true,
+        Relation::Apart | Relation::Inside | Relation::Enclosing | Relation::OtherwiseMeeting =>
+            false,
+    }
+}
+
+// Whether a search of the mode lists a record with this rectangle.
+pub fn wanted(mode: Mode, a: Rect, window: Rect) -> bool
+    ensures { λ r. ⌜ r ≡ C.wanted mode (C.compared a window) ⌝ }
+{
+    match mode {
+        Mode::Meeting => is_meeting(compare(a, window)),
+        Mode::OnlyInside => is_inside(compare(a, window)),
+        Mode::OnlyEnclosing => is_enclosing(compare(a, window)),
+    }
+}
+
+// "the first exact pair": the same number, and an equal rectangle.
+pub fn exact_pair(a: Record, b: Record) -> bool
+    ensures { λ r. ⌜ r ≡ C.exactPair a b ⌝ }
 {
     let number = same_number(a.number, b.number);
-    and(number, same_rect(a.rect, b.rect))
+    and(number, is_equal(compare(a.rect, b.rect)))
 }
+
+// ---- covers
 
 fn smaller(a: i32, b: i32) -> i32
     ensures { λ r. ⌜ r ≡ G.smaller a b ⌝ }
