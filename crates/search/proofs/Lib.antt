@@ -3,3 +3,4 @@ pub mod Sums
 pub mod Meeting
 pub mod Steps
 pub mod Turns
+pub mod Keeping

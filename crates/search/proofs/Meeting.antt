@@ -13,10 +13,12 @@ use lib.Seq.{take-suc-set, take-set-le, append-snoc}
 use lib.IntN.{ℤ}
 use Rattle.rules.specs.declared.Rect.{Rect}
 use Rattle.rules.specs.declared.SlotNumber.{SlotNumber}
+use Rattle.rules.specs.declared.Mode.the-variants.{Meeting}
 use Rattle.rules.specs.declared.Record.{Record}
 use Rattle.rules.specs.declared.Entry.{Entry}
 use Rattle.rules.specs.Lists.{those, joined, total, upFrom}
 use Rattle.rules.specs.Geometry.{meets}
+use Rattle.rules.specs.Compare.{compared, isMeeting}
 use Rattle.rules.specs.Choose.{rectFrom}
 use Rattle.rules.specs.Pool.{Pool, rects, noEntry, entriesAt, entryFrom, entryAt, childOf, recordOf}
 use Rattle.rules.specs.Layout.{validLength, read}
@@ -24,10 +26,11 @@ use Rattle.rules.specs.Search.{foundIn, openedIn}
 use Rattle.rules_laws.proofs.Places.{place-of, at-place, length-upFrom, getD-upFrom, map-upFrom}
 use Rattle.rules_laws.proofs.Parts.{those-yes, those-no, those-none, those-map, those-fewer, among-those}
 use Rattle.rules_laws.proofs.Sums.{total-most}
+use Rattle.rules_laws.proofs.Compares.{meeting-is}
 use Rattle.rules_laws.proofs.Turns.{up-more, up-none}
 use Rattle.pool.proofs.Parts.{rect-entry}
 use Rattle.nodes.proofs.Slots.{same-entries, most-entries}
-use Rattle.search_laws.proofs.Clauses.{found-none, found-leaf, found-inner, opened-none, opened-leaf, opened-inner}
+use Rattle.search_laws.proofs.Clauses.{found-none, found-leaf-met, found-inner, opened-none, opened-leaf, opened-inner}
 use Rattle.search.specs.State.{meetsAt, meetingFrom, meetingPlaces, foundAt}
 use Rattle.search.proofs.Sums.{total-end, total-next, joined-end, joined-next}
 
@@ -42,14 +45,15 @@ unfoldable pub openedBelow : Pool → Rect → ℕ → SlotNumber → List ℕ �
 openedBelow p window level s places = total (map (λ (i : ℕ). openedIn p window level (childOf (entryAt p s i))) places)
 
 unfoldable pub foundBelow : Pool → Rect → ℕ → SlotNumber → List ℕ → List Record
-foundBelow p window level s places = joined (map (λ (i : ℕ). foundIn p window level (childOf (entryAt p s i))) places)
+foundBelow p window level s places = joined (map (λ (i : ℕ). foundIn p Meeting window level (childOf (entryAt p s i))) places)
 
 module _ (p : Pool) (window : Rect) where
   -- ---- one entry, as the code tests it
 
-  pub met-is : (s : SlotNumber) (i : ℕ) (r : Rect) (b : Bool) → r ≡ rectFrom (rects (entriesAt p s)) i → b ≡ meets r window → meetsAt p window s i ≡ b
+  pub met-is : (s : SlotNumber) (i : ℕ) (r : Rect) (b : Bool) → r ≡ rectFrom (rects (entriesAt p s)) i → b ≡ isMeeting (compared r window)
+      → meetsAt p window s i ≡ b
   unfolding meetsAt entryAt entryFrom
-  met-is s i r b d e = sym (e ∙ ap (λ (q : Rect). meets q window) (d ∙ rect-entry (entriesAt p s) i))
+  met-is s i r b d e = sym (e ∙ meeting-is r window ∙ ap (λ (q : Rect). meets q window) (d ∙ rect-entry (entriesAt p s) i))
 
   pub found-yes : (s : SlotNumber) (i : ℕ) → meetsAt p window s i ≡ true → foundAt p window s i ≡ recordOf (entryAt p s i) ∷ []
   unfolding foundAt
@@ -132,15 +136,15 @@ module _ (p : Pool) (window : Rect) where
 
   -- ---- a node, by its places
 
-  pub leaf-found : (s : SlotNumber) → foundIn p window 1 s ≡ leafRecords p s (meetingPlaces p window s)
+  pub leaf-found : (s : SlotNumber) → foundIn p Meeting window 1 s ≡ leafRecords p s (meetingPlaces p window s)
   unfolding leafRecords
-  leaf-found s = found-leaf p window s ∙ ap (map recordOf) (meeting-entries s) ∙ map-map recordOf (entryAt p s) (meetingPlaces p window s)
+  leaf-found s = found-leaf-met p window s ∙ ap (map recordOf) (meeting-entries s) ∙ map-map recordOf (entryAt p s) (meetingPlaces p window s)
 
-  inner-found : (l : ℕ) (s : SlotNumber) → foundIn p window (suc (suc l)) s ≡ foundBelow p window (suc l) s (meetingPlaces p window s)
+  inner-found : (l : ℕ) (s : SlotNumber) → foundIn p Meeting window (suc (suc l)) s ≡ foundBelow p window (suc l) s (meetingPlaces p window s)
   unfolding foundBelow
   inner-found l s =
-      let below : Entry → List Record = λ e. foundIn p window (suc l) (childOf e) in
-      found-inner p window l s ∙ ap (λ (es : List Entry). joined (map below es)) (meeting-entries s)
+      let below : Entry → List Record = λ e. foundIn p Meeting window (suc l) (childOf e) in
+      found-inner p window Meeting l s ∙ ap (λ (es : List Entry). joined (map below es)) (meeting-entries s)
       ∙ ap joined (map-map below (entryAt p s) (meetingPlaces p window s))
 
   inner-opened : (l : ℕ) (s : SlotNumber) → openedIn p window (suc (suc l)) s ≡ 1 + openedBelow p window (suc l) s (meetingPlaces p window s)
@@ -152,17 +156,17 @@ module _ (p : Pool) (window : Rect) where
       ∙ omega arith
 
   -- by any slot number of its place
-  pub same-found : (level : ℕ) (s t : SlotNumber) → t .0 - 1 ≡ s .0 - 1 → foundIn p window level s ≡ foundIn p window level t
-  same-found zero s t e = found-none p window s ∙ sym (found-none p window t)
-  same-found (suc zero) s t e = rw (found-leaf p window s, found-leaf p window t, same-entries p t s e)
-  same-found (suc (suc l)) s t e = rw (found-inner p window l s, found-inner p window l t, same-entries p t s e)
+  pub same-found : (level : ℕ) (s t : SlotNumber) → t .0 - 1 ≡ s .0 - 1 → foundIn p Meeting window level s ≡ foundIn p Meeting window level t
+  same-found zero s t e = found-none p window Meeting s ∙ sym (found-none p window Meeting t)
+  same-found (suc zero) s t e = rw (found-leaf-met p window s, found-leaf-met p window t, same-entries p t s e)
+  same-found (suc (suc l)) s t e = rw (found-inner p window Meeting l s, found-inner p window Meeting l t, same-entries p t s e)
 
   pub same-opened : (level : ℕ) (s t : SlotNumber) → t .0 - 1 ≡ s .0 - 1 → openedIn p window level s ≡ openedIn p window level t
   same-opened zero s t e = opened-none p window s ∙ sym (opened-none p window t)
   same-opened (suc zero) s t e = opened-leaf p window s ∙ sym (opened-leaf p window t)
   same-opened (suc (suc l)) s t e = rw (opened-inner p window l s, opened-inner p window l t, same-entries p t s e)
 
-  pub node-found : (level : ℕ) (s : SlotNumber) → level ≢ 0 → level ≢ 1 → foundIn p window level s ≡ foundBelow p window (level - 1) s (meetingPlaces p window s)
+  pub node-found : (level : ℕ) (s : SlotNumber) → level ≢ 0 → level ≢ 1 → foundIn p Meeting window level s ≡ foundBelow p window (level - 1) s (meetingPlaces p window s)
   node-found zero s a b = absurd (a refl)
   node-found (suc zero) s a b = absurd (b refl)
   node-found (suc (suc l)) s a b = rw (sub-one (suc (suc l))) (inner-found l s)
@@ -182,7 +186,7 @@ module _ (p : Pool) (window : Rect) where
 
     pub found-end : length places ≤ k → foundBelow p window l s (drop k places) ≡ []
     unfolding foundBelow
-    found-end h = joined-end (λ (i : ℕ). foundIn p window l (childOf (entryAt p s i))) places k h
+    found-end h = joined-end (λ (i : ℕ). foundIn p Meeting window l (childOf (entryAt p s i))) places k h
 
     pub opened-next : k < length places
         → openedBelow p window l s (drop k places) ≡ openedIn p window l (childOf (entryAt p s (getD places k 0))) + openedBelow p window l s (drop (k + 1) places)
@@ -190,9 +194,9 @@ module _ (p : Pool) (window : Rect) where
     opened-next h = total-next (λ (i : ℕ). openedIn p window l (childOf (entryAt p s i))) places k 0 h
 
     pub found-next : k < length places
-        → foundBelow p window l s (drop k places) ≡ foundIn p window l (childOf (entryAt p s (getD places k 0))) ++ foundBelow p window l s (drop (k + 1) places)
+        → foundBelow p window l s (drop k places) ≡ foundIn p Meeting window l (childOf (entryAt p s (getD places k 0))) ++ foundBelow p window l s (drop (k + 1) places)
     unfolding foundBelow
-    found-next h = joined-next (λ (i : ℕ). foundIn p window l (childOf (entryAt p s i))) places k 0 h
+    found-next h = joined-next (λ (i : ℕ). foundIn p Meeting window l (childOf (entryAt p s i))) places k 0 h
 
 -- ---- at most so many
 

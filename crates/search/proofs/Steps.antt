@@ -10,6 +10,7 @@ use lib.Seq.{sets, length-sets}
 use lib.IntN.{ℤ, pos}
 use Rattle.rules.specs.declared.Rect.{Rect}
 use Rattle.rules.specs.declared.SlotNumber.{SlotNumber}
+use Rattle.rules.specs.declared.Mode.the-variants.{Meeting}
 use Rattle.rules.specs.declared.RecordNumber.{RecordNumber}
 use Rattle.rules.specs.declared.Record.{Record}
 use Rattle.rules.specs.Pool.{Pool, entriesAt, entryAt, numberOf, recordOf}
@@ -195,22 +196,22 @@ went-beside n w = record {
 
 module _ (w : List ℤ) (window : Rect) (right : validLength w ≡ true) (h : ℕ) (s : SlotNumber) (low : read w .height ≤ 8) (d : h ≡ read w .height) (e : s ≡ read w .root) where
   abbrev all : List Record
-  all = foundFromRoot (read w) window
+  all = foundFromRoot (read w) Meeting window
 
-  same-found : foundIn (read w) window h s ≡ all
-  same-found = ap₂ (foundIn (read w) window) d e
+  same-found : foundIn (read w) Meeting window h s ≡ all
+  same-found = ap₂ (foundIn (read w) Meeting window) d e
 
   same-opened : openedIn (read w) window h s ≡ opened (read w) window
   unfolding opened
   same-opened = ap₂ (openedIn (read w) window) d e
 
-  pub top-room : (u : List ℤ) → 2 * length all + 2 ≤ length u → ItemRoom u (walked 0 0) (foundIn (read w) window h s) (openedIn (read w) window h s)
+  pub top-room : (u : List ℤ) → 2 * length all + 2 ≤ length u → ItemRoom u (walked 0 0) (foundIn (read w) Meeting window h s) (openedIn (read w) window h s)
   top-room u g = record {
     room = omega (arith, ap length same-found);
     opened = omega (arith, opened-most w right window h s (omega arith));
   }
 
-  pub top-went : {u v : List ℤ} {r : Walked} → Went w u v (walked 0 0) r (foundIn (read w) window h s) (openedIn (read w) window h s)
+  pub top-went : {u v : List ℤ} {r : Walked} → Went w u v (walked 0 0) r (foundIn (read w) Meeting window h s) (openedIn (read w) window h s)
       → (r .next ≡ length all) × ((r .opened ≡ opened (read w) window) × ((r .opened ≤ 43046721) × ((itemsFrom w v 0 (length all) ≡ all) × (Pointing w v 0 (length all) × (length v ≡ length u)))))
   top-went {r = r} g =
       let k = went-same same-found same-opened g in

@@ -10,6 +10,7 @@ use lib.Seq.{length-take-le, getD-take}
 use lib.IntN.{ℤ}
 use Rattle.rules.specs.declared.Rect.{Rect}
 use Rattle.rules.specs.declared.SlotNumber.{SlotNumber}
+use Rattle.rules.specs.declared.Mode.the-variants.{Meeting}
 use Rattle.rules.specs.Pool.{Pool, entriesAt, entryAt, childOf}
 use Rattle.rules.specs.Layout.{read}
 use Rattle.rules.specs.Search.{foundIn, openedIn}
@@ -53,9 +54,9 @@ module _ (w : List ℤ) (window : Rect) where
 
   module _ (s : SlotNumber) where
     abbrev pub LeafWalk : List ℤ → List ℤ → Walked → ℕ → ℕ → Type 0
-    LeafWalk u v a next i = Underway w u v a (walked next (a .opened)) (foundIn p window 1 s) (leafRecords p s (meetingFrom p window s i)) 0 0
+    LeafWalk u v a next i = Underway w u v a (walked next (a .opened)) (foundIn p Meeting window 1 s) (leafRecords p s (meetingFrom p window s i)) 0 0
 
-    pub leaf-begins : {u : List ℤ} {a : Walked} → ItemRoom u a (foundIn p window 1 s) 1 → LeafWalk u u a (a .next) 0
+    pub leaf-begins : {u : List ℤ} {a : Walked} → ItemRoom u a (foundIn p Meeting window 1 s) 1 → LeafWalk u u a (a .next) 0
     leaf-begins r = sets-out (leaf-found p window s) refl (room-opens r)
 
     module _ (i : ℕ) {u v : List ℤ} {a : Walked} {next : ℕ} (g : LeafWalk u v a next i) where
@@ -65,30 +66,30 @@ module _ (w : List ℤ) (window : Rect) where
       pub leaf-turn : i < length (entriesAt p s) → {x : List ℤ} {then : ℕ} → Went w v x (walked next 0) (walked then 0) (foundAt p window s i) 0 → LeafWalk u x a then (i + 1)
       leaf-turn h e = goes-on g (foundAt p window s i) (leafRecords p s (meetingFrom p window s (i + 1))) 0 0 (records-next p window s i h) refl (went-beside (a .opened) e)
 
-      pub leaf-ends : length (entriesAt p s) ≤ i → Went w u v a (walked next (a .opened + 1)) (foundIn p window 1 s) 1
+      pub leaf-ends : length (entriesAt p s) ≤ i → Went w u v a (walked next (a .opened + 1)) (foundIn p Meeting window 1 s) 1
       leaf-ends h = went-opens (arrives g (records-end p window s i h) refl)
 
   -- ---- a node of no level
 
-  pub none-went : (level : ℕ) (s : SlotNumber) → level ≡ 0 → (u : List ℤ) (a : Walked) → Went w u u a a (foundIn p window level s) (openedIn p window level s)
+  pub none-went : (level : ℕ) (s : SlotNumber) → level ≡ 0 → (u : List ℤ) (a : Walked) → Went w u u a a (foundIn p Meeting window level s) (openedIn p window level s)
   none-went level s z u a =
-      went-none w u a (foundIn p window level s) (openedIn p window level s)
-      (ap (λ (k : ℕ). foundIn p window k s) z ∙ found-none p window s) (ap (λ (k : ℕ). openedIn p window k s) z ∙ opened-none p window s)
+      went-none w u a (foundIn p Meeting window level s) (openedIn p window level s)
+      (ap (λ (k : ℕ). foundIn p Meeting window k s) z ∙ found-none p window Meeting s) (ap (λ (k : ℕ). openedIn p window k s) z ∙ opened-none p window s)
 
   -- ---- a node; t is the slot that is read for s
 
   module _ (level : ℕ) (s t : SlotNumber) (same : t .0 - 1 ≡ s .0 - 1) where
     module _ (leaf : level ≡ 1) where
-      found-leaf : foundIn p window level s ≡ foundIn p window 1 t
-      found-leaf = ap (λ (k : ℕ). foundIn p window k s) leaf ∙ same-found p window 1 s t same
+      found-leaf : foundIn p Meeting window level s ≡ foundIn p Meeting window 1 t
+      found-leaf = ap (λ (k : ℕ). foundIn p Meeting window k s) leaf ∙ same-found p window 1 s t same
 
       opened-one : openedIn p window level s ≡ 1
       opened-one = ap (λ (k : ℕ). openedIn p window k s) leaf ∙ opened-leaf p window s
 
-      pub leaf-room : {u : List ℤ} {a : Walked} → ItemRoom u a (foundIn p window level s) (openedIn p window level s) → ItemRoom u a (foundIn p window 1 t) 1
+      pub leaf-room : {u : List ℤ} {a : Walked} → ItemRoom u a (foundIn p Meeting window level s) (openedIn p window level s) → ItemRoom u a (foundIn p Meeting window 1 t) 1
       leaf-room r = room-same found-leaf opened-one r
 
-      pub leaf-went : {u v : List ℤ} {a z : Walked} → Went w u v a z (foundIn p window 1 t) 1 → Went w u v a z (foundIn p window level s) (openedIn p window level s)
+      pub leaf-went : {u v : List ℤ} {a z : Walked} → Went w u v a z (foundIn p Meeting window 1 t) 1 → Went w u v a z (foundIn p Meeting window level s) (openedIn p window level s)
       leaf-went g = went-same (sym found-leaf) (sym opened-one) g
 
     -- the first n of the array are the places of the children to open
@@ -96,7 +97,7 @@ module _ (w : List ℤ) (window : Rect) where
       abbrev places : List ℕ
       places = take n array
 
-      found-are : foundIn p window level s ≡ foundBelow p window (level - 1) t places
+      found-are : foundIn p Meeting window level s ≡ foundBelow p window (level - 1) t places
       found-are = same-found p window level s t same ∙ node-found p window level t some inner ∙ ap (foundBelow p window (level - 1) t) (sym are)
 
       opened-are : openedIn p window level s ≡ 1 + openedBelow p window (level - 1) t places
@@ -104,12 +105,12 @@ module _ (w : List ℤ) (window : Rect) where
           same-opened p window level s t same ∙ node-opened p window level t some inner
           ∙ ap (λ (is : List ℕ). 1 + openedBelow p window (level - 1) t is) (sym are)
 
-      pub node-room : {u : List ℤ} {a : Walked} → ItemRoom u a (foundIn p window level s) (openedIn p window level s)
+      pub node-room : {u : List ℤ} {a : Walked} → ItemRoom u a (foundIn p Meeting window level s) (openedIn p window level s)
           → ItemRoom u a (foundBelow p window (level - 1) t places) (openedBelow p window (level - 1) t places)
       node-room r = room-opens (room-same found-are opened-are r)
 
       pub node-went : {u v : List ℤ} {a z : Walked} → Went w u v a z (foundBelow p window (level - 1) t places) (openedBelow p window (level - 1) t places)
-          → Went w u v a (walked (z .next) (z .opened + 1)) (foundIn p window level s) (openedIn p window level s)
+          → Went w u v a (walked (z .next) (z .opened + 1)) (foundIn p Meeting window level s) (openedIn p window level s)
       node-went g = went-same (sym found-are) (sym opened-are) (went-opens g)
 
   -- ---- its children, of which those from the k-th on are to come
@@ -144,22 +145,22 @@ module _ (w : List ℤ) (window : Rect) where
           is-child : childOf (entryAt p t (getD (take n array) k 0)) ≡ c
           is-child = ap (λ (i : ℕ). childOf (entryAt p t i)) (getD-take n array k 0 there) ∙ sym child
 
-          found-child : foundBelow p window below t (drop k (take n array)) ≡ foundIn p window below c ++ foundBelow p window below t (drop (k + 1) (take n array))
+          found-child : foundBelow p window below t (drop k (take n array)) ≡ foundIn p Meeting window below c ++ foundBelow p window below t (drop (k + 1) (take n array))
           found-child =
               found-next p window below t (take n array) k inside
-              ∙ ap (λ (x : SlotNumber). foundIn p window below x ++ foundBelow p window below t (drop (k + 1) (take n array))) is-child
+              ∙ ap (λ (x : SlotNumber). foundIn p Meeting window below x ++ foundBelow p window below t (drop (k + 1) (take n array))) is-child
 
           opened-child : openedBelow p window below t (drop k (take n array)) ≡ openedIn p window below c + openedBelow p window below t (drop (k + 1) (take n array))
           opened-child =
               opened-next p window below t (take n array) k inside
               ∙ ap (λ (x : SlotNumber). openedIn p window below x + openedBelow p window below t (drop (k + 1) (take n array))) is-child
 
-          pub child-room : {u v : List ℤ} {a b : Walked} → ChildWalk u v a b k → ItemRoom v b (foundIn p window below c) (openedIn p window below c)
+          pub child-room : {u v : List ℤ} {a b : Walked} → ChildWalk u v a b k → ItemRoom v b (foundIn p Meeting window below c) (openedIn p window below c)
           child-room g =
-              next-room g (foundIn p window below c) (foundBelow p window below t (drop (k + 1) (take n array)))
+              next-room g (foundIn p Meeting window below c) (foundBelow p window below t (drop (k + 1) (take n array)))
               (openedIn p window below c) (openedBelow p window below t (drop (k + 1) (take n array))) found-child opened-child
 
-          pub child-turn : {u v x : List ℤ} {a b z : Walked} → ChildWalk u v a b k → Went w v x b z (foundIn p window below c) (openedIn p window below c) → ChildWalk u x a z (k + 1)
+          pub child-turn : {u v x : List ℤ} {a b z : Walked} → ChildWalk u v a b k → Went w v x b z (foundIn p Meeting window below c) (openedIn p window below c) → ChildWalk u x a z (k + 1)
           child-turn g h =
-              goes-on g (foundIn p window below c) (foundBelow p window below t (drop (k + 1) (take n array)))
+              goes-on g (foundIn p Meeting window below c) (foundBelow p window below t (drop (k + 1) (take n array)))
               (openedIn p window below c) (openedBelow p window below t (drop (k + 1) (take n array))) found-child opened-child h

@@ -1,5 +1,6 @@
 // Search, over any words of a valid length: what it finds and how many nodes it opens, in one pass. The node function gathers the children
-// that meet the window, and calls itself for each of them; the level falls. A leaf is a loop of its own.
+// that meet the window, and calls itself for each of them; the level falls. A leaf is a loop of its own. "All modes open the nodes whose cover
+// meets the window": so the walk is the same in every mode and lists whatever meets the window, and of that the mode then keeps what it wants.
 //
 // In a search the processor would guess wrong at about every second entry whether it meets the window, and a wrong guess costs more than the
 // comparison. So no branch is taken on that: every place is written down, and the next place is one further where the entry meets the window.
@@ -10,13 +11,18 @@ ghost use lib.ListN.{length, take};
 ghost use Rattle.rules.specs.Numbers.{most};
 ghost use Rattle.rules.specs.Layout as L;
 ghost use Rattle.rules.specs.Pool as P;
+ghost use Rattle.rules.specs.declared.Mode.the-variants as M;
+ghost use Rattle.rules.specs.Lists.{those};
 ghost use Rattle.rules.specs.Search as F;
 ghost use Rattle.pool.specs.Slots.{InPool};
-ghost use Rattle.found_items.specs.Items.{itemsFrom, Pointing};
+ghost use Rattle.search_laws.specs.Window.{recordWanted};
+ghost use Rattle.found_items.specs.Items.{spotAt, itemsFrom, Pointing};
 ghost use Rattle.search.specs.State.{meetsAt, foundAt, meetingPlaces};
-ghost use Rattle.search.specs.Walk.{walked, ItemRoom, Went};
+ghost use Rattle.search.specs.Walk.{walked, ItemRoom, Went, KeptOne, Finds};
 use geometry::one_if;
 use rules::MOST;
+use rules::Mode;
+use rules::RecordNumber;
 use rules::Rect;
 use rules::SlotNumber;
 
@@ -36,7 +42,7 @@ fn met(pool: &[i32], window: Rect, s: SlotNumber, i: usize) -> usize
     ensures most { λ r. ⌜ r ≤ 1 ⌝ }
 {
     let r = pool::rect_of(pool, s, i);
-    one_if(geometry::meets(r, window))
+    one_if(geometry::is_meeting(geometry::compare(r, window)))
 }
 
 // The places of the entries that meet the window, one after another, and how many they are. Every place is written down, and kept where its
@@ -85,8 +91,8 @@ fn list_entry(
 fn list_leaf(pool: &[i32], window: Rect, s: SlotNumber, items: &mut [i32], done: Walked) -> Walked
     requires { ⌜ L.validLength (now pool) ≡ true ⌝ }
     requires { ⌜ 1 ≤ s .0 ⌝ }
-    requires { ⌜ ItemRoom (now items) done (F.foundIn (L.read (now pool)) window 1 s) 1 ⌝ }
-    ensures { λ r. ⌜ Went (now (pool .entry)) (now (items .entry)) (now (items .exit)) done r (F.foundIn (L.read (now (pool .entry))) window 1 s) 1 ⌝ }
+    requires { ⌜ ItemRoom (now items) done (F.foundIn (L.read (now pool)) M.Meeting window 1 s) 1 ⌝ }
+    ensures { λ r. ⌜ Went (now (pool .entry)) (now (items .entry)) (now (items .exit)) done r (F.foundIn (L.read (now (pool .entry))) M.Meeting window 1 s) 1 ⌝ }
 {
     let n = nodes::count_at(pool, s);
     let mut next = done.next;
@@ -112,8 +118,8 @@ fn list_node(
     done: Walked,
 ) -> Walked
     requires { ⌜ L.validLength (now pool) ≡ true ⌝ }
-    requires { ⌜ ItemRoom (now items) done (F.foundIn (L.read (now pool)) window level s) (F.openedIn (L.read (now pool)) window level s) ⌝ }
-    ensures { λ r. ⌜ Went (now (pool .entry)) (now (items .entry)) (now (items .exit)) done r (F.foundIn (L.read (now (pool .entry))) window level s) (F.openedIn (L.read (now (pool .entry))) window level s) ⌝ }
+    requires { ⌜ ItemRoom (now items) done (F.foundIn (L.read (now pool)) M.Meeting window level s) (F.openedIn (L.read (now pool)) window level s) ⌝ }
+    ensures { λ r. ⌜ Went (now (pool .entry)) (now (items .entry)) (now (items .exit)) done r (F.foundIn (L.read (now (pool .entry))) M.Meeting window level s) (F.openedIn (L.read (now (pool .entry))) window level s) ⌝ }
 {
     if level == 0 {
         return done;
@@ -136,21 +142,86 @@ fn list_node(
     Walked { next, opened }
 }
 
+// ---- what the mode wants
+
+// The item at place k goes to the place `count`, and counts where the mode wants its record; otherwise the next goes over it. What comes back
+// is the place after the items that are kept.
+fn keep_item(
+    pool: &[i32],
+    mode: Mode,
+    window: Rect,
+    items: &mut [i32],
+    k: usize,
+    count: usize,
+) -> usize
+    requires { ⌜ L.validLength (now pool) ≡ true ⌝ }
+    requires { ⌜ count ≤ k ⌝ }
+    requires { ⌜ 2 * k + 2 ≤ length (now items) ⌝ }
+    requires { ⌜ spotAt (now items) k + L.rectSize ≤ length (now pool) ⌝ }
+    ensures { λ r. ⌜ KeptOne (now (pool .entry)) mode window (now (items .entry)) (now (items .exit)) k count r ⌝ }
+{
+    let n = pool::word(items, 2 * k);
+    let spot = pool::number_at(items, 2 * k + 1);
+    found_items::put_item(items, count, RecordNumber(n), spot);
+    count + one_if(geometry::wanted(mode, pool::rect_at(pool, spot), window))
+}
+
+// Of the n items, those that the mode wants close up to the front, in their order; it says how many they are.
+fn keep_wanted(pool: &[i32], mode: Mode, window: Rect, items: &mut [i32], n: usize) -> usize
+    requires { ⌜ L.validLength (now pool) ≡ true ⌝ }
+    requires { ⌜ 2 * n ≤ length (now items) ⌝ }
+    requires { ⌜ Pointing (now pool) (now items) 0 n ⌝ }
+    ensures many { λ r. ⌜ r ≡ length (those (recordWanted mode window) (itemsFrom (now (pool .entry)) (now (items .entry)) 0 n)) ⌝ }
+    ensures kept { λ r. ⌜ itemsFrom (now (pool .entry)) (now (items .exit)) 0 r ≡ those (recordWanted mode window) (itemsFrom (now (pool .entry)) (now (items .entry)) 0 n) ⌝ }
+    ensures pointing { λ r. ⌜ Pointing (now (pool .entry)) (now (items .exit)) 0 r ⌝ }
+    ensures long { λ _. ⌜ length (now (items .exit)) ≡ length (now (items .entry)) ⌝ }
+{
+    let mut count: usize = 0;
+    let mut k: usize = 0;
+    while k < n {
+        count = keep_item(pool, mode, window, items, k, count);
+        k += 1;
+    }
+    count
+}
+
+// ---- the search
+
 // "Search descends from the root and opens every child whose entry rectangle meets the window." "The root is always opened." The records
-// found become items, in the order in which the search meets them. An item is written before it is known to be kept, so there is room for one
-// item more.
-pub fn list(pool: &[i32], window: Rect, items: &mut [i32]) -> Walked
+// that meet the window become items, in the order in which the search meets them. An item is written before it is known to be kept, so there
+// is room for one item more.
+fn list_meeting(pool: &[i32], window: Rect, items: &mut [i32]) -> Walked
     requires { ⌜ L.validLength (now pool) ≡ true ⌝ }
     requires { ⌜ L.read (now pool) .height ≤ 8 ⌝ }
-    requires { ⌜ 2 * length (F.foundFromRoot (L.read (now pool)) window) + 2 ≤ length (now items) ⌝ }
-    ensures found { λ r. ⌜ r .next ≡ length (F.foundFromRoot (L.read (now (pool .entry))) window) ⌝ }
+    requires { ⌜ 2 * length (F.foundFromRoot (L.read (now pool)) M.Meeting window) + 2 ≤ length (now items) ⌝ }
+    ensures found { λ r. ⌜ r .next ≡ length (F.foundFromRoot (L.read (now (pool .entry))) M.Meeting window) ⌝ }
     ensures opened { λ r. ⌜ r .opened ≡ F.opened (L.read (now (pool .entry))) window ⌝ }
     ensures most { λ r. ⌜ r .opened ≤ 43046721 ⌝ }
-    ensures listed { λ _. ⌜ itemsFrom (now (pool .entry)) (now (items .exit)) 0 (length (F.foundFromRoot (L.read (now (pool .entry))) window)) ≡ F.foundFromRoot (L.read (now (pool .entry))) window ⌝ }
-    ensures pointing { λ _. ⌜ Pointing (now (pool .entry)) (now (items .exit)) 0 (length (F.foundFromRoot (L.read (now (pool .entry))) window)) ⌝ }
+    ensures listed { λ _. ⌜ itemsFrom (now (pool .entry)) (now (items .exit)) 0 (length (F.foundFromRoot (L.read (now (pool .entry))) M.Meeting window)) ≡ F.foundFromRoot (L.read (now (pool .entry))) M.Meeting window ⌝ }
+    ensures pointing { λ _. ⌜ Pointing (now (pool .entry)) (now (items .exit)) 0 (length (F.foundFromRoot (L.read (now (pool .entry))) M.Meeting window)) ⌝ }
     ensures long { λ _. ⌜ length (now (items .exit)) ≡ length (now (items .entry)) ⌝ }
 {
     let h = pool::height_of(pool);
     let s = pool::root_of(pool);
     list_node(pool, window, h, s, items, Walked { next: 0, opened: 0 })
+}
+
+// What a search of the mode finds, as items, and how many nodes it opens. Mode meeting wants whatever was found.
+pub fn list(pool: &[i32], mode: Mode, window: Rect, items: &mut [i32]) -> Walked
+    requires { ⌜ L.validLength (now pool) ≡ true ⌝ }
+    requires { ⌜ L.read (now pool) .height ≤ 8 ⌝ }
+    requires { ⌜ 2 * length (F.foundFromRoot (L.read (now pool)) M.Meeting window) + 2 ≤ length (now items) ⌝ }
+    ensures { λ r. ⌜ Finds (now (pool .entry)) mode window (now (items .entry)) (now (items .exit)) r ⌝ }
+{
+    let w = list_meeting(pool, window, items);
+    match mode {
+        Mode::Meeting => w,
+        Mode::OnlyInside | Mode::OnlyEnclosing => {
+            let next = keep_wanted(pool, mode, window, items, w.next);
+            Walked {
+                next,
+                opened: w.opened,
+            }
+        }
+    }
 }

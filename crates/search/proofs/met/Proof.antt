@@ -8,15 +8,16 @@ use Rattle.search.proofs.met.Tie as tie
 
 returns : tie.Need-returns
 returns c =
-    let start = c .before .before .before in
-    let rect-of = c .before .before .rect-of in
-    let meets = c .before .meets in (
+    let start = c .before .before .before .before in
+    let rect-of = c .before .before .before .rect-of in
+    let compare = c .before .before .compare in
+    let is-meeting = c .before .is-meeting in (
       c .one-if .ensures .0
           ∙ sym (ap (λ (t : Bool). cond t 1 0)
-          (met-is (read (start .args .pool .now)) (start .args .window) (start .args .s) (start .args .i) (rect-of .result) (meets .result)
-          (rect-of .ensures) (meets .ensures))),
+          (met-is (read (start .args .pool .now)) (start .args .window) (start .args .s) (start .args .i) (rect-of .result) (is-meeting .result)
+          (rect-of .ensures) (rw (compare .ensures) at (is-meeting .ensures)))),
       c .one-if .ensures .1,
     )
 
 pub met-spec : {M : Type 1} → statement M
-met-spec = tie.close (tie.spec (λ c κs. search needs) (λ c κs. search needs) (λ c κs. search needs) returns)
+met-spec = tie.close (tie.spec (λ c κs. search needs) (λ c κs. search needs) (λ c κs. search needs) (λ c κs. search needs) returns)
