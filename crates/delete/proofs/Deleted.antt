@@ -27,7 +27,7 @@ use Rattle.insert_laws.proofs.Whole.{whole-standing}
 use Rattle.delete_laws.specs.Way.{Leads, EachWay, Found, leafOf, KeepsEnough}
 use Rattle.delete_laws.specs.Shrunk.{Shrunk, Waiting, PutBack, EachPool}
 use Rattle.delete_laws.proofs.Finds.{find-leads}
-use Rattle.delete_laws.proofs.Held.{held-is, find-held}
+use Rattle.delete_laws.proofs.Held.{held-stored, find-held}
 use Rattle.delete_laws.proofs.Again.{reinsert-puts}
 use Rattle.delete_laws.proofs.Delete.{short-done, short-none, back-is, stands, way-leads, out, out-is, shrunk, waiting, delete-found}
 use Rattle.delete_laws.proofs.Keeps.{delete-kept}
@@ -100,7 +100,7 @@ module _ {w₀ : List ℤ} {r : Record} {way : Way} (g : ToDelete w₀ r way) wh
   pub some-record : 1 ≤ p .records
   some-record =
       let h = find-held p (g .whole) r .1 (subst Found (sym finds) tt) in
-      omega (arith, g .whole .counted, counted (λ x. true) (held-is r p .0 h) refl, ap length (those-all (stored p)))
+      omega (arith, g .whole .counted, counted (λ x. true) (held-stored r p h) refl, ap length (those-all (stored p)))
 
   pub records-small : p .records ≤ 2147483647
   records-small = omega (arith, records-few w₀ (g .fit .right) (g .whole))

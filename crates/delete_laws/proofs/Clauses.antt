@@ -8,7 +8,9 @@ use Rattle.rules.specs.declared.Rect.{Rect}
 use Rattle.rules.specs.declared.SlotNumber.{SlotNumber}
 use Rattle.rules.specs.declared.Record.{Record}
 use Rattle.rules.specs.declared.Entry.{Entry}
-use Rattle.rules.specs.Geometry.{meets, samePair}
+use Rattle.rules.specs.Geometry.{meets}
+use Rattle.rules.specs.Compare.{exactPair}
+use Rattle.rules_laws.proofs.Compares.{meeting-is}
 use Rattle.rules.specs.Pool.{Pool, entriesAt, childOf, recordOf}
 use Rattle.rules.specs.Delete.{Path, place, findEntry, orLater, findChild, findLeaf}
 
@@ -19,11 +21,11 @@ module _ (r : Record) (s : SlotNumber) (i : ℕ) where
   unfolding findEntry
   entry-none = refl
 
-  pub entry-yes : (e : Entry) (es : List Entry) → samePair r (recordOf e) ≡ true → findEntry r s i (e ∷ es) ≡ some (place s i ∷ [])
+  pub entry-yes : (e : Entry) (es : List Entry) → exactPair r (recordOf e) ≡ true → findEntry r s i (e ∷ es) ≡ some (place s i ∷ [])
   unfolding findEntry
   entry-yes e es h = rw (h, findEntry)
 
-  pub entry-no : (e : Entry) (es : List Entry) → samePair r (recordOf e) ≡ false → findEntry r s i (e ∷ es) ≡ findEntry r s (suc i) es
+  pub entry-no : (e : Entry) (es : List Entry) → exactPair r (recordOf e) ≡ false → findEntry r s i (e ∷ es) ≡ findEntry r s (suc i) es
   unfolding findEntry
   entry-no e es h = rw (h, findEntry)
 
@@ -46,11 +48,11 @@ module _ (find : SlotNumber → Option Path) (r : Rect) (s : SlotNumber) (i : �
   pub child-yes : (e : Entry) (es : List Entry) → meets (e .rect) r ≡ true
       → findChild find r s i (e ∷ es) ≡ orLater s i (find (childOf e)) (findChild find r s (suc i) es)
   unfolding findChild
-  child-yes e es h = rw (h, findChild)
+  child-yes e es h = rw (meeting-is (e .rect) r, h, findChild)
 
   pub child-no : (e : Entry) (es : List Entry) → meets (e .rect) r ≡ false → findChild find r s i (e ∷ es) ≡ findChild find r s (suc i) es
   unfolding findChild
-  child-no e es h = rw (h, findChild)
+  child-no e es h = rw (meeting-is (e .rect) r, h, findChild)
 
 -- ---- FindLeaf
 

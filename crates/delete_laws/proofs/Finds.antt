@@ -12,16 +12,17 @@ use Rattle.rules.specs.declared.SlotNumber.{SlotNumber}
 use Rattle.rules.specs.declared.Record.{Record}
 use Rattle.rules.specs.declared.Entry.{Entry}
 use Rattle.rules.specs.Lists.{joined}
-use Rattle.rules.specs.Geometry.{meets, samePair}
+use Rattle.rules.specs.Geometry.{meets}
+use Rattle.rules.specs.Compare.{exactPair}
 use Rattle.rules.specs.Pool.{Pool, noEntry, entriesAt, entryFrom, entryAt, childOf, recordOf}
 use Rattle.rules.specs.Delete.{Path, place, findEntry, orLater, findChild, findLeaf}
 use Rattle.rules_laws.proofs.Orders.{never-both}
+use Rattle.rules_laws.proofs.Compares.{holds-meets}
 use Rattle.rules_laws.proofs.Places.{Among, at-place}
 use Rattle.rules_laws.proofs.Joins.{among-joined, joined-among}
 use Rattle.sound_laws.specs.Tree.{recordsIn, Tree}
-use Rattle.sound_laws.proofs.Same.{same-pair}
+use Rattle.sound_laws.proofs.Same.{exact-same, exact-self}
 use Rattle.sound_laws.proofs.Walk.{no-tree, inner-of, records-leaf, records-inner}
-use Rattle.search_laws.proofs.Covers.{holds-meets}
 use Rattle.search_laws.proofs.Found.{record-held}
 use Rattle.delete_laws.specs.Way.{Leads, EachWay, Found}
 use Rattle.delete_laws.proofs.Clauses.{entry-none, entry-yes, entry-no, or-some, or-none, child-none, child-yes, child-no, leaf-none, leaf-at, leaf-below}
@@ -42,26 +43,26 @@ module _ (r : Record) (s : SlotNumber) where
   entry-here : (i : ℕ) (es : List Entry) → EachWay (Here i es) (findEntry r s i es)
   unfolding entryFrom
   entry-here i [] = rw (entry-none r s i) tt
-  entry-here i (e ∷ es) = go (samePair r (recordOf e)) refl (entry-here (suc i) es)
+  entry-here i (e ∷ es) = go (exactPair r (recordOf e)) refl (entry-here (suc i) es)
     where
-      first : samePair r (recordOf e) ≡ true → Here i (e ∷ es) (place s i ∷ [])
-      first h = (0, ap (λ (n : ℕ). place s n ∷ []) (omega arith), omega arith, sym (same-pair r (recordOf e) .0 h))
+      first : exactPair r (recordOf e) ≡ true → Here i (e ∷ es) (place s i ∷ [])
+      first h = (0, ap (λ (n : ℕ). place s n ∷ []) (omega arith), omega arith, sym (exact-same r (recordOf e) h))
 
-      go : (b : Bool) → samePair r (recordOf e) ≡ b → EachWay (Here (suc i) es) (findEntry r s (suc i) es)
+      go : (b : Bool) → exactPair r (recordOf e) ≡ b → EachWay (Here (suc i) es) (findEntry r s (suc i) es)
           → EachWay (Here i (e ∷ es)) (findEntry r s i (e ∷ es))
       go true h later = rw (entry-yes r s i e es h) (first h)
       go false h later = rw (entry-no r s i e es h) (here-later i e es (findEntry r s (suc i) es) later)
 
-  entry-found : (i : ℕ) (es : List Entry) → Among r (map recordOf es) → Found (findEntry r s i es)
-  entry-found i [] m = absurd (List·Memᴰ·not-nil m)
-  entry-found i (e ∷ es) m = go (samePair r (recordOf e)) refl (entry-found (suc i) es)
+  entry-found : (i : ℕ) (es : List Entry) → Among r (map recordOf es) → meets (r .rect) (r .rect) ≡ true → Found (findEntry r s i es)
+  entry-found i [] m v = absurd (List·Memᴰ·not-nil m)
+  entry-found i (e ∷ es) m v = go (exactPair r (recordOf e)) refl (λ n. entry-found (suc i) es n v)
     where
-      go : (b : Bool) → samePair r (recordOf e) ≡ b → (Among r (map recordOf es) → Found (findEntry r s (suc i) es))
+      go : (b : Bool) → exactPair r (recordOf e) ≡ b → (Among r (map recordOf es) → Found (findEntry r s (suc i) es))
           → Found (findEntry r s i (e ∷ es))
       go true h later = rw (entry-yes r s i e es h) tt
       go false h later =
           rw (entry-no r s i e es h)
-          (⊎-elim (λ q. never-both (same-pair r (recordOf e) .1 q) h) later (List·Memᴰ·cases-cons m))
+          (⊎-elim (λ q. never-both (exact-self r (recordOf e) v q) h) later (List·Memᴰ·cases-cons m))
 
 -- ---- FL1, in an inner node
 
@@ -150,7 +151,7 @@ module _ (p : Pool) (r : Record) where
   pub record-found : (l : ℕ) (s : SlotNumber) → Tree p l s → Among r (recordsIn p l s) → meets (r .rect) (r .rect) ≡ true
       → Found (findLeaf p r l s)
   record-found zero s d m v = absurd (no-tree p s d)
-  record-found (suc zero) s d m v = rw (leaf-at p r s) (entry-found r s 0 (entriesAt p s) (rw (records-leaf p s) at m))
+  record-found (suc zero) s d m v = rw (leaf-at p r s) (entry-found r s 0 (entriesAt p s) (rw (records-leaf p s) at m) v)
   record-found (suc (suc l)) s d m v =
       let n : Among r (joined (map (λ (e : Entry). recordsIn p (suc l) (childOf e)) (entriesAt p s))) = rw (records-inner p s l) at m in
       let x = among-joined (λ (e : Entry). recordsIn p (suc l) (childOf e)) r (entriesAt p s) n in

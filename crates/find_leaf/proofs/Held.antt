@@ -14,6 +14,7 @@ use Rattle.rules.specs.declared.Record.{Record}
 use Rattle.rules.specs.Pool.{Pool, held}
 use Rattle.rules.specs.Delete.{Path, findLeaf, pathTo}
 use Rattle.rules.specs.Layout.{validLength, read}
+use Rattle.rules_laws.proofs.Bools.{same-test}
 use Rattle.rules_laws.proofs.Orders.{never-both}
 use Rattle.pool.proofs.Parts.{few-slots}
 use Rattle.pool.proofs.Written.{read-slots}
@@ -34,17 +35,11 @@ never : (b : Bool) → (b ≡ true → ⊥) → b ≡ false
 never true f = absurd (f refl)
 never false f = refl
 
--- two answers that are yes together
-same-answer : (a b : Bool) → (a ≡ true → b ≡ true) → (b ≡ true → a ≡ true) → a ≡ b
-same-answer true b f g = sym (f refl)
-same-answer false true f g = g refl
-same-answer false false f g = refl
-
 pub shows-held : (p : Pool) (r : Record) (w : Way) → Whole p → Gives (pathTo p r) (p .height) w → w .found ≡ held p r
 shows-held p r w whole h =
     let shown = shows-found (pathTo p r) (p .height) w h in
     let is = find-held p whole r in
-    same-answer (w .found) (held p r) (λ t. is .1 (shown .0 t)) (λ t. shown .1 (is .0 t))
+    same-test (w .found) (held p r) (λ t. is .1 (shown .0 t)) (λ t. shown .1 (is .0 t))
 
 -- .. and so is a number that is not 0
 pub way-held : (p : Pool) (r : Record) (h : ℕ) (s : SlotNumber) (w : ℕ) → Whole p → h ≡ p .height → s ≡ p .root

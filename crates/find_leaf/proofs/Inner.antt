@@ -16,6 +16,7 @@ use borrow.Author.Tests.{ne-eqb}
 use Rattle.rules.specs.declared.SlotNumber.{SlotNumber}
 use Rattle.rules.specs.declared.Record.{Record}
 use Rattle.rules.specs.Lists.{upFrom}
+use Rattle.rules.specs.Compare.{liesIn}
 use Rattle.rules.specs.Pool.{Pool, noEntry, nodeAt, entriesAt, entryFrom, entryAt, childOf, isLeaf}
 use Rattle.rules.specs.Delete.{Path, place, orLater, findLeaf}
 use Rattle.rules.specs.Layout.{validLength, read}
@@ -28,7 +29,7 @@ use Rattle.sound_laws.proofs.Walk.{inner-of, tree-node, tree-positive}
 use Rattle.delete_laws.specs.Way.{Leads, EachWay}
 use Rattle.delete_laws.proofs.Clauses.{or-some, or-none}
 use Rattle.delete_laws.proofs.Finds.{find-leads}
-use Rattle.find_leaf.specs.State.{contains, holding, HitsOf}
+use Rattle.find_leaf.specs.State.{holding, HitsOf}
 use Rattle.find_leaf.specs.Packed.{bitsBelow, packedWay}
 use Rattle.find_leaf.proofs.Digits.{packed-none, packed-some, packed-cons, some-not-zero, leads-long, leads-small}
 use Rattle.find_leaf.proofs.Skips.{firstOf, first-none, first-cons, foundAt, inner-first}
@@ -104,7 +105,7 @@ module _ (p : Pool) (r : Record) (level : ℕ) (s : SlotNumber) (places : List �
           let i = getD places k 0 in
           let b = subst (λ (j : ℕ). Among j (take count places)) (getD-take count places k 0 h) (at-place (take count places) k 0 there) in
           let a : Among i all = subst (Among i) (t .hits .are) b in
-          let m = place-of (among-those (λ j. contains (entryAt p s j .rect) (r .rect)) i (upFrom 0 n) .0 a .0) in
+          let m = place-of (among-those (λ j. liesIn (r .rect) (entryAt p s j .rect)) i (upFrom 0 n) .0 a .0) in
           let q : m .0 < n = omega (arith, m .1, length-upFrom 0 n) in
           omega (arith, m .2 0, getD-upFrom 0 n (m .0) 0 q, q)
 

@@ -13,7 +13,7 @@ use Rattle.rules.specs.declared.SlotNumber.{SlotNumber}
 use Rattle.rules.specs.declared.Record.{Record}
 use Rattle.rules.specs.declared.Entry.{Entry}
 use Rattle.rules.specs.Lists.{oneOf, same}
-use Rattle.rules.specs.Geometry.{samePair, sameRect}
+use Rattle.rules.specs.Compare.{compared, isEqual, exactPair}
 use Rattle.rules.specs.Pool.{Pool, noEntry, entriesAt, entryFrom, entryAt, numberOf, recordOf}
 use Rattle.rules.specs.Delete.{findEntry, findLeaf}
 use Rattle.rules_laws.proofs.Bools.{or-neither, stop}
@@ -60,9 +60,9 @@ looked-all {test} {all} {any = any} {i} t h =
 
 -- ---- no entry has the number
 
-another-number : (r : Record) (e : Entry) → hasNumber (r .number) e ≡ false → samePair r (recordOf e) ≡ false
-unfolding samePair recordOf
-another-number r e h = stop (same (r .number .0) (numberOf e .0)) (sameRect (r .rect) (e .rect)) h
+another-number : (r : Record) (e : Entry) → hasNumber (r .number) e ≡ false → exactPair r (recordOf e) ≡ false
+unfolding exactPair recordOf
+another-number r e h = stop (same (r .number .0) (numberOf e .0)) (isEqual (compared (r .rect) (e .rect))) h
 
 no-number : (r : Record) (s : SlotNumber) (i : ℕ) (es : List Entry) → oneOf (hasNumber (r .number)) es ≡ false → findEntry r s i es ≡ none
 no-number r s i [] h = entry-none r s i
@@ -89,14 +89,14 @@ module _ (p : Pool) (r : Record) (s : SlotNumber) where
     unfolding entryAt entryFrom
     rest h = drop-cons (entriesAt p s) i noEntry (omega (arith, t .size))
 
-    pub ahead-here : i < n → samePair r (recordOf (entryAt p s i)) ≡ true → 2147483648 + i ≡ packedWay (findLeaf p r 1 s)
+    pub ahead-here : i < n → exactPair r (recordOf (entryAt p s i)) ≡ true → 2147483648 + i ≡ packedWay (findLeaf p r 1 s)
     unfolding packedWay packed
     ahead-here h q =
         let z : i ≡ i * 1 + 0 = omega arith in
         sym (ap packedWay (t .is ∙ ap (findEntry r s i) (rest h) ∙ entry-yes r s i (entryAt p s i) (drop (suc i) (entriesAt p s)) q)
         ∙ ap (λ (k : ℕ). 2147483648 + k) (sym z))
 
-    pub ahead-next : i < n → samePair r (recordOf (entryAt p s i)) ≡ false → Ahead n (i + 1)
+    pub ahead-next : i < n → exactPair r (recordOf (entryAt p s i)) ≡ false → Ahead n (i + 1)
     ahead-next h q = record {
       size = t .size;
       few = t .few;

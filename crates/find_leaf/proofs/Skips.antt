@@ -15,6 +15,7 @@ use Rattle.rules.specs.declared.Record.{Record}
 use Rattle.rules.specs.declared.Entry.{Entry}
 use Rattle.rules.specs.Lists.{those, upFrom}
 use Rattle.rules.specs.Geometry.{meets}
+use Rattle.rules.specs.Compare.{liesIn}
 use Rattle.rules.specs.Pool.{Pool, noEntry, entriesAt, entryFrom, entryAt, childOf}
 use Rattle.rules.specs.Delete.{Path, orLater, findChild, findLeaf}
 use Rattle.rules_laws.proofs.Orders.{never-both}
@@ -22,19 +23,12 @@ use Rattle.rules_laws.proofs.Places.{Among, at-place}
 use Rattle.rules_laws.proofs.Parts.{those-yes, those-no, those-none}
 use Rattle.sound_laws.specs.Tree.{recordsIn, Tree, InnerEntry}
 use Rattle.sound_laws.proofs.Walk.{inner-of}
-use Rattle.search_laws.proofs.Covers.{HoldsRect, holds-meets}
-use Rattle.search_laws.proofs.Found.{record-held}
+use Rattle.rules_laws.proofs.Compares.{HoldsRect, lies-in, holds-meets, valid-meets}
+use Rattle.search_laws.proofs.Found.{record-good, record-held}
 use Rattle.delete_laws.specs.Way.{Leads, EachWay}
 use Rattle.delete_laws.proofs.Clauses.{child-none, child-yes, child-no, or-none, leaf-below}
 use Rattle.delete_laws.proofs.Finds.{find-leads, leads-record}
-use Rattle.delete_laws.proofs.Held.{valid-meets, record-good}
-use Rattle.find_leaf.specs.State.{contains, holding}
-
--- ---- what holds a rectangle
-
-holds-contains : {a b : Rect} → HoldsRect a b → contains a b ≡ true
-unfolding contains
-holds-contains h = rw (h .lowX, h .lowY, h .highX, h .highY)
+use Rattle.find_leaf.specs.State.{holding}
 
 -- ---- the first of some places at which something is found
 
@@ -67,12 +61,12 @@ module _ (p : Pool) (r : Record) where
         holds-meets (r .rect) (found-held path q)
         (valid-meets (r .rect) (record-good p l (childOf e) (inner .child) r (found-record l (childOf e) path q) .0))
 
-    not-held : contains (e .rect) (r .rect) ≡ false → findLeaf p r l (childOf e) ≡ none
+    not-held : liesIn (r .rect) (e .rect) ≡ false → findLeaf p r l (childOf e) ≡ none
     not-held h = go (findLeaf p r l (childOf e)) refl
       where
         go : (o : Option Path) → findLeaf p r l (childOf e) ≡ o → o ≡ none
         go none q = refl
-        go (some path) q = never-both (holds-contains (found-held path q)) h
+        go (some path) q = never-both (lies-in (r .rect) (e .rect) .1 (found-held path q)) h
 
     not-met : meets (e .rect) (r .rect) ≡ false → findLeaf p r l (childOf e) ≡ none
     not-met h = go (findLeaf p r l (childOf e)) refl
@@ -95,7 +89,7 @@ module _ (p : Pool) (r : Record) where
     found i = foundAt l s i
 
     abbrev test : ℕ → Bool
-    test i = contains (entryAt p s i .rect) (r .rect)
+    test i = liesIn (r .rect) (entryAt p s i .rect)
 
     one-child : (i : ℕ) (e : Entry) (es : List Entry) → InnerEntry p (λ t. Tree p l t) e
         → findChild find (r .rect) s i (e ∷ es) ≡ orLater s i (find (childOf e)) (findChild find (r .rect) s (suc i) es)

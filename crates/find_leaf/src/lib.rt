@@ -13,7 +13,7 @@ ghost use Rattle.pool.specs.Slots.{InPool};
 ghost use Rattle.sound_laws.specs.Tree.{Tree, Whole};
 ghost use Rattle.find_leaf.specs.Ways.{Gives};
 ghost use Rattle.find_leaf.specs.Packed.{bitsBelow, packedWay};
-ghost use Rattle.find_leaf.specs.State.{contains, hasNumber, HitsOf};
+ghost use Rattle.find_leaf.specs.State.{hasNumber, HitsOf};
 use geometry::one_if;
 use rules::MOST;
 use rules::MOST_HEIGHT;
@@ -97,7 +97,7 @@ fn find_entry(pool: &[i32], r: Record, s: SlotNumber) -> usize
     let mut at: usize = 0;
     while at < n {
         let e = pool::entry_of(pool, s, at);
-        if geometry::same_pair(r, nodes::record_of(e)) {
+        if geometry::exact_pair(r, nodes::record_of(e)) {
             return FOUND + at;
         }
         at += 1;
@@ -107,20 +107,10 @@ fn find_entry(pool: &[i32], r: Record, s: SlotNumber) -> usize
 
 // ---- FL1: an inner node
 
-// Whether a holds b.
-fn contains(a: Rect, b: Rect) -> bool
-    ensures { λ t. ⌜ t ≡ contains a b ⌝ }
-{
-    let low = geometry::and(geometry::le(a.lowX, b.lowX), geometry::le(a.lowY, b.lowY));
-    geometry::and(
-        geometry::and(low, geometry::le(b.highX, a.highX)),
-        geometry::le(b.highY, a.highY),
-    )
-}
-
 // The places of the entries that hold the rectangle are put in front, in stored order; it says how many there are, and what stands after
 // them means nothing. Each place is written down, and the next goes over one that does not hold it: so nothing branches on the outcome,
-// which the processor would often guess wrong.
+// which the processor would often guess wrong. Of the comparison only this half is asked: a rectangle with no low above its high meets what it
+// lies in.
 fn put_hits(pool: &[i32], s: SlotNumber, r: Rect, places: &mut [usize; MOST]) -> usize
     requires { ⌜ InPool (now pool) s ⌝ }
     requires { ⌜ length (now places) ≡ most ⌝ }
@@ -131,7 +121,7 @@ fn put_hits(pool: &[i32], s: SlotNumber, r: Rect, places: &mut [usize; MOST]) ->
     let mut i: usize = 0;
     while i < n {
         places[count] = i;
-        count += one_if(contains(pool::rect_of(pool, s, i), r));
+        count += one_if(geometry::lies_in(r, pool::rect_of(pool, s, i)));
         i += 1;
     }
     count

@@ -40,8 +40,8 @@ entry-of-requires c κs =
 record-of-requires : tie.Need-record-of-requires Inv-loop μ-loop
 record-of-requires c κs = tt
 
-same-pair-requires : tie.Need-same-pair-requires Inv-loop μ-loop
-same-pair-requires c κs = tt
+exact-pair-requires : tie.Need-exact-pair-requires Inv-loop μ-loop
+exact-pair-requires c κs = tt
 
 add-result : tie.Need-add-result Inv-loop μ-loop
 add-result c =
@@ -57,7 +57,7 @@ returns-2 c =
     let entry-of = c .before .before .before .entry-of in
     let record-of = c .before .before .record-of in
     ahead-here (read (start .args .pool .now)) (start .args .r) (start .args .s) (loop .inv) (loop-test .taken)
-    (sym (rw (record-of .ensures, entry-of .ensures) at (c .before .same-pair .ensures)) ∙ c .if2 .taken)
+    (sym (rw (record-of .ensures, entry-of .ensures) at (c .before .exact-pair .ensures)) ∙ c .if2 .taken)
 
 add-at : tie.Need-add-at Inv-loop μ-loop
 add-at c =
@@ -78,7 +78,7 @@ loop-again c =
     let entry-of = c .before .before .before .entry-of in
     let record-of = c .before .before .record-of in
     ahead-next (read (start .args .pool .now)) (start .args .r) (start .args .s) (loop .inv) (loop-test .taken)
-    (sym (rw (record-of .ensures, entry-of .ensures) at (c .before .same-pair .ensures)) ∙ c .if2 .left)
+    (sym (rw (record-of .ensures, entry-of .ensures) at (c .before .exact-pair .ensures)) ∙ c .if2 .left)
 
 returns-3 : tie.Need-returns-3 Inv-loop μ-loop
 returns-3 c =
@@ -97,7 +97,7 @@ find-entry-spec =
     loop-holds
     entry-of-requires
     record-of-requires
-    same-pair-requires
+    exact-pair-requires
     add-result
     returns-2
     add-at

@@ -4,17 +4,18 @@ use Prim.Native.Nat.{_-_}
 use native.Mathlib.Omega.{arith}
 use lib.ListN.{length}
 use Rattle.rules.specs.declared.Rect.{Rect}
+use Rattle.rules.specs.Compare.{liesIn}
 use Rattle.rules.specs.Pool.{entriesAt, entryFrom, entryAt}
 use Rattle.rules.specs.Layout.{read}
 use Rattle.pool.proofs.Parts.{rect-entry}
-use Rattle.find_leaf.specs.State.{contains, holding}
+use Rattle.find_leaf.specs.State.{holding}
 use Rattle.find_leaf.proofs.Gather.{Gathered, gather-first, gather-on, gathered-all}
 use Rattle.find_leaf.proofs.put_hits.Statement.{statement}
 use Rattle.find_leaf.proofs.put_hits.Tie as tie
 
 abbrev Inv-loop : tie.InvT-loop
 Inv-loop pool s r places₀ n count₀ i₀ places count i =
-    (n ≡ length (entriesAt (read pool) s)) × Gathered (λ k. contains (entryAt (read pool) s k .rect) r) n places count i
+    (n ≡ length (entriesAt (read pool) s)) × Gathered (λ k. liesIn r (entryAt (read pool) s k .rect)) n places count i
 
 abbrev μ-loop : tie.MeasureT-loop
 μ-loop pool s r places₀ n count₀ i₀ places count i = n - i
@@ -36,8 +37,8 @@ element-write-places c =
 rect-of-requires : tie.Need-rect-of-requires Inv-loop μ-loop
 rect-of-requires c κs = (c .before .before .before .pre .0, omega (arith, c .loop-test .taken, c .before .loop .inv .0))
 
-contains-requires : tie.Need-contains-requires Inv-loop μ-loop
-contains-requires c κs = tt
+lies-in-requires : tie.Need-lies-in-requires Inv-loop μ-loop
+lies-in-requires c κs = tt
 
 one-if-requires : tie.Need-one-if-requires Inv-loop μ-loop
 one-if-requires c κs = tt
@@ -64,11 +65,11 @@ loop-again c =
     let loop = c .before .before .before .before .loop in
     let loop-test = c .before .before .before .loop-test in
     let rect-of = c .before .before .rect-of in
-    let contains-call = c .before .contains in
+    let lies-in = c .before .lies-in in
     let r = rect-of .ensures ∙ rect-entry (entriesAt (read (start .args .pool .now)) (start .args .s)) (loop .i) in (
       loop .inv .0,
-      gather-on (loop .inv .1) (loop-test .taken) (contains-call .result)
-          (contains-call .ensures ∙ ap (λ (a : Rect). contains a (start .args .r)) r) (c .one-if .result) (c .one-if .ensures .0),
+      gather-on (loop .inv .1) (loop-test .taken) (lies-in .result)
+          (lies-in .ensures ∙ ap (λ (a : Rect). liesIn (start .args .r) a) r) (c .one-if .result) (c .one-if .ensures .0),
     )
 
 returns : tie.Need-returns Inv-loop μ-loop
@@ -92,7 +93,7 @@ put-hits-spec =
     mul-places
     element-write-places
     rect-of-requires
-    contains-requires
+    lies-in-requires
     one-if-requires
     add-count
     add-i
