@@ -10,6 +10,7 @@ use lib.Dec.{ltb}
 use lib.IntN.{ℤ}
 use borrow.Author.Tests.{ltb-false}
 use Rattle.rules.specs.declared.Rect.{Rect}
+use Rattle.rules.specs.declared.Mode.{Mode}
 use Rattle.rules.specs.declared.Asked.{Asked}
 use Rattle.rules.specs.declared.Reply.{Reply}
 use Rattle.rules.specs.declared.Reply.the-variants.{Listed, BadRectangle, NoRoom}
@@ -42,13 +43,13 @@ module _ (room long : ℕ) where
   after-none p NoneFree = record { places = omega arith; words = omega arith }
 
 module _ (w : List ℤ) (right : validLength w ≡ true) (s : sound w ≡ true) where
-  found-size : (window : Rect) → 2 * length (found (read w) window) ≤ length w
+  found-size : (mode : Mode) (window : Rect) → 2 * length (found (read w) mode window) ≤ length w
   unfolding found
-  found-size window =
+  found-size mode window =
       omega (
         arith,
-        alike-length (ordered-alike (foundFromRoot (read w) window)),
-        found-few w (sound-tree w s) window,
+        alike-length (ordered-alike (foundFromRoot (read w) mode window)),
+        found-few w (sound-tree w s) mode window,
         right-size w right,
       )
 
@@ -56,13 +57,13 @@ module _ (w : List ℤ) (right : validLength w ≡ true) (s : sound w ≡ true) 
     abbrev P : Turn → Type 0
     P t = Placed room (length w) t
 
-    search-listed : (window : Rect) → searchFault (read w) room window ≡ none
-        → P (turn (read w) (Listed (length (found (read w) window)) filled (opened (read w) window)) (found (read w) window))
+    search-listed : (mode : Mode) (window : Rect) → searchFault (read w) room mode window ≡ none
+        → P (turn (read w) (Listed (length (found (read w) mode window)) filled (opened (read w) window)) (found (read w) mode window))
     unfolding searchFault
-    search-listed window h =
+    search-listed mode window h =
         let a = no-row (not (valid window)) BadRectangle _ h in
-        let b = no-row (ltb room (length (found (read w) window))) (NoRoom (length (found (read w) window)) (opened (read w) window)) _ (a .1) in
-        record { places = ltb-false room (length (found (read w) window)) (b .0); words = found-size window }
+        let b = no-row (ltb room (length (found (read w) mode window))) (NoRoom (length (found (read w) mode window)) (opened (read w) window)) _ (a .1) in
+        record { places = ltb-false room (length (found (read w) mode window)) (b .0); words = found-size mode window }
 
     pub request-placed : (a : Asked) → P (request c (read w) filled room a)
     request-placed =

@@ -13,10 +13,10 @@ use borrow.Author.Tests.{le-leb, lt-leb}
 use Rattle.rules.specs.declared.Request.{Request}
 use Rattle.rules.specs.declared.Verdict.{Verdict}
 use Rattle.rules.specs.Numbers.{mostRequests}
-use Rattle.rules.specs.Lists.{every, same}
+use Rattle.rules.specs.Lists.{every, oneOf, same}
 use Rattle.rules.specs.Layout.{validLength}
 use Rattle.rules.specs.Sound.{sound}
-use Rattle.rules.specs.Answers.{row, firstRow, verdictNumber}
+use Rattle.rules.specs.Answers.{Row, firstRow, verdictNumber}
 use Rattle.rules.specs.Request.{asked}
 use Rattle.rules.specs.Insert.{ours}
 use Rattle.rules.specs.Call.{Lent, Left, call, callFault, refused, served, isRequest}
@@ -81,30 +81,38 @@ pub check-number : (w : List ℤ) → refusalOf w (length w) 0 0 true ≡ call (
 unfolding every
 check-number w = call-number (nothingAsked w)
 
--- "A request is of one of the four kinds"
-some-row : {A : Type 0} (a b c d : Bool) (w x y z : A) → elim (firstRow (row a w ∷ row b x ∷ row c y ∷ row d z ∷ [])) [ none ↦ false | some e ↦ true ] ≡ (a || b || c || d)
-unfolding firstRow
-some-row true b c d w x y z = refl
-some-row false true c d w x y z = refl
-some-row false false true d w x y z = refl
-some-row false false false true w x y z = refl
-some-row false false false false w x y z = refl
+-- "A request is of one of the four kinds": some row of the table applies
+some-row : {A : Type 0} (rows : List (Row A)) → elim (firstRow rows) [ none ↦ false | some e ↦ true ] ≡ oneOf (λ (r : Row A). r .applies) rows
+unfolding firstRow oneOf
+some-row [] = refl
+some-row (r ∷ rows) = go (r .applies) refl (some-row rows)
+  where
+    go : (b : Bool) → r .applies ≡ b → elim (firstRow rows) [ none ↦ false | some e ↦ true ] ≡ oneOf (λ (x : Row _). x .applies) rows
+        → elim (firstRow (r ∷ rows)) [ none ↦ false | some e ↦ true ] ≡ oneOf (λ (x : Row _). x .applies) (r ∷ rows)
+    go true e h = rw (e, firstRow)
+    go false e h = rw (e, firstRow) h
 
-over : (m : ℕ) → 5 ≤ m → (leZ (pos 1) (pos m) && leZ (pos m) (pos 4)) ≡ (same (pos m) (pos 1) || same (pos m) (pos 2) || same (pos m) (pos 3) || same (pos m) (pos 4))
-unfolding same
+-- the kinds are 1 to 6
+abbrev kinds : List ℤ
+kinds = pos 1 ∷ pos 2 ∷ pos 3 ∷ pos 4 ∷ pos 5 ∷ pos 6 ∷ []
+
+over : (m : ℕ) → 7 ≤ m → (leZ (pos 1) (pos m) && leZ (pos m) (pos 6)) ≡ oneOf (same (pos m)) kinds
+unfolding same oneOf
 over m h =
-    rw (same, le-leb 1 m (omega arith), lt-leb m 1 (omega arith), lt-leb m 2 (omega arith), lt-leb m 3 (omega arith), lt-leb m 4 (omega arith))
+    rw (same, le-leb 1 m (omega arith), lt-leb m 1 (omega arith), lt-leb m 2 (omega arith), lt-leb m 3 (omega arith), lt-leb m 4 (omega arith), lt-leb m 5 (omega arith), lt-leb m 6 (omega arith))
 
-one-to-four : (k : ℤ) → (leZ (pos 1) k && leZ k (pos 4)) ≡ (same k (pos 1) || same k (pos 2) || same k (pos 3) || same k (pos 4))
-unfolding same
-one-to-four (negsuc n) = refl
-one-to-four (pos zero) = refl
-one-to-four (pos (suc zero)) = refl
-one-to-four (pos (suc (suc zero))) = refl
-one-to-four (pos (suc (suc (suc zero)))) = refl
-one-to-four (pos (suc (suc (suc (suc zero))))) = refl
-one-to-four (pos (suc (suc (suc (suc (suc n)))))) = over (suc (suc (suc (suc (suc n))))) (omega arith)
+one-to-six : (k : ℤ) → (leZ (pos 1) k && leZ k (pos 6)) ≡ oneOf (same k) kinds
+unfolding same oneOf
+one-to-six (negsuc n) = refl
+one-to-six (pos zero) = refl
+one-to-six (pos (suc zero)) = refl
+one-to-six (pos (suc (suc zero))) = refl
+one-to-six (pos (suc (suc (suc zero)))) = refl
+one-to-six (pos (suc (suc (suc (suc zero))))) = refl
+one-to-six (pos (suc (suc (suc (suc (suc zero)))))) = refl
+one-to-six (pos (suc (suc (suc (suc (suc (suc zero))))))) = refl
+one-to-six (pos (suc (suc (suc (suc (suc (suc (suc n)))))))) = over (suc (suc (suc (suc (suc (suc (suc n))))))) (omega arith)
 
-pub four-kinds : (q : Request) → (leZ (pos 1) (q .kind) && leZ (q .kind) (pos 4)) ≡ isRequest q
-unfolding isRequest asked
-four-kinds q = one-to-four (q .kind) ∙ sym (some-row (same (q .kind) (pos 1)) (same (q .kind) (pos 2)) (same (q .kind) (pos 3)) (same (q .kind) (pos 4)) _ _ _ _)
+pub all-kinds : (q : Request) → (leZ (pos 1) (q .kind) && leZ (q .kind) (pos 6)) ≡ isRequest q
+unfolding isRequest asked oneOf
+all-kinds q = one-to-six (q .kind) ∙ sym (some-row _)

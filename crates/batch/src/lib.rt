@@ -77,12 +77,12 @@ pub fn refusal(pool: &[i32], workspace: usize, requests: usize, answers: usize, 
     0
 }
 
-// "A request is of one of the four kinds", 1 to 4.
+// "A request is of one of the four kinds"; a search is of kind 4, 5 or 6, by its mode.
 fn is_request(q: Request) -> bool
     ensures { λ r. ⌜ r ≡ C.isRequest q ⌝ }
 {
     let k = q.kind;
-    geometry::and(geometry::le(1, k), geometry::le(k, 4))
+    geometry::and(geometry::le(1, k), geometry::le(k, 6))
 }
 
 // All so far, and this one as well.

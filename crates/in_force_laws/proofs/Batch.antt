@@ -9,6 +9,7 @@ use native.Mathlib.Omega.{arith}
 use lib.ListN.{length, getD, set, take, drop, length-append, length-set}
 use lib.Seq.{sets, length-sets, sets-eq, slice, slice-empty, take-set-le, drop-set-lt, take-at, drop-at, length-take-le, getD-set-same, getD-set-other}
 use Rattle.rules.specs.declared.Rect.{Rect}
+use Rattle.rules.specs.declared.Mode.{Mode}
 use Rattle.rules.specs.declared.Record.{Record}
 use Rattle.rules.specs.declared.Request.{Request}
 use Rattle.rules.specs.declared.Asked.{Asked}
@@ -21,11 +22,11 @@ use Rattle.rules.specs.Insert.{Choice}
 use Rattle.rules.specs.Lawful.{Lawful}
 use Rattle.rules.specs.Request.{asked, request}
 use Rattle.rules.specs.Call.{Batch, afterTurn, doRequest, doRequests}
-use Rattle.search_laws.specs.Window.{recordMeets}
+use Rattle.search_laws.specs.Window.{recordWanted}
 use Rattle.search_laws.proofs.Order.{alike-length, ordered-alike}
 use Rattle.in_force_laws.specs.Force.{inForce, forceBy, forceAfter}
 use Rattle.in_force_laws.specs.Shows.{EachOnce, HoldsRecords, nodesMeeting, SearchShows}
-use Rattle.in_force_laws.specs.Batch.{howManyMeet, Told}
+use Rattle.in_force_laws.specs.Batch.{howManyWanted, Told}
 use Rattle.in_force_laws.proofs.Change.{listed-fits, request-force}
 use Rattle.in_force_laws.proofs.Search.{request-search}
 
@@ -206,29 +207,29 @@ module _ (c : Choice) where
 
   -- ---- a search
 
-  module _ (i : ℕ) (b : Batch) (rs : List Record) (k : HoldsRecords (b .pool) rs) (h : i < length (b .answers)) (window : Rect) (v : valid window ≡ true)
-      (room : howManyMeet window rs ≤ length (b .found) - b .filled) where
+  module _ (i : ℕ) (b : Batch) (rs : List Record) (k : HoldsRecords (b .pool) rs) (h : i < length (b .answers)) (mode : Mode) (window : Rect) (v : valid window ≡ true)
+      (room : howManyWanted mode window rs ≤ length (b .found) - b .filled) where
     abbrev now : Batch
-    now = doRequest c i b (some (Search window))
+    now = doRequest c i b (some (Search mode window))
 
-    shows : SearchShows (b .pool) rs (b .filled) window (request c (b .pool) (b .filled) (length (b .found) - b .filled) (Search window))
-    shows = request-search (b .pool) rs k window (length (b .found) - b .filled) c (b .filled) v room
+    shows : SearchShows (b .pool) rs (b .filled) mode window (request c (b .pool) (b .filled) (length (b .found) - b .filled) (Search mode window))
+    shows = request-search (b .pool) rs k mode window (length (b .found) - b .filled) c (b .filled) v room
 
-    many : length (request c (b .pool) (b .filled) (length (b .found) - b .filled) (Search window) .listed) ≡ howManyMeet window rs
-    many = ap length (shows .lists) ∙ alike-length (ordered-alike (those (recordMeets window) rs))
+    many : length (request c (b .pool) (b .filled) (length (b .found) - b .filled) (Search mode window) .listed) ≡ howManyWanted mode window rs
+    many = ap length (shows .lists) ∙ alike-length (ordered-alike (those (recordWanted mode window) rs))
 
-    told-now : getD (now .answers) i noAnswer ≡ answer 0 (howManyMeet window rs) (b .filled) (suc (nodesMeeting (b .pool) window))
+    told-now : getD (now .answers) i noAnswer ≡ answer 0 (howManyWanted mode window rs) (b .filled) (suc (nodesMeeting (b .pool) window))
     unfolding doRequest afterTurn answerOf
     told-now = getD-set-same (b .answers) i _ noAnswer h ∙ ap answerOf (shows .reply)
 
     -- .. and at the end of the batch
     told-end : (later : List Request)
-        → Told (b .pool) rs (b .filled) window i (doRequests c (suc i) later now .answers) (doRequests c (suc i) later now .found)
+        → Told (b .pool) rs (b .filled) mode window i (doRequests c (suc i) later now .answers) (doRequests c (suc i) later now .found)
     told-end later =
         let end = doRequests c (suc i) later now in
-        let there : slice (b .filled) (b .filled + howManyMeet window rs) (end .found)
-        ≡ request c (b .pool) (b .filled) (length (b .found) - b .filled) (Search window) .listed =
-        ap (λ (n : ℕ). slice (b .filled) (b .filled + n) (end .found)) (sym many) ∙ listed-end i b (Search window) later in
+        let there : slice (b .filled) (b .filled + howManyWanted mode window rs) (end .found)
+        ≡ request c (b .pool) (b .filled) (length (b .found) - b .filled) (Search mode window) .listed =
+        ap (λ (n : ℕ). slice (b .filled) (b .filled + n) (end .found)) (sym many) ∙ listed-end i b (Search mode window) later in
         record {
           told = answers-kept (suc i) later now i (omega arith) ∙ told-now;
           shown = there ∙ shows .lists;
@@ -254,12 +255,13 @@ module _ (c : Choice) where
     inside : i + length earlier < length (b .answers)
     inside = omega (arith, h, length-append earlier (q ∷ later))
 
-    pub batch-search : (window : Rect) → asked q ≡ some (Search window) → valid window ≡ true
-        → howManyMeet window (forceAfter rs i earlier (end .answers)) ≤ length (b .found) - before .filled
-        → Told (before .pool) (forceAfter rs i earlier (end .answers)) (before .filled) window (i + length earlier) (end .answers) (end .found)
-    batch-search window s v room =
+    pub batch-search : (mode : Mode) (window : Rect) → asked q ≡ some (Search mode window) → valid window ≡ true
+        → howManyWanted mode window (forceAfter rs i earlier (end .answers)) ≤ length (b .found) - before .filled
+        → Told (before .pool) (forceAfter rs i earlier (end .answers)) (before .filled) mode window (i + length earlier) (end .answers) (end .found)
+    batch-search mode window s v room =
         subst (λ (x : Batch).
-        Told (before .pool) (forceAfter rs i earlier (end .answers)) (before .filled) window (i + length earlier) (x .answers) (x .found))
-        (sym (end-is (some (Search window)) s))
-        (told-end (i + length earlier) before (forceAfter rs i earlier (end .answers)) (part-force lawful i earlier (q ∷ later) b rs k h) (omega (arith, inside, answers-as-many i earlier b)) window v
+        Told (before .pool) (forceAfter rs i earlier (end .answers)) (before .filled) mode window (i + length earlier) (x .answers) (x .found))
+        (sym (end-is (some (Search mode window)) s))
+        (told-end (i + length earlier) before (forceAfter rs i earlier (end .answers)) (part-force lawful i earlier (q ∷ later) b rs k h)
+        (omega (arith, inside, answers-as-many i earlier b)) mode window v
         (omega (arith, room, places-as-many i earlier b)) later)

@@ -11,6 +11,7 @@ use lib.Dec.{ltb, eqb}
 use lib.IntN.{ℤ, pos, negsuc}
 use borrow.Author.Tests.{eqb-true}
 use Rattle.rules.specs.declared.Rect.{Rect}
+use Rattle.rules.specs.declared.Mode.{Mode}
 use Rattle.rules.specs.declared.Record.{Record}
 use Rattle.rules.specs.declared.Request.{Request}
 use Rattle.rules.specs.declared.Asked.the-variants.{Search}
@@ -32,7 +33,7 @@ use Rattle.rules_laws.proofs.Splits.{ours-lawful}
 use Rattle.sound_laws.proofs.Blank.{blank-whole}
 use Rattle.in_force_laws.specs.Force.{forceAfter, filledAfter}
 use Rattle.in_force_laws.specs.Shows.{HoldsRecords}
-use Rattle.in_force_laws.specs.Batch.{howManyMeet, Told}
+use Rattle.in_force_laws.specs.Batch.{howManyWanted, Told}
 use Rattle.in_force_laws.specs.History.{poolServed, forceOf, CallsServed}
 use Rattle.in_force_laws.proofs.Written.{whole-reads}
 use Rattle.in_force_laws.proofs.Faults.{EachGiven, given-none, given-row, no-row}
@@ -137,8 +138,8 @@ module _ (c : Choice) (l : Lent) where
         (subst (λ (qs : List Request). 0 + length qs ≤ length (starting l .answers)) is start-long))
 
     -- a search at any place of its request list
-    module _ (earlier : List Request) (q : Request) (later : List Request) (is : l .requests ≡ earlier ++ q ∷ later) (window : Rect)
-        (s : asked q ≡ some (Search window)) (v : valid window ≡ true) where
+    module _ (earlier : List Request) (q : Request) (later : List Request) (is : l .requests ≡ earlier ++ q ∷ later) (mode : Mode) (window : Rect)
+        (s : asked q ≡ some (Search mode window)) (v : valid window ≡ true) where
       -- how far the batch had come
       abbrev pub so-far : Batch
       so-far = doRequests c 0 earlier (starting l)
@@ -157,12 +158,12 @@ module _ (c : Choice) (l : Lent) where
       unfolding starting
       start-places = refl
 
-      pub call-search : howManyMeet window then-force ≤ length (l .found) - so-far .filled
-          → Told (so-far .pool) then-force (so-far .filled) window (0 + length earlier) (callBy c l .answers) (callBy c l .found)
+      pub call-search : howManyWanted mode window then-force ≤ length (l .found) - so-far .filled
+          → Told (so-far .pool) then-force (so-far .filled) mode window (0 + length earlier) (callBy c l .answers) (callBy c l .found)
       call-search =
           rw (parts, found-parts, ← start-places)
           (batch-search c lawful 0 earlier q later (starting l) rs start-holds
-          (subst (λ (qs : List Request). 0 + length qs ≤ length (starting l .answers)) is start-long) window s v)
+          (subst (λ (qs : List Request). 0 + length qs ≤ length (starting l .answers)) is start-long) mode window s v)
 
       inside : 0 + length earlier ≤ length (starting l .answers)
       inside = omega (arith, start-long, ap length is, length-append earlier (q ∷ later))
@@ -172,14 +173,14 @@ module _ (c : Choice) (l : Lent) where
       unfolding starting
       filled-then = rw parts (part-filled c 0 earlier (q ∷ later) (starting l) inside)
 
-      pub call-shows : howManyMeet window then-force ≤ length (l .found) - filledAfter 0 0 earlier (callBy c l .answers)
-          → Told (so-far .pool) then-force (filledAfter 0 0 earlier (callBy c l .answers)) window (length earlier) (callBy c l .answers)
+      pub call-shows : howManyWanted mode window then-force ≤ length (l .found) - filledAfter 0 0 earlier (callBy c l .answers)
+          → Told (so-far .pool) then-force (filledAfter 0 0 earlier (callBy c l .answers)) mode window (length earlier) (callBy c l .answers)
           (callBy c l .found)
       call-shows =
-          subst (λ (n : ℕ). howManyMeet window then-force ≤ length (l .found) - n
-          → Told (so-far .pool) then-force n window (length earlier) (callBy c l .answers) (callBy c l .found)) filled-then
-          (subst (λ (i : ℕ). howManyMeet window then-force ≤ length (l .found) - so-far .filled
-          → Told (so-far .pool) then-force (so-far .filled) window i (callBy c l .answers) (callBy c l .found)) none-before call-search)
+          subst (λ (n : ℕ). howManyWanted mode window then-force ≤ length (l .found) - n
+          → Told (so-far .pool) then-force n mode window (length earlier) (callBy c l .answers) (callBy c l .found)) filled-then
+          (subst (λ (i : ℕ). howManyWanted mode window then-force ≤ length (l .found) - so-far .filled
+          → Told (so-far .pool) then-force (so-far .filled) mode window i (callBy c l .answers) (callBy c l .found)) none-before call-search)
         where
           none-before : 0 + length earlier ≡ length earlier
           none-before = omega arith
@@ -213,21 +214,21 @@ module _ (c : Choice) (lawful : Lawful c) where
   -- whose cover meets the window; with n records and height h, h is 1 or 2·3^(h-1) ≤ n."
   pub in-force : (n : ℕ) (ls : List Lent) (l : Lent) → CallsServed c n (l ∷ ls)
       → (earlier : List Request) (q : Request) (later : List Request) → l .requests ≡ earlier ++ q ∷ later
-      → (window : Rect) → asked q ≡ some (Search window) → valid window ≡ true
-      → howManyMeet window (forceAfter (forceOf c ls) 0 earlier (callBy c l .answers)) ≤ length (l .found) - filledAfter 0 0 earlier (callBy c l .answers)
+      → (mode : Mode) (window : Rect) → asked q ≡ some (Search mode window) → valid window ≡ true
+      → howManyWanted mode window (forceAfter (forceOf c ls) 0 earlier (callBy c l .answers)) ≤ length (l .found) - filledAfter 0 0 earlier (callBy c l .answers)
       → Told (doRequests c 0 earlier (starting l) .pool) (forceAfter (forceOf c ls) 0 earlier (callBy c l .answers))
-      (filledAfter 0 0 earlier (callBy c l .answers)) window (length earlier) (callBy c l .answers) (callBy c l .found)
-  in-force n ls l h earlier q later is window s v room =
+      (filledAfter 0 0 earlier (callBy c l .answers)) mode window (length earlier) (callBy c l .answers) (callBy c l .found)
+  in-force n ls l h earlier q later is mode window s v room =
       let k : HoldsRecords (read (l .pool)) (forceOf c ls) =
       subst (λ (w : List ℤ). HoldsRecords (read w) (forceOf c ls)) (sym (h .0)) (calls-hold n ls (h .2)) in
-      call-shows c l lawful (forceOf c ls) k (h .1) earlier q later is window s v room
+      call-shows c l lawful (forceOf c ls) k (h .1) earlier q later is mode window s v room
 
 -- .. by document 01's choices
 pub ours-in-force : (n : ℕ) (ls : List Lent) (l : Lent) → CallsServed ours n (l ∷ ls)
     → (earlier : List Request) (q : Request) (later : List Request) → l .requests ≡ earlier ++ q ∷ later
-    → (window : Rect) → asked q ≡ some (Search window) → valid window ≡ true
-    → howManyMeet window (forceAfter (forceOf ours ls) 0 earlier (call l .answers)) ≤ length (l .found) - filledAfter 0 0 earlier (call l .answers)
+    → (mode : Mode) (window : Rect) → asked q ≡ some (Search mode window) → valid window ≡ true
+    → howManyWanted mode window (forceAfter (forceOf ours ls) 0 earlier (call l .answers)) ≤ length (l .found) - filledAfter 0 0 earlier (call l .answers)
     → Told (doRequests ours 0 earlier (starting l) .pool) (forceAfter (forceOf ours ls) 0 earlier (call l .answers))
-    (filledAfter 0 0 earlier (call l .answers)) window (length earlier) (call l .answers) (call l .found)
+    (filledAfter 0 0 earlier (call l .answers)) mode window (length earlier) (call l .answers) (call l .found)
 unfolding call
 ours-in-force = in-force ours ours-lawful

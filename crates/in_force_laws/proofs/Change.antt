@@ -10,13 +10,15 @@ use lib.Dec.{ltb, eqb}
 use lib.ListN.{length}
 use borrow.Author.Tests.{ltb-false}
 use Rattle.rules.specs.declared.Rect.{Rect}
+use Rattle.rules.specs.declared.Mode.{Mode}
 use Rattle.rules.specs.declared.Record.{Record}
 use Rattle.rules.specs.declared.Asked.{Asked}
 use Rattle.rules.specs.declared.Asked.the-variants.{Insert, Delete, Update, Search}
 use Rattle.rules.specs.declared.Reply.{Reply}
 use Rattle.rules.specs.declared.Reply.the-variants.{Changed, Listed, BadRectangle, BadNumber, NotHeld, Held, NoSlot, NoRoom}
 use Rattle.rules.specs.Numbers.{goodNumber}
-use Rattle.rules.specs.Geometry.{valid, samePair}
+use Rattle.rules.specs.Geometry.{valid}
+use Rattle.rules.specs.Compare.{exactPair}
 use Rattle.rules.specs.Pool.{Pool, held}
 use Rattle.rules.specs.Search.{found, opened}
 use Rattle.rules.specs.Answers.{answerOf}
@@ -28,7 +30,7 @@ use Rattle.rules_laws.proofs.Bools.{or-neither, not-false}
 use Rattle.rules_laws.proofs.Orders.{never-both}
 use Rattle.rules_laws.proofs.Places.{Among}
 use Rattle.rules_laws.proofs.Parts.{count-cons}
-use Rattle.sound_laws.proofs.Same.{same-pair}
+use Rattle.sound_laws.proofs.Same.{exact-same}
 use Rattle.insert_laws.proofs.Whole.{insert-whole, insert-stored}
 use Rattle.delete_laws.proofs.Delete.{delete-whole, delete-stored}
 use Rattle.delete_laws.proofs.Update.{renewed, update-whole, update-stored}
@@ -67,9 +69,9 @@ module _ (p : Pool) where
       given-row Refused _ BadRectangle _ refl
       (given-row Refused _ BadNumber _ refl (given-row Refused _ NotHeld _ refl (given-row Refused _ Held _ refl (given-none Refused))))
 
-  pub search-refused : (room : ℕ) (window : Rect) → EachGiven Refused (searchFault p room window)
+  pub search-refused : (room : ℕ) (mode : Mode) (window : Rect) → EachGiven Refused (searchFault p room mode window)
   unfolding searchFault answerOf
-  search-refused room window =
+  search-refused room mode window =
       given-row Refused _ BadRectangle _ refl (given-row Refused _ (NoRoom _ _) _ refl (given-none Refused))
 
 -- ---- what is accepted has passed every row
@@ -97,21 +99,21 @@ module _ (p : Pool) where
       not-false _ (d .0)
 
   pub update-passed : (old : Record) (new : Rect) → updateFault p old new ≡ none
-      → (valid new ≡ true) × (held p old ≡ true) × ((held p (renewed old new) && not (samePair old (renewed old new))) ≡ false)
+      → (valid new ≡ true) × (held p old ≡ true) × ((held p (renewed old new) && not (exactPair old (renewed old new))) ≡ false)
   unfolding updateFault
   update-passed old new h =
       let a = no-row (not (valid (old .rect)) || not (valid new)) BadRectangle _ h in
       let b = no-row (not (goodNumber (old .number))) BadNumber _ (a .1) in
       let d = no-row (not (held p old)) NotHeld _ (b .1) in
-      let e = no-row (held p (renewed old new) && not (samePair old (renewed old new))) Held _ (d .1) in
+      let e = no-row (held p (renewed old new) && not (exactPair old (renewed old new))) Held _ (d .1) in
       (not-false _ (or-neither (not (valid (old .rect))) (not (valid new)) (a .0) .1), not-false _ (d .0), e .0)
 
-  pub search-passed : (room : ℕ) (window : Rect) → searchFault p room window ≡ none → length (found p window) ≤ room
+  pub search-passed : (room : ℕ) (mode : Mode) (window : Rect) → searchFault p room mode window ≡ none → length (found p mode window) ≤ room
   unfolding searchFault
-  search-passed room window h =
+  search-passed room mode window h =
       let a = no-row (not (valid window)) BadRectangle _ h in
-      let b = no-row (ltb room (length (found p window))) (NoRoom (length (found p window)) (opened p window)) _ (a .1) in
-      ltb-false room (length (found p window)) (b .0)
+      let b = no-row (ltb room (length (found p mode window))) (NoRoom (length (found p mode window)) (opened p window)) _ (a .1) in
+      ltb-false room (length (found p mode window)) (b .0)
 
 -- ---- a request opened at its table
 
@@ -142,14 +144,14 @@ module _ (c : Choice) (p : Pool) (filled room : ℕ) where
   unfolding request
   update-none old new h = rw (h, request)
 
-  pub search-some : (window : Rect) (reply : Reply) → searchFault p room window ≡ some reply → request c p filled room (Search window) ≡ turn p reply []
+  pub search-some : (mode : Mode) (window : Rect) (reply : Reply) → searchFault p room mode window ≡ some reply → request c p filled room (Search mode window) ≡ turn p reply []
   unfolding request
-  search-some window reply h = rw (h, request)
+  search-some mode window reply h = rw (h, request)
 
-  pub search-none : (window : Rect) → searchFault p room window ≡ none
-      → request c p filled room (Search window) ≡ turn p (Listed (length (found p window)) filled (opened p window)) (found p window)
+  pub search-none : (mode : Mode) (window : Rect) → searchFault p room mode window ≡ none
+      → request c p filled room (Search mode window) ≡ turn p (Listed (length (found p mode window)) filled (opened p window)) (found p mode window)
   unfolding request
-  search-none window h = rw (h, request)
+  search-none mode window h = rw (h, request)
 
 -- a row of a table applies, or none does
 row-or-none : {X : Type 0} (fault : Option Reply) → EachGiven Refused fault → ((reply : Reply) → fault ≡ some reply → Refused reply → X)
@@ -163,8 +165,8 @@ module _ (c : Choice) (p : Pool) (filled room : ℕ) (P : Asked → Turn → Typ
     (inserted : (r : Record) → insertFault p r ≡ none → P (Insert r) (afterChange p (insertRecord c p r)))
     (deleted : (r : Record) → deleteFault p r ≡ none → P (Delete r) (afterChange p (deleteRecord c p r)))
     (updated : (old : Record) (new : Rect) → updateFault p old new ≡ none → P (Update old new) (afterChange p (updateRecord c p old new)))
-    (listed : (window : Rect) → searchFault p room window ≡ none
-    → P (Search window) (turn p (Listed (length (found p window)) filled (opened p window)) (found p window))) where
+    (listed : (mode : Mode) (window : Rect) → searchFault p room mode window ≡ none
+    → P (Search mode window) (turn p (Listed (length (found p mode window)) filled (opened p window)) (found p mode window))) where
   pub request-cases : (a : Asked) → P a (request c p filled room a)
   request-cases (Insert r) =
       row-or-none (insertFault p r) (insert-refused p r)
@@ -178,10 +180,10 @@ module _ (c : Choice) (p : Pool) (filled room : ℕ) (P : Asked → Turn → Typ
       row-or-none (updateFault p old new) (update-refused p old new)
       (λ reply h g. subst (P (Update old new)) (sym (update-some c p filled room old new reply h)) (refused (Update old new) reply g))
       (λ h. subst (P (Update old new)) (sym (update-none c p filled room old new h)) (updated old new h))
-  request-cases (Search window) =
-      row-or-none (searchFault p room window) (search-refused p room window)
-      (λ reply h g. subst (P (Search window)) (sym (search-some c p filled room window reply h)) (refused (Search window) reply g))
-      (λ h. subst (P (Search window)) (sym (search-none c p filled room window h)) (listed window h))
+  request-cases (Search mode window) =
+      row-or-none (searchFault p room mode window) (search-refused p room mode window)
+      (λ reply h g. subst (P (Search mode window)) (sym (search-some c p filled room mode window reply h)) (refused (Search mode window) reply g))
+      (λ h. subst (P (Search mode window)) (sym (search-none c p filled room mode window h)) (listed mode window h))
 
 -- what a request lists has room
 module _ (c : Choice) (p : Pool) (filled room : ℕ) where
@@ -222,7 +224,7 @@ module _ (c : Choice) (lawful : Lawful c) (p : Pool) (rs : List Record) (k : Hol
         alike = record {
           each = λ f. omega (arith, insert-stored c lawful p (k .whole) r (y .0) (y .1) q d f, k .alike .each f, count-cons f r rs);
         };
-        once = more-once r rs (λ m. never-both (in-held p rs (k .alike) r m) (y .2)) (k .once);
+        once = more-once r rs (λ m. never-both (in-held p (k .whole) rs (k .alike) r m) (y .2)) (k .once);
       }
 
   delete-holds : (r : Record) → deleteFault p r ≡ none → (q : Pool) → deleteRecord c p r ≡ Done q → HoldsRecords q (change rs (Delete r))
@@ -239,18 +241,18 @@ module _ (c : Choice) (lawful : Lawful c) (p : Pool) (rs : List Record) (k : Hol
       }
 
   -- the new pair is not there once the old is out: it was not there before, or it is the old one, which stood there once
-  moved-out : (old : Record) (new : Rect) → held p old ≡ true → (held p (renewed old new) && not (samePair old (renewed old new))) ≡ false
+  moved-out : (old : Record) (new : Rect) → held p old ≡ true → (held p (renewed old new) && not (exactPair old (renewed old new))) ≡ false
       → Among (renewed old new) (lessPair old rs) → ⊥
-  moved-out old new y n m = go (samePair old (renewed old new)) refl
+  moved-out old new y n m = go (exactPair old (renewed old new)) refl
     where
       there : Among old rs
       there = held-in p rs (k .alike) old y
 
-      go : (b : Bool) → samePair old (renewed old new) ≡ b → ⊥
-      go true e = less-gone old rs there (k .once) (subst (λ (x : Record). Among x (lessPair old rs)) (sym (same-pair old (renewed old new) .0 e)) m)
+      go : (b : Bool) → exactPair old (renewed old new) ≡ b → ⊥
+      go true e = less-gone old rs there (k .once) (subst (λ (x : Record). Among x (lessPair old rs)) (sym (exact-same old (renewed old new) e)) m)
       go false e =
-          never-both (in-held p rs (k .alike) (renewed old new) (less-among (renewed old new) old rs there m))
-          (and-unless (held p (renewed old new)) (samePair old (renewed old new)) n e)
+          never-both (in-held p (k .whole) rs (k .alike) (renewed old new) (less-among (renewed old new) old rs there m))
+          (and-unless (held p (renewed old new)) (exactPair old (renewed old new)) n e)
 
   update-holds : (old : Record) (new : Rect) → updateFault p old new ≡ none → (q : Pool) → updateRecord c p old new ≡ Done q
       → HoldsRecords q (change rs (Update old new))
@@ -275,11 +277,11 @@ module _ (c : Choice) (lawful : Lawful c) (p : Pool) (rs : List Record) (k : Hol
 
   -- ---- the request
 
-  search-force : (window : Rect) (reply : Reply) → inForce rs (Search window) (answerOf reply) ≡ rs
+  search-force : (mode : Mode) (window : Rect) (reply : Reply) → inForce rs (Search mode window) (answerOf reply) ≡ rs
   unfolding inForce change
-  search-force window reply = go (eqb (answerOf reply .number) 0) refl
+  search-force mode window reply = go (eqb (answerOf reply .number) 0) refl
     where
-      go : (b : Bool) → eqb (answerOf reply .number) 0 ≡ b → inForce rs (Search window) (answerOf reply) ≡ rs
+      go : (b : Bool) → eqb (answerOf reply .number) 0 ≡ b → inForce rs (Search mode window) (answerOf reply) ≡ rs
       go true h = rw (h, inForce, change)
       go false h = rw (h, inForce, change)
 
@@ -290,4 +292,4 @@ module _ (c : Choice) (lawful : Lawful c) (p : Pool) (rs : List Record) (k : Hol
       (λ r h. after-good (Insert r) (insertRecord c p r) (insert-holds r h))
       (λ r h. after-good (Delete r) (deleteRecord c p r) (delete-holds r h))
       (λ old new h. after-good (Update old new) (updateRecord c p old new) (update-holds old new h))
-      (λ window h. subst (HoldsRecords p) (sym (search-force window (Listed (length (found p window)) filled (opened p window)))) k)
+      (λ mode window h. subst (HoldsRecords p) (sym (search-force mode window (Listed (length (found p mode window)) filled (opened p window)))) k)

@@ -46,7 +46,7 @@ request-fills : (c : Choice) (p : Pool) (filled room : ℕ) (a : Asked) → Fill
 request-fills c p filled room =
     request-cases c p filled room (λ a t. Fills t) (λ a. refused-fills p) (λ r h. after-fills p (insertRecord c p r))
     (λ r h. after-fills p (deleteRecord c p r)) (λ old new h. after-fills p (updateRecord c p old new))
-    (λ window h. list-fills p (found p window) filled (opened p window))
+    (λ mode window h. list-fills p (found p mode window) filled (opened p window))
 
 -- ---- a batch
 

@@ -14,10 +14,11 @@ use Rattle.rules.specs.Pool.{Pool, stored, held}
 use Rattle.rules_laws.proofs.Orders.{never-both}
 use Rattle.rules_laws.proofs.Places.{Among}
 use Rattle.rules_laws.proofs.Parts.{those-yes, those-no, those-none, count-cons, counted}
+use Rattle.sound_laws.specs.Tree.{Whole}
 use Rattle.sound_laws.proofs.Same.{same-pair}
 use Rattle.search_laws.specs.Order.{Alike}
 use Rattle.search_laws.proofs.Order.{alike-among, alike-back}
-use Rattle.delete_laws.proofs.Held.{held-is}
+use Rattle.delete_laws.proofs.Held.{held-stored, held-is}
 use Rattle.in_force_laws.specs.Force.{lessPair}
 use Rattle.in_force_laws.specs.Shows.{EachOnce}
 
@@ -92,7 +93,7 @@ less-gone r xs m h n =
 -- ---- a pair that is held is in force
 
 pub held-in : (p : Pool) (rs : List Record) → Alike (stored p) rs → (r : Record) → held p r ≡ true → Among r rs
-held-in p rs a r h = alike-among a r (held-is r p .0 h)
+held-in p rs a r h = alike-among a r (held-stored r p h)
 
-pub in-held : (p : Pool) (rs : List Record) → Alike (stored p) rs → (r : Record) → Among r rs → held p r ≡ true
-in-held p rs a r m = held-is r p .1 (alike-among (alike-back a) r m)
+pub in-held : (p : Pool) → Whole p → (rs : List Record) → Alike (stored p) rs → (r : Record) → Among r rs → held p r ≡ true
+in-held p w rs a r m = held-is r p w .1 (alike-among (alike-back a) r m)

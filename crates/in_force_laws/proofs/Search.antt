@@ -11,6 +11,7 @@ use lib.ListN.{length}
 use lib.Dec.{ltb}
 use borrow.Author.Tests.{le-ltb}
 use Rattle.rules.specs.declared.Rect.{Rect}
+use Rattle.rules.specs.declared.Mode.{Mode}
 use Rattle.rules.specs.declared.Record.{Record}
 use Rattle.rules.specs.declared.Asked.the-variants.{Search}
 use Rattle.rules.specs.declared.Reply.the-variants.{Listed}
@@ -22,7 +23,7 @@ use Rattle.rules.specs.Answers.{firstRow}
 use Rattle.rules.specs.Insert.{Choice}
 use Rattle.rules.specs.Request.{turn, searchFault, request}
 use Rattle.rules_laws.proofs.Parts.{those-and}
-use Rattle.search_laws.specs.Window.{recordMeets}
+use Rattle.search_laws.specs.Window.{recordWanted}
 use Rattle.search_laws.specs.Order.{Alike}
 use Rattle.search_laws.proofs.Order.{alike-length, ordered-alike, ordered-same}
 use Rattle.search_laws.proofs.Exact.{search-exact, opened-exact, found-once}
@@ -42,28 +43,28 @@ holds-high p rs k =
     subst (λ (n : ℕ). (p .height ≡ 1) ⊎ (2 * 3 ^ (p .height - 1) ≤ n)) (k .whole .counted ∙ alike-length (k .alike))
     (height-records p (k .whole))
 
-module _ (p : Pool) (rs : List Record) (k : HoldsRecords p rs) (window : Rect) where
-  pub found-force : found p window ≡ ordered (those (recordMeets window) rs)
+module _ (p : Pool) (rs : List Record) (k : HoldsRecords p rs) (mode : Mode) (window : Rect) where
+  pub found-force : found p mode window ≡ ordered (those (recordWanted mode window) rs)
   found-force =
-      search-exact p (k .whole) window
-      ∙ ordered-same (those (recordMeets window) (stored p)) (those (recordMeets window) rs)
-      (those-alike (recordMeets window) (stored p) rs (k .alike))
+      search-exact p (k .whole) mode window
+      ∙ ordered-same (those (recordWanted mode window) (stored p)) (those (recordWanted mode window) rs)
+      (those-alike (recordWanted mode window) (stored p) rs (k .alike))
 
-  found-many : length (found p window) ≡ length (those (recordMeets window) rs)
-  found-many = ap length found-force ∙ alike-length (ordered-alike (those (recordMeets window) rs))
+  found-many : length (found p mode window) ≡ length (those (recordWanted mode window) rs)
+  found-many = ap length found-force ∙ alike-length (ordered-alike (those (recordWanted mode window) rs))
 
-  found-each : EachOnce (found p window)
-  found-each = found-once p (k .whole) window (λ x. omega (arith, k .alike .each (samePair x), k .once x))
+  found-each : EachOnce (found p mode window)
+  found-each = found-once p (k .whole) mode window (λ x. omega (arith, k .alike .each (samePair x), k .once x))
 
   module _ (room : ℕ) where
-    room-enough : valid window ≡ true → length (those (recordMeets window) rs) ≤ room → searchFault p room window ≡ none
+    room-enough : valid window ≡ true → length (those (recordWanted mode window) rs) ≤ room → searchFault p room mode window ≡ none
     unfolding searchFault firstRow
     room-enough v r =
-        let enough : ltb room (length (found p window)) ≡ false = le-ltb room (length (found p window)) (omega (arith, found-many, r)) in
+        let enough : ltb room (length (found p mode window)) ≡ false = le-ltb room (length (found p mode window)) (omega (arith, found-many, r)) in
         rw (v, enough)
 
     module _ (c : Choice) (filled : ℕ) where
-      shown : SearchShows p rs filled window (turn p (Listed (length (found p window)) filled (opened p window)) (found p window))
+      shown : SearchShows p rs filled mode window (turn p (Listed (length (found p mode window)) filled (opened p window)) (found p mode window))
       shown = record {
         lists = found-force;
         once = found-each;
@@ -73,6 +74,6 @@ module _ (p : Pool) (rs : List Record) (k : HoldsRecords p rs) (window : Rect) w
       }
 
       -- "valid window, room in its list"
-      pub request-search : valid window ≡ true → length (those (recordMeets window) rs) ≤ room
-          → SearchShows p rs filled window (request c p filled room (Search window))
-      request-search v r = subst (SearchShows p rs filled window) (sym (search-none c p filled room window (room-enough v r))) shown
+      pub request-search : valid window ≡ true → length (those (recordWanted mode window) rs) ≤ room
+          → SearchShows p rs filled mode window (request c p filled room (Search mode window))
+      request-search v r = subst (SearchShows p rs filled mode window) (sym (search-none c p filled room mode window (room-enough v r))) shown

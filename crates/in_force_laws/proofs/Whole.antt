@@ -29,4 +29,4 @@ module _ (c : Choice) (lawful : Lawful c) (p : Pool) (w : Whole p) (filled room 
       (λ r h. let y = insert-passed p r h in after-whole (insertRecord c p r) (insert-whole c lawful p w r (y .0) (y .1)))
       (λ r h. after-whole (deleteRecord c p r) (delete-whole c lawful p w r))
       (λ old new h. let y = update-passed p old new h in after-whole (updateRecord c p old new) (update-whole c p old new lawful w (y .1) (y .0)))
-      (λ window h. w)
+      (λ mode window h. w)

@@ -25,7 +25,7 @@ unfoldable pub change : List Record → Asked → List Record
 change rs (Insert r) = r ∷ rs
 change rs (Delete r) = lessPair r rs
 change rs (Update old new) = record { number = old .number; rect = new } ∷ lessPair old rs
-change rs (Search window) = rs
+change rs (Search mode window) = rs
 
 -- "A refused request changes neither pool nor found list."; an accepted one is answered 0
 unfoldable pub inForce : List Record → Asked → Answer → List Record

@@ -5,6 +5,7 @@ use mathlib.Core.List.{List}
 use Prim.Native.Nat.{ℕ, suc, _-_, _*_, _^_, _≤_}
 use lib.ListN.{length}
 use Rattle.rules.specs.declared.Rect.{Rect}
+use Rattle.rules.specs.declared.Mode.{Mode}
 use Rattle.rules.specs.declared.Record.{Record}
 use Rattle.rules.specs.declared.Reply.the-variants.{Listed}
 use Rattle.rules.specs.Lists.{those}
@@ -13,7 +14,7 @@ use Rattle.rules.specs.Pool.{Pool, slotNumbers, stored}
 use Rattle.rules.specs.Search.{ordered}
 use Rattle.rules.specs.Request.{Turn}
 use Rattle.sound_laws.specs.Tree.{Whole}
-use Rattle.search_laws.specs.Window.{recordMeets, nodeMeets, otherNode}
+use Rattle.search_laws.specs.Window.{recordWanted, nodeMeets, otherNode}
 use Rattle.search_laws.specs.Order.{Alike}
 
 -- no pair occurs there twice
@@ -35,11 +36,11 @@ abbrev pub High : Pool → List Record → Type 0
 High p rs = (p .height ≡ 1) ⊎ (2 * 3 ^ (p .height - 1) ≤ length rs)
 
 -- a search in a pool that holds the records rs, with so many places of the found list filled: it lists "the records in force that meet the
--- window, each once, in record order"; it answers their number, the first place filled, and the nodes opened, "one for the root and one for
--- each other node whose cover meets the window"
-pub record SearchShows (p : Pool) (rs : List Record) (filled : ℕ) (window : Rect) (t : Turn) : Type 0 where
-  pub lists : t .listed ≡ ordered (those (recordMeets window) rs)
+-- window, each once, in record order", by mode (Req 01: "demands 2 and 3 read the found list by mode"); it answers their number, the first
+-- place filled, and the nodes opened, in every mode "one for the root and one for each other node whose cover meets the window"
+pub record SearchShows (p : Pool) (rs : List Record) (filled : ℕ) (mode : Mode) (window : Rect) (t : Turn) : Type 0 where
+  pub lists : t .listed ≡ ordered (those (recordWanted mode window) rs)
   pub once : EachOnce (t .listed)
-  pub reply : t .reply ≡ Listed (length (those (recordMeets window) rs)) filled (suc (nodesMeeting p window))
+  pub reply : t .reply ≡ Listed (length (those (recordWanted mode window) rs)) filled (suc (nodesMeeting p window))
   pub same : t .pool ≡ p
   pub high : High p rs

@@ -10,7 +10,10 @@ use Rattle.rules.specs.declared.Asked.the-variants.{Insert, Delete, Update, Sea
 use Rattle.rules_laws.proofs.Orders.{never-both}
 use Rattle.rules.specs.declared.Reply.{Reply}
 use Rattle.rules.specs.declared.Reply.the-variants.{Changed, Listed, BadRectangle, BadNumber, NotHeld, Held, NoSlot, NoRoom}
+use Rattle.rules.specs.declared.Mode.the-variants.{Meeting, OnlyInside, OnlyEnclosing}
 use Rattle.rules.specs.Lists.{same}
+use Rattle.sound_laws.proofs.Same.{same-is}
+use Rattle.request.specs.Serving.{modeOf}
 use Rattle.rules.specs.Answers.{firstRow, answer, answerOf}
 use Rattle.rules.specs.Request.{asked}
 use Rattle.rules.specs.Call.{isRequest}
@@ -36,13 +39,29 @@ module _ (q : Request) where
   unfolding isRequest
   asks-nothing h = rw (h, isRequest)
 
-  pub asks-search : kind (pos 1) ≡ false → kind (pos 2) ≡ false → kind (pos 3) ≡ false → isRequest q ≡ true → asked q ≡ some (Search (q .first))
+  -- of kind 4 the mode is meeting, since it is neither 5 nor 6
+  kind-4 : kind (pos 4) ≡ true → modeOf (q .kind) ≡ Meeting
+  unfolding modeOf same
+  kind-4 e = rw (same-is (q .kind) (pos 4) .0 e)
+
+  kind-5 : kind (pos 5) ≡ true → modeOf (q .kind) ≡ OnlyInside
+  unfolding modeOf
+  kind-5 e = rw e
+
+  kind-6 : kind (pos 5) ≡ false → kind (pos 6) ≡ true → modeOf (q .kind) ≡ OnlyEnclosing
+  unfolding modeOf
+  kind-6 n e = rw (n, e)
+
+  pub asks-search : kind (pos 1) ≡ false → kind (pos 2) ≡ false → kind (pos 3) ≡ false → isRequest q ≡ true
+      → asked q ≡ some (Search (modeOf (q .kind)) (q .first))
   unfolding asked firstRow
-  asks-search a b d h = go (kind (pos 4)) refl
+  asks-search a b d h = go (kind (pos 4)) (kind (pos 5)) (kind (pos 6)) refl refl refl
     where
-      go : (t : Bool) → kind (pos 4) ≡ t → asked q ≡ some (Search (q .first))
-      go true e = rw (a, b, d, e, firstRow)
-      go false e = never-both h (asks-nothing (rw (a, b, d, e, firstRow)))
+      go : (x y z : Bool) → kind (pos 4) ≡ x → kind (pos 5) ≡ y → kind (pos 6) ≡ z → asked q ≡ some (Search (modeOf (q .kind)) (q .first))
+      go true y z e f g = rw (kind-4 e, a, b, d, e, firstRow)
+      go false true z e f g = rw (kind-5 f, a, b, d, e, f, firstRow)
+      go false false true e f g = rw (kind-6 f g, a, b, d, e, f, g, firstRow)
+      go false false false e f g = never-both h (asks-nothing (rw (a, b, d, e, f, g, firstRow)))
 
 -- ---- what is told
 

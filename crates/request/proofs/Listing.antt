@@ -10,6 +10,7 @@ use lib.IntN.{ℤ}
 use Rattle.rules.specs.declared.Rect.{Rect}
 use Rattle.rules.specs.declared.Record.{Record}
 use Rattle.rules.specs.declared.Answer.{Answer}
+use Rattle.rules.specs.declared.Mode.{Mode}
 use Rattle.rules.specs.declared.Asked.the-variants.{Search}
 use Rattle.rules.specs.declared.Reply.{Reply}
 use Rattle.rules.specs.declared.Reply.the-variants.{Listed, BadRectangle, NoRoom}
@@ -45,20 +46,20 @@ quiet n t s v u e h = record {
   work = e;
 }
 
-module _ (w : List ℤ) (f : FreeSlots) (r : Ready w f) (window : Rect) where
+module _ (w : List ℤ) (f : FreeSlots) (r : Ready w f) (mode : Mode) (window : Rect) where
   -- the records found, in the order of the walk
   abbrev walk : List Record
-  walk = foundFromRoot (read w) window
+  walk = foundFromRoot (read w) mode window
 
-  found-is : found (read w) window ≡ ordered walk
+  found-is : found (read w) mode window ≡ ordered walk
   unfolding found
   found-is = refl
 
-  found-size : length (found (read w) window) ≡ length walk
+  found-size : length (found (read w) mode window) ≡ length walk
   found-size = ap length found-is ∙ alike-length (ordered-alike walk)
 
   pub walk-few : length walk ≤ 8 * slotCount w
-  walk-few = found-few w (ready-whole w f r) window
+  walk-few = found-few w (ready-whole w f r) mode window
 
   pub ready-low : read w .height ≤ 8
   ready-low = low-enough w (r .right) (ready-whole w f r)
@@ -72,34 +73,34 @@ module _ (w : List ℤ) (f : FreeSlots) (r : Ready w f) (window : Rect) where
 
   module _ (filled room : ℕ) (u : List ℤ) (long : length u ≡ length w) where
     abbrev searches : Turn
-    searches = request ours (read w) filled room (Search window)
+    searches = request ours (read w) filled room (Search mode window)
 
     search-row : (reply : Reply) → searches ≡ turn (read w) reply [] → Serves (length w) searches (replied reply f) w u
     search-row reply h = quiet (length w) searches (replied reply f) w u long (stays w f r searches reply h)
 
     pub search-bad : valid window ≡ false → Serves (length w) searches (replied BadRectangle f) w u
-    search-bad v = search-row BadRectangle (search-3 (read w) filled room window v)
+    search-bad v = search-row BadRectangle (search-3 (read w) filled room mode window v)
 
     pub search-full : valid window ≡ true → (n o : ℕ) → n ≡ length walk → o ≡ opened (read w) window → room < n
         → Serves (length w) searches (replied (NoRoom n o) f) w u
     search-full v n o e d h =
         search-row (NoRoom n o)
-        (search-8 (read w) filled room window v (omega (arith, found-size, e, h))
+        (search-8 (read w) filled room mode window v (omega (arith, found-size, e, h))
         ∙ ap (λ (k : ℕ). turn (read w) (NoRoom k (opened (read w) window)) []) (found-size ∙ sym e)
         ∙ ap (λ (k : ℕ). turn (read w) (NoRoom n k) []) (sym d))
 
     pub search-done : valid window ≡ true → (n o : ℕ) → n ≡ length walk → o ≡ opened (read w) window → n ≤ room
-        → (v : List ℤ) → itemsFrom w v 0 (length walk) ≡ walk → itemsFrom w u 0 n ≡ ordered (itemsFrom w v 0 n) → Pointing w u 0 n
+        → (v : List ℤ) → itemsFrom w v 0 n ≡ walk → itemsFrom w u 0 n ≡ ordered (itemsFrom w v 0 n) → Pointing w u 0 n
         → (a : Answer) → a ≡ answerOf (Listed n filled o) → Serves (length w) searches (record { answer = a; listed = n; free = f }) w u
     search-done valid n o e d h v lists sorted points a is =
         subst (λ (t : Turn). Serves (length w) t (record { answer = a; listed = n; free = f }) w u)
-        (sym (search-0 (read w) filled room window valid (omega (arith, found-size, e, h)))) (record {
+        (sym (search-0 (read w) filled room mode window valid (omega (arith, found-size, e, h)))) (record {
           ready = r;
           pool = refl;
-          answer = is ∙ ap answerOf (ap (λ (k : ℕ). Listed k filled o) (e ∙ sym found-size) ∙ ap (λ (k : ℕ). Listed (length (found (read w) window)) filled k) d);
+          answer = is ∙ ap answerOf (ap (λ (k : ℕ). Listed k filled o) (e ∙ sym found-size) ∙ ap (λ (k : ℕ). Listed (length (found (read w) mode window)) filled k) d);
           listed = e ∙ sym found-size;
           few = omega (arith, walk-small, e);
-          items = sorted ∙ ap ordered (ap (itemsFrom w v 0) e ∙ lists) ∙ sym found-is;
+          items = sorted ∙ ap ordered lists ∙ sym found-is;
           pointing = points;
           same = refl;
           work = long;

@@ -8,11 +8,13 @@ use lib.ListN.{length}
 use borrow.Author.Tests.{lt-ltb, le-ltb}
 use Rattle.rules.specs.declared.Rect.{Rect}
 use Rattle.rules.specs.declared.Record.{Record}
+use Rattle.rules.specs.declared.Mode.{Mode}
 use Rattle.rules.specs.declared.Asked.the-variants.{Insert, Delete, Update, Search}
 use Rattle.rules.specs.declared.Reply.the-variants.{Listed, BadRectangle, BadNumber, NotHeld, Held, NoRoom}
 use Rattle.rules.specs.Numbers.{goodNumber}
 use Rattle.rules.specs.Lists.{same}
-use Rattle.rules.specs.Geometry.{valid, sameRect, samePair}
+use Rattle.rules.specs.Geometry.{valid}
+use Rattle.rules.specs.Compare.{compared, isEqual, exactPair}
 use Rattle.rules.specs.Pool.{Pool, held}
 use Rattle.rules.specs.Search.{found, opened}
 use Rattle.rules.specs.Insert.{ours, insertRecord}
@@ -103,22 +105,22 @@ module _ (p : Pool) (filled room : ℕ) (old : Record) (new : Rect) where
 
 -- ---- search: 3, 8
 
-module _ (p : Pool) (filled room : ℕ) (window : Rect) where
+module _ (p : Pool) (filled room : ℕ) (mode : Mode) (window : Rect) where
   abbrev searches : Turn
-  searches = request ours p filled room (Search window)
+  searches = request ours p filled room (Search mode window)
 
   pub search-3 : valid window ≡ false → searches ≡ turn p BadRectangle []
   unfolding searchFault firstRow
-  search-3 v = search-some ours p filled room window BadRectangle (rw (v, firstRow))
+  search-3 v = search-some ours p filled room mode window BadRectangle (rw (v, firstRow))
 
-  pub search-8 : valid window ≡ true → room < length (found p window) → searches ≡ turn p (NoRoom (length (found p window)) (opened p window)) []
+  pub search-8 : valid window ≡ true → room < length (found p mode window) → searches ≡ turn p (NoRoom (length (found p mode window)) (opened p window)) []
   unfolding searchFault firstRow
-  search-8 v h = search-some ours p filled room window (NoRoom (length (found p window)) (opened p window)) (rw (v, lt-ltb _ _ h, firstRow))
+  search-8 v h = search-some ours p filled room mode window (NoRoom (length (found p mode window)) (opened p window)) (rw (v, lt-ltb _ _ h, firstRow))
 
-  pub search-0 : valid window ≡ true → length (found p window) ≤ room
-      → searches ≡ turn p (Listed (length (found p window)) filled (opened p window)) (found p window)
+  pub search-0 : valid window ≡ true → length (found p mode window) ≤ room
+      → searches ≡ turn p (Listed (length (found p mode window)) filled (opened p window)) (found p mode window)
   unfolding searchFault firstRow
-  search-0 v h = search-none ours p filled room window (rw (v, le-ltb _ _ h, firstRow))
+  search-0 v h = search-none ours p filled room mode window (rw (v, le-ltb _ _ h, firstRow))
 
 -- ---- "and not the old pair"
 
@@ -130,16 +132,16 @@ module _ (p : Pool) (old : Record) (new : Rect) where
   same-number = same-is (old .number .0) (old .number .0) .1 refl
 
   -- the pair is the old one where the rectangle is
-  pub other-same : sameRect (old .rect) new ≡ true → false ≡ otherHeld p old new
-  unfolding otherHeld samePair
+  pub other-same : isEqual (compared (old .rect) new) ≡ true → false ≡ otherHeld p old new
+  unfolding otherHeld exactPair
   other-same h = rw (same-number, h) (go (held p moves))
     where
       go : (b : Bool) → false ≡ (b && false)
       go true = refl
       go false = refl
 
-  pub other-new : sameRect (old .rect) new ≡ false → held p moves ≡ otherHeld p old new
-  unfolding otherHeld samePair
+  pub other-new : isEqual (compared (old .rect) new) ≡ false → held p moves ≡ otherHeld p old new
+  unfolding otherHeld exactPair
   other-new h = rw (same-number, h) (go (held p moves))
     where
       go : (b : Bool) → b ≡ (b && true)

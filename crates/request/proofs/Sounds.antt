@@ -8,6 +8,7 @@ use native.Mathlib.Omega.{arith}
 use lib.ListN.{length}
 use lib.IntN.{ℤ}
 use Rattle.rules.specs.declared.Rect.{Rect}
+use Rattle.rules.specs.declared.Mode.{Mode}
 use Rattle.rules.specs.Lists.{same}
 use Rattle.rules.specs.Pool.{stored}
 use Rattle.rules.specs.Layout.{validLength, slotCount, words, read, sameWords}
@@ -20,7 +21,7 @@ use Rattle.insert.proofs.Records.{stored-few}
 use Rattle.sound_laws.specs.Tree.{Whole}
 use Rattle.sound_laws.proofs.Same.{same-is}
 use Rattle.sound_laws.proofs.Sound.{sound-whole, whole-sound}
-use Rattle.search_laws.specs.Window.{recordMeets}
+use Rattle.search_laws.specs.Window.{recordWanted}
 use Rattle.search_laws.proofs.Order.{alike-length}
 use Rattle.search_laws.proofs.Found.{found-alike}
 use Rattle.pool.specs.Slots.{Fit}
@@ -63,6 +64,6 @@ module _ (w : List ℤ) where
 -- ---- how many records there are
 
 -- a search finds no more than the slots have places for
-pub found-few : (w : List ℤ) → Whole (read w) → (window : Rect) → length (foundFromRoot (read w) window) ≤ 8 * slotCount w
-found-few w whole window =
-    omega (arith, stored-few w, alike-length (found-alike (read w) window whole), those-fewer (recordMeets window) (stored (read w)))
+pub found-few : (w : List ℤ) → Whole (read w) → (mode : Mode) (window : Rect) → length (foundFromRoot (read w) mode window) ≤ 8 * slotCount w
+found-few w whole mode window =
+    omega (arith, stored-few w, alike-length (found-alike (read w) mode window whole), those-fewer (recordWanted mode window) (stored (read w)))

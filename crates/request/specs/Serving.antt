@@ -1,18 +1,21 @@
 -- What one request leaves: the pool in the words lent, the answer, and the records that a search lists, as items in the workspace.
 use mathlib.Core.Path.{_≡_}
-use mathlib.Core.Bool.{Bool, true, not, _&&_}
+use mathlib.Core.Bool.{Bool, true, cond, not, _&&_}
 use mathlib.Core.List.{List, []}
 use mathlib.Core.Option.{some}
 use Prim.Native.Nat.{ℕ, suc, _+_, _*_, _≤_}
 use lib.ListN.{length}
-use lib.IntN.{ℤ}
+use lib.IntN.{ℤ, pos}
 use Rattle.rules.specs.declared.Rect.{Rect}
 use Rattle.rules.specs.declared.Record.{Record}
 use Rattle.rules.specs.declared.Request.{Request}
 use Rattle.rules.specs.declared.Asked.{Asked}
+use Rattle.rules.specs.declared.Mode.{Mode}
+use Rattle.rules.specs.declared.Mode.the-variants.{Meeting, OnlyInside, OnlyEnclosing}
 use Rattle.rules.specs.declared.Reply.{Reply}
 use Rattle.rules.specs.declared.Reply.the-variants.{Changed, NoSlot}
-use Rattle.rules.specs.Geometry.{samePair}
+use Rattle.rules.specs.Lists.{same}
+use Rattle.rules.specs.Compare.{exactPair}
 use Rattle.rules.specs.Pool.{Pool, held}
 use Rattle.rules.specs.Layout.{validLength, read}
 use Rattle.rules.specs.Sound.{sound}
@@ -83,7 +86,11 @@ TakenBack Refused changed copy w = w ≡ copy
 unfoldable pub roomFrom : Pool → Path → ℕ → ℕ
 roomFrom p way records = roomFor (mostBack p way) (p .height) + records * suc (p .height + mostBack p way)
 
+-- the mode of a search, by its kind: 4, 5 or 6
+unfoldable pub modeOf : ℤ → Mode
+modeOf k = cond (same k (pos 5)) OnlyInside (cond (same k (pos 6)) OnlyEnclosing Meeting)
+
 -- 6: "update: new pair held and not the old pair"
 unfoldable pub otherHeld : Pool → Record → Rect → Bool
 otherHeld p old new =
-    held p (record { number = old .number; rect = new }) && not (samePair old (record { number = old .number; rect = new }))
+    held p (record { number = old .number; rect = new }) && not (exactPair old (record { number = old .number; rect = new }))

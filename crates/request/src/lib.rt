@@ -21,13 +21,14 @@ ghost use Rattle.delete_laws.specs.Way.{thinLevels};
 ghost use Rattle.find_leaf.specs.Ways.{Gives, pathOf};
 ghost use Rattle.delete.specs.Aside.{ComesDown};
 ghost use Rattle.delete.specs.Removed.{Removes};
-ghost use Rattle.request.specs.Serving.{Ready, Serves, ChangesTo, ServesTo, replied, came, TakenBack, roomFrom, otherHeld};
+ghost use Rattle.request.specs.Serving.{Ready, Serves, ChangesTo, ServesTo, replied, came, TakenBack, roomFrom, otherHeld, modeOf};
 use find_leaf::Way;
 use free_slots::FreeSlots;
 use insert::Outcome;
 use rules::Answer;
 use rules::Asked;
 use rules::LEAST;
+use rules::Mode;
 use rules::Record;
 use rules::RecordNumber;
 use rules::Rect;
@@ -51,6 +52,19 @@ fn good_number(n: RecordNumber) -> bool
     geometry::le(1, k)
 }
 
+// "kind 4 keeps meeting; kinds 5 and 6, of the same layout, are inside and enclosing".
+fn mode_of(kind: i32) -> Mode
+    ensures { λ m. ⌜ m ≡ modeOf kind ⌝ }
+{
+    if geometry::same(kind, 5) {
+        return Mode::OnlyInside;
+    }
+    if geometry::same(kind, 6) {
+        return Mode::OnlyEnclosing;
+    }
+    Mode::Meeting
+}
+
 // "A request is of one of the four kinds; fields that its kind doesn't use are not looked at".
 fn asked(q: Request) -> Asked
     requires { ⌜ isRequest q ≡ true ⌝ }
@@ -69,7 +83,8 @@ fn asked(q: Request) -> Asked
     if geometry::same(kind, 3) {
         return Asked::Update(Record { number, rect }, second);
     }
-    Asked::Search(rect)
+    let mode = mode_of(kind);
+    Asked::Search(mode, rect)
 }
 
 // "Changes and refusals report zeros for the last three".
@@ -276,7 +291,7 @@ fn other_held(pool: &[i32], old: Record, new: Rect) -> bool
     ensures { λ r. ⌜ r ≡ otherHeld (L.read (now (pool .entry))) old new ⌝ }
 {
     let rect = old.rect;
-    if geometry::same_rect(rect, new) {
+    if geometry::is_equal(geometry::compare(rect, new)) {
         return false;
     }
     let number = old.number;
@@ -320,6 +335,7 @@ fn update(pool: &mut [i32], work: &mut [i32], old: Record, new: Rect, free: Free
 fn search(
     pool: &[i32],
     work: &mut [i32],
+    mode: Mode,
     window: Rect,
     filled: usize,
     room: usize,
@@ -328,12 +344,12 @@ fn search(
     requires { ⌜ Ready (now pool) free ⌝ }
     requires { ⌜ length (now work) ≡ length (now pool) ⌝ }
     requires { ⌜ filled ≤ 33554432 ⌝ }
-    ensures { λ s. ⌜ Serves (length (now (pool .entry))) (R.request I.ours (L.read (now (pool .entry))) filled room (K.Search window)) s (now (pool .entry)) (now (work .exit)) ⌝ }
+    ensures { λ s. ⌜ Serves (length (now (pool .entry))) (R.request I.ours (L.read (now (pool .entry))) filled room (K.Search mode window)) s (now (pool .entry)) (now (work .exit)) ⌝ }
 {
     if !geometry::valid(window) {
         return told(Reply::BadRectangle, free);
     }
-    let w = search::list(pool, window, work);
+    let w = search::list(pool, mode, window, work);
     let found = w.next as u32;
     let opened = w.opened as u32;
     if room < w.next {
@@ -374,6 +390,6 @@ pub fn one_request(
         Asked::Insert(r) => insert(pool, r, free),
         Asked::Delete(r) => delete(pool, work, r, free),
         Asked::Update(old, new) => update(pool, work, old, new, free),
-        Asked::Search(window) => search(pool, work, window, filled, room, free),
+        Asked::Search(mode, window) => search(pool, work, mode, window, filled, room, free),
     }
 }

@@ -4,7 +4,7 @@ use lib.IntN.{ℤ, pos}
 use lib.Signed.{leZ}
 use mir.Val.{toZ, ofZ}
 use mir.Syntax.{w32}
-use Rattle.batch.proofs.Refusals.{four-kinds}
+use Rattle.batch.proofs.Refusals.{all-kinds}
 use borrow.Author.Needs.{needs}
 use Rattle.batch.proofs.is_request.Statement.{statement}
 use Rattle.batch.proofs.is_request.Tie as tie
@@ -15,7 +15,7 @@ returns c =
     let q = least .before .before .args .q in
     let told : toZ w32 (ofZ w32 (q .kind)) ≡ q .kind = search needs in
     c .and .ensures ∙ ap₂ _&&_ (least .le .ensures) (c .before .le2 .ensures)
-    ∙ ap (λ (k : ℤ). leZ (pos 1) k && leZ k (pos 4)) told ∙ four-kinds q
+    ∙ ap (λ (k : ℤ). leZ (pos 1) k && leZ k (pos 6)) told ∙ all-kinds q
 
 pub is-request-spec : {M : Type 1} → statement M
 is-request-spec = tie.close (tie.spec (λ c κs. search needs) (λ c κs. search needs) (λ c κs. search needs) returns)

@@ -70,10 +70,10 @@ returns-4 : tie.Need-returns-4
 returns-4 c =
     let start = c .before .before .before .before .before .before .before .before in
     let asked = c .before .before .before .before .before .before .before .asked in
-    let window = c .before .before .before .before .before .window in
+    let mode = c .before .before .before .before .before .mode in
     asks-one (λ a. Serves (length (start .args .pool .now))
     (request ours (read (start .args .pool .now)) (start .args .filled) (start .args .room) a) _ _ _) (start .args .q) _
-    (asked .ensures ∙ ap some (window .given .1)) (c .before .search .ensures)
+    (asked .ensures ∙ ap some (mode .given .1)) (c .before .search .ensures)
 
 pub one-request-spec : {M : Type 1} → statement M
 one-request-spec =

@@ -5,10 +5,14 @@ use Rattle.request.proofs.other_held.Statement.{statement}
 use Rattle.request.proofs.other_held.Tie as tie
 
 returns : tie.Need-returns
-returns c = other-same _ _ _ (sym (c .before .same-rect .ensures) ∙ c .if1 .taken)
+returns c = other-same _ _ _ (sym (rw (c .before .before .compare .ensures) at (c .before .is-equal .ensures)) ∙ c .if1 .taken)
 
 returns-2 : tie.Need-returns-2
-returns-2 c = c .holds .ensures ∙ other-new _ _ _ (sym (c .before .before .before .same-rect .ensures) ∙ c .before .before .if1 .left)
+returns-2 c =
+    let compare = c .before .before .before .before .compare in
+    let is-equal = c .before .before .before .is-equal in
+    let if1 = c .before .before .if1 in
+    c .holds .ensures ∙ other-new _ _ _ (sym (rw (compare .ensures) at (is-equal .ensures)) ∙ if1 .left)
 
 pub other-held-spec : {M : Type 1} → statement M
-other-held-spec = tie.close (tie.spec (λ c κs. search needs) returns (λ c κs. search needs) returns-2)
+other-held-spec = tie.close (tie.spec (λ c κs. search needs) (λ c κs. search needs) returns (λ c κs. search needs) returns-2)

@@ -2,8 +2,7 @@ use mathlib.Core.Path.{sym, _∙_}
 use native.Mathlib.Omega.{arith}
 use Rattle.rules_laws.proofs.Bools.{not-true, not-false}
 use Rattle.request.proofs.Listing.{walk-room, walk-small, ready-low, search-bad, search-full, search-done}
-use mathlib.Core.Path.{subst}
-use Rattle.found_items.specs.Items.{Pointing}
+use Rattle.rules.specs.declared.Mode.the-variants.{Meeting}
 use borrow.Author.Needs.{needs}
 use Rattle.request.proofs.search.Statement.{statement}
 use Rattle.request.proofs.search.Tie as tie
@@ -13,16 +12,20 @@ returns c =
     let start = c .before .before .before in
     let valid = c .before .before .valid in
     rw (c .told .ensures)
-    (search-bad (start .args .pool .now) (start .args .free) (start .pre .0) (start .args .window) (start .args .filled) (start .args .room)
-    _ (start .pre .1 .0) (sym (valid .ensures) ∙ not-true _ (c .before .if1 .taken)))
+    (search-bad (start .args .pool .now) (start .args .free) (start .pre .0) (start .args .mode) (start .args .window) (start .args .filled)
+    (start .args .room) _ (start .pre .1 .0) (sym (valid .ensures) ∙ not-true _ (c .before .if1 .taken)))
 
 list-requires : tie.Need-list-requires
 list-requires c κs =
     let start = c .before .before .before in (
       start .pre .0 .right,
       (
-        ready-low (start .args .pool .now) (start .args .free) (start .pre .0) (start .args .window),
-        omega (arith, walk-room (start .args .pool .now) (start .args .free) (start .pre .0) (start .args .window), start .pre .1 .0),
+        ready-low (start .args .pool .now) (start .args .free) (start .pre .0) Meeting (start .args .window),
+        omega (
+          arith,
+          walk-room (start .args .pool .now) (start .args .free) (start .pre .0) Meeting (start .args .window),
+          start .pre .1 .0,
+        ),
       ),
     )
 
@@ -31,7 +34,11 @@ cast-found c =
     let start = c .before .before .before .before .before .before in
     let list = c .before .before .list in
     record {
-      fits = omega (arith, walk-small (start .args .pool .now) (start .args .free) (start .pre .0) (start .args .window), list .ensures .0);
+      fits = omega (
+        arith,
+        walk-small (start .args .pool .now) (start .args .free) (start .pre .0) (start .args .mode) (start .args .window),
+        list .ensures .found,
+      );
     }
 
 returns-2 : tie.Need-returns-2
@@ -41,9 +48,9 @@ returns-2 c =
     let if1 = c .before .before .before .before .before .before .before .before .if1 in
     let list = c .before .before .before .before .before .before .list in
     rw (c .told2 .ensures)
-    (search-full (start .args .pool .now) (start .args .free) (start .pre .0) (start .args .window) (start .args .filled)
-    (start .args .room) _ (list .ensures .1 .1 .1 .1 .1 ∙ start .pre .1 .0) (sym (valid .ensures) ∙ not-false _ (if1 .left)) _ _
-    (list .ensures .0) (list .ensures .1 .0) (c .before .if2 .taken))
+    (search-full (start .args .pool .now) (start .args .free) (start .pre .0) (start .args .mode) (start .args .window) (start .args .filled)
+    (start .args .room) _ (list .ensures .long ∙ start .pre .1 .0) (sym (valid .ensures) ∙ not-false _ (if1 .left)) _ _
+    (list .ensures .found) (list .ensures .opened) (c .before .if2 .taken))
 
 sort-requires : tie.Need-sort-requires
 sort-requires c κs =
@@ -51,12 +58,12 @@ sort-requires c κs =
     let list = c .before .before .before .before .before .before .list in (
       omega (
         arith,
-        walk-room (start .args .pool .now) (start .args .free) (start .pre .0) (start .args .window),
-        list .ensures .0,
-        list .ensures .1 .1 .1 .1 .1,
+        walk-room (start .args .pool .now) (start .args .free) (start .pre .0) (start .args .mode) (start .args .window),
+        list .ensures .found,
+        list .ensures .long,
         start .pre .1 .0,
       ),
-      subst (Pointing (start .args .pool .now) _ 0) (sym (list .ensures .0)) (list .ensures .1 .1 .1 .1 .0),
+      list .ensures .pointing,
     )
 
 returns-3 : tie.Need-returns-3
@@ -68,10 +75,10 @@ returns-3 c =
     let list = at-if2 .before .before .before .before .before .list in
     let if2 = at-if2 .if2 in
     let sort = c .before .before .sort in
-    search-done (start .args .pool .now) (start .args .free) (start .pre .0) (start .args .window) (start .args .filled) (start .args .room)
-    _ (sort .ensures .0 ∙ list .ensures .1 .1 .1 .1 .1 ∙ start .pre .1 .0) (sym (valid .ensures) ∙ not-false _ (if1 .left)) _ _
-    (list .ensures .0) (list .ensures .1 .0) (if2 .left) _ (list .ensures .1 .1 .1 .0) (sort .ensures .1 .1) (sort .ensures .1 .0) _
-    (c .answer-of .ensures)
+    search-done (start .args .pool .now) (start .args .free) (start .pre .0) (start .args .mode) (start .args .window) (start .args .filled)
+    (start .args .room) _ (sort .ensures .0 ∙ list .ensures .long ∙ start .pre .1 .0)
+    (sym (valid .ensures) ∙ not-false _ (if1 .left)) _ _ (list .ensures .found) (list .ensures .opened) (if2 .left) _ (list .ensures .listed)
+    (sort .ensures .1 .1) (sort .ensures .1 .0) _ (c .answer-of .ensures)
 
 pub search-spec : {M : Type 1} → statement M
 search-spec =
