@@ -242,7 +242,7 @@ nothing-empty (b ∷ c ∷ rest) e = go (decLe 2 n) (decLe n (length rest)) (fra
     go (yes l) (yes m) (some p) r =
         absurd (nothing-asking (sym e ∙ begun-yes (b ∷ c ∷ rest) (wholeIn n rest) (drop n rest) p (next-of b c rest ∙ is-whole n rest l m) r))
 
--- it is one of the four kinds
+-- what is asked is a request
 pub asking-request : (bs : List ℕ) (q : Request) (after : List ℕ) → beginning bs ≡ Asking q after → isRequest q ≡ true
 asking-request bs q after e =
     let a = asked-by bs q after e in

@@ -2,26 +2,26 @@
 use mathlib.Core.Path.{_≡_, refl, sym, ap, subst, _∙_}
 use mathlib.Core.Bool.{Bool, true, false, _&&_, _||_}
 use mathlib.Core.List.{List, [], _∷_}
-use mathlib.Core.Option.{Option, none, some}
-use Prim.Native.Nat.{ℕ, _+_, _*_, _-_, _≤_, _<_}
+use mathlib.Core.Option.{none, some}
+use Prim.Native.Nat.{ℕ, zero, suc, _+_, _*_, _-_, _≤_, _<_}
 use native.Mathlib.Omega.{arith}
 use native.Mathlib.Decide.{decLe, ℕ-discrete}
 use lib.ListN.{length, take, drop, length-drop}
 use lib.Seq.{length-take-le}
-use lib.Dec.{eqb}
+use lib.Dec.{leb, eqb}
 use lib.IntN.{ℤ, pos}
-use borrow.Author.Tests.{eq-eqb, ne-eqb}
+use borrow.Author.Tests.{le-leb, lt-leb, eq-eqb, ne-eqb}
 use Rattle.rules.specs.declared.Rect.{Rect}
 use Rattle.rules.specs.declared.Request.{Request}
 use Rattle.rules.specs.Pool.{number, rectangle}
 use Rattle.rules.specs.Geometry.{noRect}
 use Rattle.rules.specs.Layout.{wordAt}
 use Rattle.rules.specs.Lists.{same}
-use Rattle.rules.specs.Answers.{row, firstRow}
+use Rattle.rules.specs.Answers.{Row, row, firstRow}
 use Rattle.rules.specs.Request.{asked}
 use Rattle.rules.specs.Call.{isRequest}
-use Rattle.rules.specs.Frames.{Frame, wordValues, rectIn, requestIn, ofKind, frameRequest}
-use Rattle.frames.specs.Reading.{kindLength, someLength}
+use Rattle.rules.specs.Frames.{Frame, wordValues, rectIn, requestIn, ofKind, windowIn, frameRequest}
+use Rattle.frames.specs.Reading.{searchKind, kindLength, someLength}
 use Rattle.frames.specs.Places.{wordBytes, rectBytes, changeFrom, updateFrom, searchFrom, requestFrom}
 use Rattle.frames.proofs.Words.{word-in}
 
@@ -42,41 +42,60 @@ pub length-3 : (k : ℕ) → k ≡ 3 → kindLength k ≡ 38
 unfolding kindLength
 length-3 k e = rw (kindLength, e)
 
-pub length-4 : (k : ℕ) → k ≡ 4 → kindLength k ≡ 18
-unfolding kindLength
-length-4 k e = rw (kindLength, e)
+-- a search is of kind 4, 5 or 6
+searches : (k : ℕ) → 4 ≤ k → k ≤ 6 → searchKind k ≡ true
+unfolding searchKind
+searches k l h = rw (searchKind, le-leb 4 k l, le-leb k 6 h)
 
-pub length-none : (k : ℕ) → (k ≡ 1 → ⊥) → (k ≡ 2 → ⊥) → (k ≡ 3 → ⊥) → (k ≡ 4 → ⊥) → kindLength k ≡ 0
+searches-not : (k : ℕ) → (4 ≤ k → 6 < k) → searchKind k ≡ false
+unfolding searchKind
+searches-not k s = go (decLe 4 k)
+  where
+    go : Dec (4 ≤ k) → (leb 4 k && leb k 6) ≡ false
+    go (no l) = rw (lt-leb 4 k (omega arith))
+    go (yes l) = rw (le-leb 4 k l, lt-leb k 6 (s l))
+
+-- a kind that is none of the three
+pub past-searches : (k : ℕ) → (k ≡ 4 → ⊥) → (k ≡ 5 → ⊥) → (k ≡ 6 → ⊥) → 4 ≤ k → 6 < k
+past-searches k a b c l = omega arith
+
+pub length-search : (k : ℕ) → 4 ≤ k → k ≤ 6 → kindLength k ≡ 18
 unfolding kindLength
-length-none k a b c d = rw (kindLength, ne-eqb k 1 a, ne-eqb k 2 b, ne-eqb k 3 c, ne-eqb k 4 d)
+length-search k l h =
+    rw (kindLength, ne-eqb k 1 (λ q. omega arith), ne-eqb k 2 (λ q. omega arith), ne-eqb k 3 (λ q. omega arith), searches k l h)
+
+pub length-none : (k : ℕ) → (k ≡ 1 → ⊥) → (k ≡ 2 → ⊥) → (k ≡ 3 → ⊥) → (4 ≤ k → 6 < k) → kindLength k ≡ 0
+unfolding kindLength
+length-none k a b c s = rw (kindLength, ne-eqb k 1 a, ne-eqb k 2 b, ne-eqb k 3 c, searches-not k s)
 
 -- which kind it is
 pub data Which (k : ℕ) : Type 0 where
   insert : k ≡ 1 → Which k
   delete : k ≡ 2 → Which k
   update : k ≡ 3 → Which k
-  search4 : k ≡ 4 → Which k
+  searching : 4 ≤ k → k ≤ 6 → Which k
   unknown : kindLength k ≡ 0 → Which k
 
 pub which : (k : ℕ) → Which k
-which k = go (ℕ-discrete k 1) (ℕ-discrete k 2) (ℕ-discrete k 3) (ℕ-discrete k 4)
+which k = go (ℕ-discrete k 1) (ℕ-discrete k 2) (ℕ-discrete k 3) (decLe 4 k) (decLe k 6)
   where
-    go : Dec (k ≡ 1) → Dec (k ≡ 2) → Dec (k ≡ 3) → Dec (k ≡ 4) → Which k
-    go (yes a) b c d = insert a
-    go (no a) (yes b) c d = delete b
-    go (no a) (no b) (yes c) d = update c
-    go (no a) (no b) (no c) (yes d) = search4 d
-    go (no a) (no b) (no c) (no d) = unknown (length-none k a b c d)
+    go : Dec (k ≡ 1) → Dec (k ≡ 2) → Dec (k ≡ 3) → Dec (4 ≤ k) → Dec (k ≤ 6) → Which k
+    go (yes a) b c l h = insert a
+    go (no a) (yes b) c l h = delete b
+    go (no a) (no b) (yes c) l h = update c
+    go (no a) (no b) (no c) (yes l) (yes h) = searching l h
+    go (no a) (no b) (no c) (yes l) (no h) = unknown (length-none k a b c (λ s. omega arith))
+    go (no a) (no b) (no c) (no l) h = unknown (length-none k a b c (λ s. absurd (l s)))
 
 -- what is left when the others are ruled out
-pub only-insert : (k : ℕ) → 0 < kindLength k → (k ≡ 3 → ⊥) → (k ≡ 4 → ⊥) → (k ≡ 2 → ⊥) → k ≡ 1
+pub only-insert : (k : ℕ) → 0 < kindLength k → (k ≡ 3 → ⊥) → (4 ≤ k → 6 < k) → (k ≡ 2 → ⊥) → k ≡ 1
 only-insert k h a b c = go (which k)
   where
     go : Which k → k ≡ 1
     go (insert e) = e
     go (delete e) = absurd (c e)
     go (update e) = absurd (a e)
-    go (search4 e) = absurd (b e)
+    go (searching l m) = absurd (omega (arith, b l))
     go (unknown l) = absurd (omega arith)
 
 pub length-small : (k : ℕ) → kindLength k ≤ 38
@@ -86,7 +105,7 @@ length-small k = go (which k)
     go (insert e) = let l = length-1 k e in omega arith
     go (delete e) = let l = length-2 k e in omega arith
     go (update e) = let l = length-3 k e in omega arith
-    go (search4 e) = let l = length-4 k e in omega arith
+    go (searching l m) = omega (arith, length-search k l m)
     go (unknown l) = omega arith
 
 pub length-least : (k : ℕ) → 0 < kindLength k → 18 ≤ kindLength k
@@ -96,7 +115,7 @@ length-least k h = go (which k)
     go (insert e) = let l = length-1 k e in omega arith
     go (delete e) = let l = length-2 k e in omega arith
     go (update e) = let l = length-3 k e in omega arith
-    go (search4 e) = let l = length-4 k e in omega arith
+    go (searching l m) = omega (arith, length-search k l m)
     go (unknown l) = absurd (omega arith)
 
 -- a length that some kind has, and one that none has
@@ -132,7 +151,7 @@ no-such n k h s e = go (which k)
     go (insert q) = true-false (sym some-22 ∙ ap someLength (sym (length-1 k q) ∙ e) ∙ s)
     go (delete q) = true-false (sym some-22 ∙ ap someLength (sym (length-2 k q) ∙ e) ∙ s)
     go (update q) = true-false (sym some-38 ∙ ap someLength (sym (length-3 k q) ∙ e) ∙ s)
-    go (search4 q) = true-false (sym some-18 ∙ ap someLength (sym (length-4 k q) ∙ e) ∙ s)
+    go (searching l m) = true-false (sym some-18 ∙ ap someLength (sym (length-search k l m) ∙ e) ∙ s)
     go (unknown l) = omega arith
 
 -- ---- a frame of the wrong length, or of no kind
@@ -156,8 +175,13 @@ request-none f h =
     let r1 = not-kind f 1 5 (λ a b. h (length-1 (f .kind) a ∙ omega arith)) in
     let r2 = not-kind f 2 5 (λ a b. h (length-2 (f .kind) a ∙ omega arith)) in
     let r3 = not-kind f 3 9 (λ a b. h (length-3 (f .kind) a ∙ omega arith)) in
-    let r4 = not-kind f 4 4 (λ a b. h (length-4 (f .kind) a ∙ omega arith)) in
-    rw (frameRequest, firstRow, r1, firstRow, r2, firstRow, r3, firstRow, r4, firstRow)
+    let r4 = no-search 4 (omega arith) (omega arith) in
+    let r5 = no-search 5 (omega arith) (omega arith) in
+    let r6 = no-search 6 (omega arith) (omega arith) in
+    rw (frameRequest, firstRow, r1, firstRow, r2, firstRow, r3, firstRow, r4, firstRow, r5, firstRow, r6, firstRow)
+  where
+    no-search : (k : ℕ) → 4 ≤ k → k ≤ 6 → ofKind f k 4 ≡ false
+    no-search k l m = not-kind f k 4 (λ a b. h (length-search (f .kind) (omega arith) (omega arith) ∙ omega arith))
 
 -- ---- a frame of a valid length
 
@@ -200,14 +224,34 @@ update-is bs h =
     rw (frameRequest, firstRow, r1, firstRow, r2, firstRow, is-kind (frameFrom 3 9 bs) 3 9 refl (body-length 9 bs (omega arith)))
     (rw (word-in bs 9 0 (omega arith), rect-in bs 9 1 (omega arith), rect-in bs 9 5 (omega arith)))
 
-search-is : (bs : List ℕ) → 20 ≤ length bs → frameRequest (frameFrom 4 4 bs) ≡ some (searchFrom bs)
-unfolding frameRequest firstRow searchFrom
-search-is bs h =
-    let r1 = not-kind (frameFrom 4 4 bs) 1 5 (λ a b. omega arith) in
-    let r2 = not-kind (frameFrom 4 4 bs) 2 5 (λ a b. omega arith) in
-    let r3 = not-kind (frameFrom 4 4 bs) 3 9 (λ a b. omega arith) in
-    rw (frameRequest, firstRow, r1, firstRow, r2, firstRow, r3, firstRow, is-kind (frameFrom 4 4 bs) 4 4 refl (body-length 4 bs (omega arith)))
-    (rw (rect-in bs 4 0 (omega arith)))
+search-words : (k : ℤ) (bs : List ℕ) → windowIn k (take 16 (drop 4 bs)) ≡ searchFrom k bs
+unfolding windowIn searchFrom
+search-words k bs = rw (rect-in bs 4 0 (omega arith))
+
+-- the row of a search of kind k applies to a frame of that kind; to another, the rows after it may
+search-row : (f : Frame) (k : ℕ) (rows : List (Row Request)) → length (f .body) ≡ 16
+    → ((f .kind ≡ k → ⊥) → firstRow rows ≡ some (windowIn (pos (f .kind)) (f .body)))
+    → firstRow (row (ofKind f k 4) (windowIn (pos k) (f .body)) ∷ rows) ≡ some (windowIn (pos (f .kind)) (f .body))
+unfolding firstRow
+search-row f k rows m others = go (ℕ-discrete (f .kind) k)
+  where
+    go : Dec (f .kind ≡ k) → firstRow (row (ofKind f k 4) (windowIn (pos k) (f .body)) ∷ rows) ≡ some (windowIn (pos (f .kind)) (f .body))
+    go (yes e) = rw (firstRow, is-kind f k 4 e m) (ap (λ (j : ℕ). some (windowIn (pos j) (f .body))) (sym e))
+    go (no n) = rw (firstRow, not-kind f k 4 (λ a b. n a)) (others n)
+
+search-rows : (f : Frame) → 4 ≤ f .kind → f .kind ≤ 6 → length (f .body) ≡ 16
+    → firstRow (row (ofKind f 4 4) (windowIn (pos 4) (f .body)) ∷ row (ofKind f 5 4) (windowIn (pos 5) (f .body))
+    ∷ row (ofKind f 6 4) (windowIn (pos 6) (f .body)) ∷ []) ≡ some (windowIn (pos (f .kind)) (f .body))
+search-rows f l h m = search-row f 4 _ m (λ a. search-row f 5 _ m (λ b. search-row f 6 _ m (λ c. absurd (omega arith))))
+
+search-is : (k : ℕ) (bs : List ℕ) → 4 ≤ k → k ≤ 6 → 20 ≤ length bs → frameRequest (frameFrom k 4 bs) ≡ some (searchFrom (pos k) bs)
+unfolding frameRequest firstRow
+search-is k bs l m h =
+    let r1 = not-kind (frameFrom k 4 bs) 1 5 (λ a b. omega arith) in
+    let r2 = not-kind (frameFrom k 4 bs) 2 5 (λ a b. omega arith) in
+    let r3 = not-kind (frameFrom k 4 bs) 3 9 (λ a b. omega arith) in
+    rw (frameRequest, firstRow, r1, firstRow, r2, firstRow, r3)
+    (search-rows (frameFrom k 4 bs) l m (body-length 4 bs (omega arith)) ∙ ap some (search-words (pos k) bs))
 
 -- ---- what the code makes of each kind
 
@@ -227,22 +271,22 @@ module _ (bs : List ℕ) where
   unfolding updateFrom requestIn
   update-made f g h = λ i. record { kind = pos 3; number = number (f i); first = g i; second = h i }
 
-  pub search-made : {a b : Rect} → a ≡ rectBytes bs 4 → b ≡ noRect
-      → record { kind = pos 4; number = number (pos 0); first = a; second = b } ≡ searchFrom bs
+  pub search-made : {k : ℤ} (k′ : ℤ) {a b : Rect} → k ≡ k′ → a ≡ rectBytes bs 4 → b ≡ noRect
+      → record { kind = k; number = number (pos 0); first = a; second = b } ≡ searchFrom k′ bs
   unfolding searchFrom requestIn
-  search-made g h = λ i. record { kind = pos 4; number = number (pos 0); first = g i; second = h i }
+  search-made k′ e g h = λ i. record { kind = e i; number = number (pos 0); first = g i; second = h i }
 
 pub from-update : (k : ℕ) (bs : List ℕ) → k ≡ 3 → requestFrom k bs ≡ updateFrom bs
 unfolding requestFrom
 from-update k bs e = rw (requestFrom, eq-eqb k 3 e)
 
-pub from-search : (k : ℕ) (bs : List ℕ) → k ≡ 4 → requestFrom k bs ≡ searchFrom bs
+pub from-search : {k j : ℕ} (bs : List ℕ) → k ≡ j → 4 ≤ j → j ≤ 6 → requestFrom k bs ≡ searchFrom (pos j) bs
 unfolding requestFrom
-from-search k bs e = rw (requestFrom, ne-eqb k 3 (λ q. omega arith), eq-eqb k 4 e)
+from-search {k} {j} bs e l h = rw (e, requestFrom, ne-eqb j 3 (λ q. omega arith), searches j l h)
 
-pub from-change : (k : ℕ) (bs : List ℕ) → (k ≡ 3 → ⊥) → (k ≡ 4 → ⊥) → requestFrom k bs ≡ changeFrom (pos k) bs
+pub from-change : {k j : ℕ} (bs : List ℕ) → k ≡ j → j < 3 → requestFrom k bs ≡ changeFrom (pos j) bs
 unfolding requestFrom
-from-change k bs a b = rw (requestFrom, ne-eqb k 3 a, ne-eqb k 4 b)
+from-change {k} {j} bs e l = rw (e, requestFrom, ne-eqb j 3 (λ q. omega arith), searches-not j (λ m. omega arith))
 
 -- every kind that has a length: the request is the definition's
 pub request-is : (k n : ℕ) (bs : List ℕ) → kindLength k ≡ n → 0 < n → 2 + n ≤ length bs
@@ -250,59 +294,45 @@ pub request-is : (k n : ℕ) (bs : List ℕ) → kindLength k ≡ n → 0 < n �
 request-is k n bs e p h = go (which k)
   where
     go : Which k → frameRequest (record { kind = k; body = take (n - 2) (drop 4 bs) }) ≡ some (requestFrom k bs)
-    go (insert q) =
-        let m : n ≡ 22 = sym e ∙ length-1 k q in
-        rw (from-change k bs (λ x. omega arith) (λ x. omega arith), q, m) (insert-is bs (omega arith))
-    go (delete q) =
-        let m : n ≡ 22 = sym e ∙ length-2 k q in
-        rw (from-change k bs (λ x. omega arith) (λ x. omega arith), q, m) (delete-is bs (omega arith))
+    go (insert q) = let m : n ≡ 22 = sym e ∙ length-1 k q in rw (from-change bs q (omega arith), q, m) (insert-is bs (omega arith))
+    go (delete q) = let m : n ≡ 22 = sym e ∙ length-2 k q in rw (from-change bs q (omega arith), q, m) (delete-is bs (omega arith))
     go (update q) = let m : n ≡ 38 = sym e ∙ length-3 k q in rw (from-update k bs q, q, m) (update-is bs (omega arith))
-    go (search4 q) = let m : n ≡ 18 = sym e ∙ length-4 k q in rw (from-search k bs q, q, m) (search-is bs (omega arith))
+    go (searching l s) = let m : n ≡ 18 = sym e ∙ length-search k l s in rw (from-search {k = k} bs refl l s, m) (search-is k bs l s (omega arith))
     go (unknown l) = absurd (omega arith)
 
--- ---- a frame asks one of the four kinds
+-- ---- what a frame asks is a request
 
-module _ (n : ℤ) (a b : Rect) where
-  is-insert : isRequest (requestIn (pos 1) n a b) ≡ true
-  unfolding isRequest asked requestIn firstRow same
-  is-insert = refl
-
-  is-delete : isRequest (requestIn (pos 2) n a b) ≡ true
-  unfolding isRequest asked requestIn firstRow same
-  is-delete = refl
-
-  is-update : isRequest (requestIn (pos 3) n a b) ≡ true
-  unfolding isRequest asked requestIn firstRow same
-  is-update = refl
-
-  is-search : isRequest (requestIn (pos 4) n a b) ≡ true
-  unfolding isRequest asked requestIn firstRow same
-  is-search = refl
+-- kinds 1 to 6
+is-request : (k : ℕ) (n : ℤ) (a b : Rect) → k < 6 → isRequest (requestIn (pos (suc k)) n a b) ≡ true
+unfolding isRequest asked requestIn firstRow same
+is-request zero n a b h = refl
+is-request (suc zero) n a b h = refl
+is-request (suc (suc zero)) n a b h = refl
+is-request (suc (suc (suc zero))) n a b h = refl
+is-request (suc (suc (suc (suc zero)))) n a b h = refl
+is-request (suc (suc (suc (suc (suc zero))))) n a b h = refl
+is-request (suc (suc (suc (suc (suc (suc k)))))) n a b h = absurd (omega arith)
 
 none-some : {q : Request} → none ≡ some q → ⊥
 none-some e = let z : _≡_ {A = ℕ} 0 1 = cc in omega arith
 
--- what the rows give, for every answer of their tests
+-- what a table gives, its first row or one of the others gives
+row-asks : (q : Request) (b : Bool) (p : Request) (rows : List (Row Request)) → isRequest p ≡ true → (firstRow rows ≡ some q → isRequest q ≡ true)
+    → firstRow (row b p ∷ rows) ≡ some q → isRequest q ≡ true
+unfolding firstRow
+row-asks q true p rows k r e = let z : p ≡ q = cc in subst (λ (x : Request). isRequest x ≡ true) z k
+row-asks q false p rows k r e = r e
+
+no-row-asks : (q : Request) → firstRow [] ≡ some q → isRequest q ≡ true
+unfolding firstRow
+no-row-asks q e = absurd (none-some e)
+
 pub frame-asks : (f : Frame) (q : Request) → frameRequest f ≡ some q → isRequest q ≡ true
-unfolding frameRequest firstRow
-frame-asks f q r = go (ofKind f 1 5) (ofKind f 2 5) (ofKind f 3 9) (ofKind f 4 4) r
-  where
-    ws : ℕ → List ℤ
-    ws n = wordValues n (f .body)
-
-    rows : Bool → Bool → Bool → Bool → Option Request
-    rows x y z w =
-        firstRow (
-        row x (requestIn (pos 1) (wordAt (ws 5) 0) (rectIn (ws 5) 1) noRect) ∷ row y (requestIn (pos 2) (wordAt (ws 5) 0) (rectIn (ws 5) 1) noRect)
-        ∷ row z (requestIn (pos 3) (wordAt (ws 9) 0) (rectIn (ws 9) 1) (rectIn (ws 9) 5)) ∷ row w (requestIn (pos 4) (pos 0) (rectIn (ws 4) 0) noRect)
-        ∷ [])
-
-    one : (p : Request) → isRequest p ≡ true → some p ≡ some q → isRequest q ≡ true
-    one p k e = let z : p ≡ q = cc in subst (λ (x : Request). isRequest x ≡ true) z k
-
-    go : (x y z w : Bool) → rows x y z w ≡ some q → isRequest q ≡ true
-    go true y z w e = one _ (is-insert (wordAt (ws 5) 0) (rectIn (ws 5) 1) noRect) e
-    go false true z w e = one _ (is-delete (wordAt (ws 5) 0) (rectIn (ws 5) 1) noRect) e
-    go false false true w e = one _ (is-update (wordAt (ws 9) 0) (rectIn (ws 9) 1) (rectIn (ws 9) 5)) e
-    go false false false true e = one _ (is-search (pos 0) (rectIn (ws 4) 0) noRect) e
-    go false false false false e = absurd (none-some e)
+unfolding frameRequest windowIn
+frame-asks f q =
+    row-asks q _ _ _ (is-request 0 _ _ _ (omega arith))
+    (row-asks q _ _ _ (is-request 1 _ _ _ (omega arith))
+    (row-asks q _ _ _ (is-request 2 _ _ _ (omega arith))
+    (row-asks q _ _ _ (is-request 3 _ _ _ (omega arith))
+    (row-asks q _ _ _ (is-request 4 _ _ _ (omega arith))
+    (row-asks q _ _ _ (is-request 5 _ _ _ (omega arith)) (no-row-asks q))))))

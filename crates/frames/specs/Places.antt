@@ -11,6 +11,7 @@ use Rattle.rules.specs.declared.Request.{Request}
 use Rattle.rules.specs.Pool.{rectangle}
 use Rattle.rules.specs.Geometry.{noRect}
 use Rattle.rules.specs.Frames.{wordValue, requestIn}
+use Rattle.frames.specs.Reading.{searchKind}
 
 abbrev pub wordBytes : List ℕ → ℕ → ℤ
 wordBytes bs p = wordValue (take 4 (drop p bs))
@@ -24,11 +25,11 @@ changeFrom k bs = requestIn k (wordBytes bs 4) (rectBytes bs 8) noRect
 unfoldable pub updateFrom : List ℕ → Request
 updateFrom bs = requestIn (pos 3) (wordBytes bs 4) (rectBytes bs 8) (rectBytes bs 24)
 
-unfoldable pub searchFrom : List ℕ → Request
-searchFrom bs = requestIn (pos 4) (pos 0) (rectBytes bs 4) noRect
+unfoldable pub searchFrom : ℤ → List ℕ → Request
+searchFrom k bs = requestIn k (pos 0) (rectBytes bs 4) noRect
 
 unfoldable pub requestFrom : ℕ → List ℕ → Request
-requestFrom k bs = cond (eqb k 3) (updateFrom bs) (cond (eqb k 4) (searchFrom bs) (changeFrom (pos k) bs))
+requestFrom k bs = cond (eqb k 3) (updateFrom bs) (cond (searchKind k) (searchFrom (pos k) bs) (changeFrom (pos k) bs))
 
 -- a whole number of 32 bits, counted from the least of them
 abbrev pub lift : ℤ → ℕ

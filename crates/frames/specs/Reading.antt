@@ -25,10 +25,14 @@ beginning bs =
       | Complete f after ↦ elim (frameRequest f) [ none ↦ Wrong | some q ↦ Asking q after ]
     ]
 
--- "Kind 1 insert and 2 delete: number, rectangle (length 22). 3 update: number, old, new (38). 4 search: window (18)."; 0 for a kind that
--- is unknown
+-- the kinds of search, 4 to 6. Req 01: "kind 4 keeps meeting; kinds 5 and 6, of the same layout, are inside and enclosing"
+unfoldable pub searchKind : ℕ → Bool
+searchKind k = leb 4 k && leb k 6
+
+-- "Kind 1 insert and 2 delete: number, rectangle (length 22). 3 update: number, old, new (38). 4 search: window (18)." Req 01: "kinds 5 and 6,
+-- of the same layout". 0 for a kind that is unknown
 unfoldable pub kindLength : ℕ → ℕ
-kindLength k = cond (eqb k 1 || eqb k 2) 22 (cond (eqb k 3) 38 (cond (eqb k 4) 18 0))
+kindLength k = cond (eqb k 1 || eqb k 2) 22 (cond (eqb k 3) 38 (cond (searchKind k) 18 0))
 
 -- a length that a kind has
 unfoldable pub someLength : ℕ → Bool

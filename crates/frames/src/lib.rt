@@ -94,7 +94,8 @@ pub enum Framed {
     Bad,
 }
 
-// "Kind 1 insert and 2 delete: number, rectangle (length 22). 3 update: number, old, new (38). 4 search: window (18)."
+// "Kind 1 insert and 2 delete: number, rectangle (length 22). 3 update: number, old, new (38). 4 search: window (18)." Req 01: "kinds 5 and
+// 6, of the same layout".
 fn length_of(kind: u64) -> u64
     ensures is { λ r. ⌜ r ≡ kindLength kind ⌝ }
     ensures small { λ r. ⌜ r ≤ 38 ⌝ }
@@ -104,6 +105,8 @@ fn length_of(kind: u64) -> u64
         2 => 22,
         3 => 38,
         4 => 18,
+        5 => 18,
+        6 => 18,
         _ => 0,
     }
 }
@@ -163,23 +166,23 @@ fn update_in(bytes: &[u8]) -> Request
     }
 }
 
-// Search: window. It has no number.
-fn search_in(bytes: &[u8]) -> Request
+// Search, in each of its kinds: window. It has no number.
+fn search_in(bytes: &[u8], kind: i32) -> Request
     requires { ⌜ 20 ≤ length (now bytes) ⌝ }
-    ensures { λ r. ⌜ r ≡ searchFrom (now (bytes .entry)) ⌝ }
+    ensures { λ r. ⌜ r ≡ searchFrom kind (now (bytes .entry)) ⌝ }
 {
     let number = RecordNumber(0);
     let first = rect_at(bytes, 4);
     let second = no_rect();
     Request {
-        kind: 4,
+        kind,
         number,
         first,
         second,
     }
 }
 
-// What a whole frame of a known kind asks.
+// What a whole frame of a known kind asks. Req 01: "kind 4 keeps meeting; kinds 5 and 6, of the same layout, are inside and enclosing"
 fn request_in(bytes: &[u8], kind: u64) -> Request
     requires known { ⌜ 0 < kindLength kind ⌝ }
     requires whole { ⌜ 2 + kindLength kind ≤ length (now bytes) ⌝ }
@@ -187,7 +190,9 @@ fn request_in(bytes: &[u8], kind: u64) -> Request
 {
     match kind {
         3 => update_in(bytes),
-        4 => search_in(bytes),
+        4 => search_in(bytes, 4),
+        5 => search_in(bytes, 5),
+        6 => search_in(bytes, 6),
         2 => change_in(bytes, 2),
         _ => change_in(bytes, 1),
     }
