@@ -1,33 +1,36 @@
 -- A closed history that meets each hypothesis of the demands: a pool of one slot is blanked; pairs go in, and requests are refused; a call is
--- refused; then a pair is replaced, and two searches show what is in force.
+-- refused; then a pair is replaced, and searches of every mode show what is in force.
 use mathlib.Core.Path.{_≡_, refl, ap}
 use mathlib.Core.Logic.{inl}
 use mathlib.Core.List.{List, [], _∷_, _++_}
-use Prim.Native.Nat.{ℕ, _-_, _≤_}
+use Prim.Native.Nat.{ℕ}
 use native.Mathlib.Omega.{arith}
 use lib.ListN.{length, replicate, length-append}
 use lib.Seq.{slice}
 use lib.IntN.{ℤ, pos}
 use Rattle.rules.specs.declared.Request.{Request}
+use Rattle.rules.specs.declared.Record.{Record}
+use Rattle.rules.specs.declared.Mode.the-variants.{Meeting, OnlyInside, OnlyEnclosing}
 use Rattle.rules.specs.Lists.{those}
 use Rattle.rules.specs.Pool.{blankPool, stored, noRecord}
 use Rattle.rules.specs.Layout.{Blanked, words, read, blank}
 use Rattle.rules.specs.Search.{ordered}
-use Rattle.search_laws.specs.Window.{recordMeets}
+use Rattle.search_laws.specs.Window.{recordWanted, wholeSite}
 use Rattle.rules.specs.Answers.{answer}
 use Rattle.rules.specs.Call.{Lent, call}
 use Rattle.rules.specs.Computed.{document01}
-use Rattle.rules.specs.Histories.{box, insert, delete, update, search, shown}
+use Rattle.rules.specs.Histories.{box, insert, delete, update, search, searchInside, searchEnclosing, shown}
 use Rattle.in_force_laws.specs.Force.{lessPair, change, inForce, forceBy, forceAfter, placesFilled, filledBy, filledAfter}
 use Rattle.in_force_laws.specs.Shows.{High}
-use Rattle.in_force_laws.specs.Batch.{howManyMeet, Told}
+use Rattle.in_force_laws.specs.Batch.{Told}
 use Rattle.demands.specs.Steps.{Step, Blank, Call, poolAfter, History, inForceAfter}
 use Rattle.map.specs.Asking.{Allowed}
 use Rattle.demands.specs.Demands.{after, answerAfter, withRequests, SameWithout, NoChange}
 use Rattle.demands.proofs.Demands.{demand-1, demand-2, demand-3, demand-height}
+use Rattle.demands.proofs.Sites.{planners-site}
 
 abbrev lends : List ℤ → List Request → ℕ → Lent
-lends w qs n = record { pool = w; workspace = w; requests = qs; answers = replicate n (answer 1 2 3 4); found = noRecord ∷ noRecord ∷ noRecord ∷ [] }
+lends w qs n = record { pool = w; workspace = w; requests = qs; answers = replicate n (answer 1 2 3 4); found = replicate 5 noRecord }
 
 -- ---- the steps
 
@@ -41,8 +44,12 @@ first = lends (start .pool) (insert 7 (box 0 0 10 10) ∷ insert 7 (box 0 0 10 1
 second : Lent
 second = lends (call first .pool) (delete 7 (box 0 0 10 10) ∷ []) 2
 
+-- record 7 goes elsewhere
+abbrev pub moved : Request
+moved = update 7 (box 0 0 10 10) (box 5 5 20 20)
+
 pub last : Lent
-last = lends (call second .pool) (update 7 (box 0 0 10 10) (box 5 5 20 20) ∷ search (box 20 20 30 30) ∷ search (box 0 0 50 50) ∷ []) 3
+last = lends (call second .pool) (moved ∷ search (box 20 20 30 30) ∷ searchInside (box 0 0 20 20) ∷ searchEnclosing (box 6 6 7 7) ∷ search (box 0 0 50 50) ∷ []) 5
 
 before-last : List Step
 before-last = Call second (call second) ∷ Call first (call first) ∷ Blank start ∷ []
@@ -73,29 +80,45 @@ closed-refused : call second .number ≡ pos 9
 unfolding document01 second first start
 closed-refused = refl
 
--- the pairs in force before the last call, and when its search is done
+-- the pairs in force before the last call
 closed-force : inForceAfter before-last ≡ shown 8 (box 40 0 50 9) ∷ shown 7 (box 0 0 10 10) ∷ []
 unfolding document01 inForceAfter forceAfter forceBy inForce change before-last second first start
 closed-force = refl
 
-closed-then : forceAfter (inForceAfter before-last) 0 (update 7 (box 0 0 10 10) (box 5 5 20 20) ∷ []) (call last .answers)
-    ≡ shown 7 (box 5 5 20 20) ∷ shown 8 (box 40 0 50 9) ∷ []
-unfolding document01 inForceAfter forceAfter forceBy inForce change lessPair before-last last second first start
-closed-then = refl
+-- then, and when the searches before are done
+abbrev pub inForceThen : List Record
+inForceThen = shown 7 (box 5 5 20 20) ∷ shown 8 (box 40 0 50 9) ∷ []
 
-closed-room : howManyMeet (box 20 20 30 30) (forceAfter (inForceAfter before-last) 0 (update 7 (box 0 0 10 10) (box 5 5 20 20) ∷ []) (call last .answers))
-    ≤ length (last .found) - filledAfter 0 0 (update 7 (box 0 0 10 10) (box 5 5 20 20) ∷ []) (call last .answers)
-unfolding document01 inForceAfter forceAfter forceBy inForce change lessPair filledAfter filledBy placesFilled before-last last second first start
-closed-room = omega arith
+-- what the found list shows at the end
+abbrev pub shownAtEnd : List Record
+shownAtEnd = shown 7 (box 5 5 20 20) ∷ shown 7 (box 5 5 20 20) ∷ shown 7 (box 5 5 20 20) ∷ shown 7 (box 5 5 20 20) ∷ shown 8 (box 40 0 50 9) ∷ []
+
+closed-shown : call last .found ≡ shownAtEnd
+unfolding document01 last second first start
+closed-shown = refl
 
 -- every hypothesis of the third demand is met, and this is what it says: record 7, which only touches the window, where it is now
-pub closed-shows : Told (after last (update 7 (box 0 0 10 10) (box 5 5 20 20) ∷ []) .pool)
-    (shown 7 (box 5 5 20 20) ∷ shown 8 (box 40 0 50 9) ∷ []) 0 (box 20 20 30 30) 1 (call last .answers)
-    (shown 7 (box 5 5 20 20) ∷ shown 7 (box 5 5 20 20) ∷ shown 8 (box 40 0 50 9) ∷ [])
+pub closed-shows : Told (after last (moved ∷ []) .pool) inForceThen 0 Meeting (box 20 20 30 30) 1 (call last .answers) shownAtEnd
 unfolding document01 inForceAfter forceAfter forceBy inForce change lessPair filledAfter filledBy placesFilled before-last last second first start
 closed-shows =
-    demand-3 0 before-last last (call last) closed-history closed-served .each (update 7 (box 0 0 10 10) (box 5 5 20 20) ∷ [])
-    (search (box 20 20 30 30)) (search (box 0 0 50 50) ∷ []) refl (box 20 20 30 30) refl refl closed-room
+    demand-3 0 before-last last (call last) closed-history closed-served .each (moved ∷ []) (search (box 20 20 30 30))
+    (searchInside (box 0 0 20 20) ∷ searchEnclosing (box 6 6 7 7) ∷ search (box 0 0 50 50) ∷ []) refl Meeting (box 20 20 30 30) refl refl (omega arith)
+
+-- .. of the search inside: record 7 lies in the window, with two sides on its sides
+pub closed-inside : Told (after last (moved ∷ search (box 20 20 30 30) ∷ []) .pool) inForceThen 1 OnlyInside (box 0 0 20 20) 2 (call last .answers) shownAtEnd
+unfolding document01 inForceAfter forceAfter forceBy inForce change lessPair filledAfter filledBy placesFilled before-last last second first start
+closed-inside =
+    demand-3 0 before-last last (call last) closed-history closed-served .each (moved ∷ search (box 20 20 30 30) ∷ []) (searchInside (box 0 0 20 20))
+    (searchEnclosing (box 6 6 7 7) ∷ search (box 0 0 50 50) ∷ []) refl OnlyInside (box 0 0 20 20) refl refl (omega arith)
+
+-- .. and of the search enclosing
+pub closed-enclosing : Told (after last (moved ∷ search (box 20 20 30 30) ∷ searchInside (box 0 0 20 20) ∷ []) .pool) inForceThen 2 OnlyEnclosing (box 6 6 7 7) 3
+    (call last .answers) shownAtEnd
+unfolding document01 inForceAfter forceAfter forceBy inForce change lessPair filledAfter filledBy placesFilled before-last last second first start
+closed-enclosing =
+    demand-3 0 before-last last (call last) closed-history closed-served .each
+    (moved ∷ search (box 20 20 30 30) ∷ searchInside (box 0 0 20 20) ∷ []) (searchEnclosing (box 6 6 7 7)) (search (box 0 0 50 50) ∷ []) refl OnlyEnclosing
+    (box 6 6 7 7) refl refl (omega arith)
 
 -- .. the height of the pool that the history leaves, by the two records in force
 pub closed-high : High (read (call last .pool)) (shown 7 (box 5 5 20 20) ∷ shown 8 (box 40 0 50 9) ∷ [])
@@ -107,13 +130,24 @@ closed-high = demand-height 0 (Call last (call last) ∷ before-last) closed-his
 allowed : (l : Lent) → Allowed l (call l)
 allowed l = record { number = refl; pool = refl; workspace = refl; answers = refl; found = refl }
 
--- the last search fills the two places after the first
-pub closed-lists : slice 1 3 (call last .found)
-    ≡ ordered (those (recordMeets (box 0 0 50 50)) (stored (after last (update 7 (box 0 0 10 10) (box 5 5 20 20) ∷ search (box 20 20 30 30) ∷ []) .pool)))
+-- the last search fills the two places after those of the others
+pub closed-lists : slice 3 5 (call last .found)
+    ≡ ordered (those (recordWanted Meeting (box 0 0 50 50))
+    (stored (after last (moved ∷ search (box 20 20 30 30) ∷ searchInside (box 0 0 20 20) ∷ searchEnclosing (box 6 6 7 7) ∷ []) .pool)))
 unfolding document01 last second first start
 closed-lists =
-    demand-2 last (call last) (allowed last) closed-served .lists (update 7 (box 0 0 10 10) (box 5 5 20 20) ∷ search (box 20 20 30 30) ∷ [])
-    (search (box 0 0 50 50)) [] refl (box 0 0 50 50) refl refl .listed
+    demand-2 last (call last) (allowed last) closed-served .lists
+    (moved ∷ search (box 20 20 30 30) ∷ searchInside (box 0 0 20 20) ∷ searchEnclosing (box 6 6 7 7) ∷ []) (search (box 0 0 50 50)) [] refl Meeting
+    (box 0 0 50 50) refl refl .listed
+
+-- over the whole site, a search inside may be asked as one that meets it
+pub planned : Lent
+planned = lends (call second .pool) (moved ∷ searchInside wholeSite ∷ []) 2
+
+pub closed-site : call planned ≡ call (withRequests planned (moved ∷ search wholeSite ∷ []) (planned .answers))
+unfolding document01 planned
+closed-site =
+    planners-site planned (moved ∷ []) (searchInside wholeSite) (search wholeSite) [] refl refl refl (call planned) _ (allowed planned) (allowed _)
 
 first-served : call first .number ≡ pos 0
 unfolding document01 first start

@@ -13,6 +13,7 @@ use lib.Dec.{eqb}
 use lib.IntN.{ℤ, pos}
 use borrow.Author.Tests.{eq-eqb, ne-eqb}
 use Rattle.rules.specs.declared.Rect.{Rect}
+use Rattle.rules.specs.declared.Mode.{Mode}
 use Rattle.rules.specs.declared.Request.{Request}
 use Rattle.rules.specs.declared.Asked.{Asked}
 use Rattle.rules.specs.declared.Asked.the-variants.{Search}
@@ -31,12 +32,12 @@ use Rattle.rules.specs.Call.{Lent, Left, Batch, isRequest, callFault, refused, 
 use Rattle.rules_laws.proofs.Bools.{not-false, or-neither}
 use Rattle.rules_laws.proofs.Splits.{ours-lawful}
 use Rattle.sound_laws.specs.Tree.{Whole}
-use Rattle.search_laws.specs.Window.{recordMeets}
+use Rattle.search_laws.specs.Window.{recordWanted}
 use Rattle.search_laws.proofs.Order.{alike-length, ordered-alike}
 use Rattle.search_laws.proofs.Exact.{search-exact, opened-exact}
 use Rattle.in_force_laws.specs.Force.{forceAfter, filledAfter}
 use Rattle.in_force_laws.specs.Shows.{HoldsRecords, nodesMeeting, High}
-use Rattle.in_force_laws.specs.Batch.{howManyMeet}
+use Rattle.in_force_laws.specs.Batch.{howManyWanted}
 use Rattle.in_force_laws.proofs.Whole.{request-whole}
 use Rattle.in_force_laws.proofs.Search.{holds-high}
 use Rattle.in_force_laws.proofs.Batch.{noAnswer, answers-kept, answers-as-many, listed-end}
@@ -69,7 +70,7 @@ module _ (l : Lent) where
   sound-first : callFault l ≡ none → sound (l .pool) ≡ true
   sound-first h = not-false _ (passed l h .2)
 
-  first-whole : callFault l ≡ none → Whole (starting l .pool)
+  pub first-whole : callFault l ≡ none → Whole (starting l .pool)
   unfolding starting
   first-whole h = sound-tree (l .pool) (sound-first h)
 
@@ -84,7 +85,7 @@ module _ (l : Lent) where
   step-whole i b none w = w
   step-whole i b (some a) w = request-whole ours ours-lawful (b .pool) w (b .filled) (length (b .found) - b .filled) a
 
-  all-whole : (i : ℕ) (qs : List Request) (b : Batch) → Whole (b .pool) → Whole (doRequests ours i qs b .pool)
+  pub all-whole : (i : ℕ) (qs : List Request) (b : Batch) → Whole (b .pool) → Whole (doRequests ours i qs b .pool)
   unfolding doRequests
   all-whole i [] b w = w
   all-whole i (q ∷ qs) b w = all-whole (suc i) qs (doRequest ours i b (asked q)) (step-whole i b (asked q) w)
@@ -236,9 +237,9 @@ module _ (l : Lent) (o : Left) (k : Allowed l o) where
         refusal : answerAfter o done .number ≢ 0 → after l (done ++ q ∷ []) .pool ≡ after l done .pool
         refusal n = let a = asks-something q (every-less isRequest done q rest (rw all at (passed l (fine z) .3)) .0) in stays z done q rest all (a .0) (a .1) n
 
-        searched : (window : Rect) × (asked q ≡ some (Search window)) → after l (done ++ q ∷ []) .pool ≡ after l done .pool
+        searched : (mode : Mode) × (window : Rect) × (asked q ≡ some (Search mode window)) → after l (done ++ q ∷ []) .pool ≡ after l done .pool
         searched s =
-            pool-then z done q rest all (Search (s .0)) (s .1) ∙ same-pool (one-either l (fine z) done q (Search (s .0)) (s .1))
+            pool-then z done q rest all (Search (s .0) (s .1)) (s .2) ∙ same-pool (one-either l (fine z) done q (Search (s .0) (s .1)) (s .2))
 
     all-still : (done rest : List Request) → l .requests ≡ done ++ rest → after l (done ++ rest) .pool ≡ after l done .pool
     all-still done [] all = ap (λ (qs : List Request). after l qs .pool) (append-nil done)
@@ -257,37 +258,37 @@ module _ (l : Lent) (o : Left) (k : Allowed l o) where
   -- ---- D2
 
   module _ (z : o .number ≡ pos 0) (done : List Request) (q : Request) (rest : List Request) (all : l .requests ≡ done ++ q ∷ rest)
-      (window : Rect) (is : asked q ≡ some (Search window)) (y : answerAfter o done .number ≡ 0) where
+      (mode : Mode) (window : Rect) (is : asked q ≡ some (Search mode window)) (y : answerAfter o done .number ≡ 0) where
     abbrev p : Pool
     p = after l done .pool
 
-    finds : turnAfter l done (Search window) ≡ turn p (Listed (length (found p window)) (after l done .filled) (opened p window)) (found p window)
-    finds = one-either l (fine z) done q (Search window) is .accepted (is-zero z done q rest all (Search window) is y) .1
+    finds : turnAfter l done (Search mode window) ≡ turn p (Listed (length (found p mode window)) (after l done .filled) (opened p window)) (found p mode window)
+    finds = one-either l (fine z) done q (Search mode window) is .accepted (is-zero z done q rest all (Search mode window) is y) .1
 
-    exact : found p window ≡ ordered (those (recordMeets window) (stored p))
-    exact = search-exact p (now-whole l (fine z) done q (Search window) is) window
+    exact : found p mode window ≡ ordered (those (recordWanted mode window) (stored p))
+    exact = search-exact p (now-whole l (fine z) done q (Search mode window) is) mode window
 
-    many : length (found p window) ≡ howManyMeet window (stored p)
-    many = ap length exact ∙ alike-length (ordered-alike (those (recordMeets window) (stored p)))
+    many : length (found p mode window) ≡ howManyWanted mode window (stored p)
+    many = ap length exact ∙ alike-length (ordered-alike (those (recordWanted mode window) (stored p)))
 
     filled-then : after l done .filled ≡ filledAfter 0 0 done (o .answers)
     filled-then =
-        filled-before l (fine z) done q (Search window) is rest all ∙ ap (filledAfter 0 0 done) (sym (k .answers))
+        filled-before l (fine z) done q (Search mode window) is rest all ∙ ap (filledAfter 0 0 done) (sym (k .answers))
 
-    says : answerAfter o done ≡ answer 0 (howManyMeet window (stored p)) (filledAfter 0 0 done (o .answers)) (suc (nodesMeeting p window))
+    says : answerAfter o done ≡ answer 0 (howManyWanted mode window (stored p)) (filledAfter 0 0 done (o .answers)) (suc (nodesMeeting p window))
     unfolding answerOf
     says =
-        told z done q rest all (Search window) is ∙ ap (λ (t : Turn). answerOf (t .reply)) finds
-        ∙ rw (many, filled-then, opened-exact p (now-whole l (fine z) done q (Search window) is) window)
+        told z done q rest all (Search mode window) is ∙ ap (λ (t : Turn). answerOf (t .reply)) finds
+        ∙ rw (many, filled-then, opened-exact p (now-whole l (fine z) done q (Search mode window) is) window)
 
-    stands : slice (after l done .filled) (after l done .filled + length (found p window)) (o .found) ≡ found p window
+    stands : slice (after l done .filled) (after l done .filled + length (found p mode window)) (o .found) ≡ found p mode window
     stands =
-        ap (slice (after l done .filled) (after l done .filled + length (found p window))) (k .found ∙ call-found l (fine z) done q (Search window) is rest all)
+        ap (slice (after l done .filled) (after l done .filled + length (found p mode window))) (k .found ∙ call-found l (fine z) done q (Search mode window) is rest all)
         ∙ subst (λ (t : Turn). slice (after l done .filled) (after l done .filled + length (t .listed))
-        (doRequests ours (suc (length done)) rest (next l (fine z) done q (Search window) is) .found) ≡ t .listed) finds
-        (listed-end ours (length done) (after l done) (Search window) rest)
+        (doRequests ours (suc (length done)) rest (next l (fine z) done q (Search mode window) is) .found) ≡ t .listed) finds
+        (listed-end ours (length done) (after l done) (Search mode window) rest)
 
-    listing : Lists p window (filledAfter 0 0 done (o .answers)) (answerAfter o done) (o .found)
+    listing : Lists p mode window (filledAfter 0 0 done (o .answers)) (answerAfter o done) (o .found)
     listing = record {
       answered = says;
       listed =
@@ -321,7 +322,7 @@ demand-3 n steps l o h z =
     let holds = subst (λ (w : List ℤ). HoldsRecords (read w) rs) (sym (h .0)) (history-holds n steps (h .2)) in
     let y = sym (k .number) ∙ z in
     rw (k .answers, k .found) (record {
-      each = λ done q rest all window s v room. call-shows ours l ours-lawful rs holds y done q rest all window s v room;
+      each = λ done q rest all mode window s v room. call-shows ours l ours-lawful rs holds y done q rest all mode window s v room;
       high = λ done rest all. holds-high (after l done .pool) (forceAfter rs 0 done (call l .answers)) (call-part ours l ours-lawful rs holds y done rest all);
     })
 

@@ -3,5 +3,6 @@ pub mod Holds
 pub mod Turns
 pub mod Unasked
 pub mod Demands
+pub mod Sites
 pub mod Closed
 pub mod Surveys

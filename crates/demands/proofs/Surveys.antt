@@ -15,6 +15,8 @@ use Rattle.rules.specs.declared.Query.{Query}
 use Rattle.rules.specs.declared.Query.the-variants.{Point, Box, Disc}
 use Rattle.rules.specs.declared.Surveyed.{Surveyed}
 use Rattle.rules.specs.declared.Surveyed.the-variants.{Rounded, BadSurvey}
+use Rattle.rules.specs.Compare.{wanted}
+use Rattle.rules_laws.proofs.Compares.{meeting-is}
 use Rattle.rules.specs.Survey.{pointBox, queryWindow, surveyNumber, surveyWords, HoldsBox}
 use Rattle.survey_laws.specs.Queries.{OfDoubles}
 use Rattle.survey_laws.proofs.Boxes.{box-rounded}
@@ -53,7 +55,7 @@ not-both e = absurd (apart (ap mag e))
 
 module _ (q : Query) (h : OfDoubles q) (lent : List ℤ) (four : length lent ≡ 4) (n : ℤ) (words : List ℤ) (c : Converts (queryWindow q) lent n words) where
   by-window : (w : Surveyed) → queryWindow q ≡ w → Surveys q lent n words
-  unfolding surveyNumber surveyWords
+  unfolding surveyNumber surveyWords wanted
   by-window (Rounded r) e =
       let number : n ≡ pos 0 = c .number ∙ ap surveyNumber e in
       record {
@@ -64,7 +66,7 @@ module _ (q : Query) (h : OfDoubles q) (lent : List ℤ) (four : length lent ≡
           good = window-valid q h r e;
           holds = query-holds q h r e;
           near = query-near q h r e;
-          lists = λ s m. none-missed (exactQuery q) r (query-holds q h r e) (s .rect) m;
+          lists = λ s m. meeting-is (s .rect) r ∙ none-missed (exactQuery q) r (query-holds q h r e) (s .rect) m;
         };
         refused = λ z. not-both (sym number ∙ z);
       }

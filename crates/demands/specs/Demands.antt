@@ -9,6 +9,7 @@ use lib.ListN.{length, getD, take, drop}
 use lib.Seq.{slice}
 use lib.IntN.{pos}
 use Rattle.rules.specs.declared.Rect.{Rect}
+use Rattle.rules.specs.declared.Mode.{Mode}
 use Rattle.rules.specs.declared.Record.{Record}
 use Rattle.rules.specs.declared.Request.{Request}
 use Rattle.rules.specs.declared.Asked.{Asked}
@@ -25,10 +26,10 @@ use Rattle.rules.specs.Delete.{deleteRecord, updateRecord}
 use Rattle.rules.specs.Answers.{answer, answerOf, verdictNumber}
 use Rattle.rules.specs.Request.{Turn, asked, request}
 use Rattle.rules.specs.Call.{Lent, Left, Batch, callFault, doRequests, starting}
-use Rattle.search_laws.specs.Window.{recordMeets}
+use Rattle.search_laws.specs.Window.{recordWanted}
 use Rattle.in_force_laws.specs.Force.{forceAfter, filledAfter}
 use Rattle.in_force_laws.specs.Shows.{nodesMeeting, High}
-use Rattle.in_force_laws.specs.Batch.{howManyMeet, Told}
+use Rattle.in_force_laws.specs.Batch.{howManyWanted, Told}
 use Rattle.demands.specs.Steps.{Step, inForceAfter}
 use Rattle.map.specs.Asking.{Allowed}
 
@@ -78,7 +79,7 @@ pub record SameWithout (n : ℕ) (o x : Left) : Type 0 where
 
 -- a request that is refused by its answer, or is a search
 abbrev pub NoChange : Request → Answer → Type 0
-NoChange q told = (told .number ≢ 0) ⊎ ((window : Rect) × (asked q ≡ some (Search window)))
+NoChange q told = (told .number ≢ 0) ⊎ ((mode : Mode) × (window : Rect) × (asked q ≡ some (Search mode window)))
 
 pub record Refuses (l : Lent) (o : Left) : Type 0 where
   -- "Bad input gets the numbered refusal of document 01 under exactly the conditions given there.": a call is refused by the first row of its
@@ -105,24 +106,25 @@ abbrev pub Accepted : Pool → Asked → Pool → Type 0
 Accepted p (Insert r) q = insertRecord ours p r ≡ Done q
 Accepted p (Delete r) q = deleteRecord ours p r ≡ Done q
 Accepted p (Update old new) q = updateRecord ours p old new ≡ Done q
-Accepted p (Search window) q = q ≡ p
+Accepted p (Search mode window) q = q ≡ p
 
 -- an accepted search of the pool p with so many places of the found list filled before it, by its answer and the found list that come back
-pub record Lists (p : Pool) (window : Rect) (filled : ℕ) (told : Answer) (found : List Record) : Type 0 where
+pub record Lists (p : Pool) (mode : Mode) (window : Rect) (filled : ℕ) (told : Answer) (found : List Record) : Type 0 where
   -- "The answer gives found count, start in the found list and nodes opened."; "start being the number of places filled before"
-  pub answered : told ≡ answer 0 (howManyMeet window (stored p)) filled (suc (nodesMeeting p window))
-  -- "exactly the stored records whose rectangle meets the window", at as many places as found, from start on
-  pub listed : slice (told .start) (told .start + told .found) found ≡ ordered (those (recordMeets window) (stored p))
+  pub answered : told ≡ answer 0 (howManyWanted mode window (stored p)) filled (suc (nodesMeeting p window))
+  -- "exactly the stored records whose rectangle meets the window", by mode, at as many places as found, from start on. (What a mode wants of a
+  -- record is `wanted` in Compare.antt; by coordinates, `wanted-meeting`, `wanted-inside`, `wanted-enclosing` of crate `rules_laws`)
+  pub listed : slice (told .start) (told .start + told .found) found ≡ ordered (those (recordWanted mode window) (stored p))
 
 pub record Does (l : Lent) (o : Left) : Type 0 where
   -- "Each accepted insert, delete and update leaves the pool that Guttman's algorithms leave, with quadratic split and document 01's tie and
   -- slot rules."
   pub each : (done : List Request) (q : Request) (rest : List Request) → l .requests ≡ done ++ q ∷ rest → (a : Asked) → asked q ≡ some a
       → answerAfter o done .number ≡ 0 → Accepted (after l done .pool) a (after l (done ++ q ∷ []) .pool)
-  -- "Each accepted search lists exactly the stored records whose rectangle meets the window."
+  -- "Each accepted search lists exactly the stored records whose rectangle meets the window."; Req 01: "demands 2 and 3 read the found list by mode"
   pub lists : (done : List Request) (q : Request) (rest : List Request) → l .requests ≡ done ++ q ∷ rest
-      → (window : Rect) → asked q ≡ some (Search window) → answerAfter o done .number ≡ 0
-      → Lists (after l done .pool) window (filledAfter 0 0 done (o .answers)) (answerAfter o done) (o .found)
+      → (mode : Mode) (window : Rect) → asked q ≡ some (Search mode window) → answerAfter o done .number ≡ 0
+      → Lists (after l done .pool) mode window (filledAfter 0 0 done (o .answers)) (answerAfter o done) (o .found)
   -- "places beyond stay": after the last place that a search filled, the found list is as it was lent
   pub beyond : drop (filledAfter 0 0 (l .requests) (o .answers)) (o .found) ≡ drop (filledAfter 0 0 (l .requests) (o .answers)) (l .found)
   -- what comes back is what the last one leaves
@@ -137,11 +139,12 @@ pub record Does (l : Lent) (o : Left) : Type 0 where
 -- D3: "From a blank pool changed only by these requests, ..
 pub record Shows (steps : List Step) (l : Lent) (o : Left) : Type 0 where
   -- .. every search in a call that returns 0 (valid window, room in its list) shows the records in force that meet the window, each once, in
-  -- record order; the nodes opened are one for the root and one for each other node whose cover meets the window; ..
+  -- record order; the nodes opened are one for the root and one for each other node whose cover meets the window; .. The found list is read by
+  -- mode, and the nodes opened are the same in every mode
   pub each : (done : List Request) (q : Request) (rest : List Request) → l .requests ≡ done ++ q ∷ rest
-      → (window : Rect) → asked q ≡ some (Search window) → valid window ≡ true
-      → howManyMeet window (forceAfter (inForceAfter steps) 0 done (o .answers)) ≤ length (l .found) - filledAfter 0 0 done (o .answers)
-      → Told (after l done .pool) (forceAfter (inForceAfter steps) 0 done (o .answers)) (filledAfter 0 0 done (o .answers)) window (length done)
+      → (mode : Mode) (window : Rect) → asked q ≡ some (Search mode window) → valid window ≡ true
+      → howManyWanted mode window (forceAfter (inForceAfter steps) 0 done (o .answers)) ≤ length (l .found) - filledAfter 0 0 done (o .answers)
+      → Told (after l done .pool) (forceAfter (inForceAfter steps) 0 done (o .answers)) (filledAfter 0 0 done (o .answers)) mode window (length done)
       (o .answers) (o .found)
   -- .. with n records and height h, h is 1 or 2·3^(h-1) ≤ n.": after each request of each call, and before the first
   pub high : (done rest : List Request) → l .requests ≡ done ++ rest

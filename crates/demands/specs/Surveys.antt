@@ -6,12 +6,13 @@ use mathlib.Core.List.{List, [], _∷_}
 use lib.IntN.{ℤ, pos}
 use Rattle.rules.specs.declared.Rect.{Rect}
 use Rattle.rules.specs.declared.Record.{Record}
+use Rattle.rules.specs.declared.Mode.the-variants.{Meeting}
 use Rattle.rules.specs.declared.Query.{Query}
 use Rattle.rules.specs.declared.Query.the-variants.{Point, Box, Disc}
 use Rattle.rules.specs.Geometry.{valid}
 use Rattle.rules.specs.Survey.{pointBox, ExactBox, exactBox, exactDisc, RoundedOutward, HoldsBox, LessThanBeyond}
 use Rattle.survey_laws.specs.Queries.{meetsExactly}
-use Rattle.search_laws.specs.Window.{recordMeets}
+use Rattle.search_laws.specs.Window.{recordWanted}
 
 -- the box that a query asks about, by its exact values
 abbrev pub exactQuery : Query → ExactBox
@@ -35,8 +36,8 @@ pub record Shown (q : Query) (words : List ℤ) : Type 0 where
   -- "the window holds the exact box"
   pub holds : HoldsBox (exactQuery q) rect
   pub near : NearQuery q rect
-  -- so that a search with it lists each record that meets the exact box
-  pub lists : (r : Record) → meetsExactly (exactQuery q) (r .rect) ≡ true → recordMeets rect r ≡ true
+  -- so that a search of mode meeting with it lists each record that meets the exact box
+  pub lists : (r : Record) → meetsExactly (exactQuery q) (r .rect) ≡ true → recordWanted Meeting rect r ≡ true
 
 pub record Surveys (q : Query) (lent : List ℤ) (n : ℤ) (words : List ℤ) : Type 0 where
   pub either : (n ≡ pos 0) ⊎ (n ≡ pos 12)

@@ -1,0 +1,118 @@
+-- For planners: over the whole site, a search inside is a search that meets the window. In a whole pool the two find the same records and open
+-- the same nodes, so that a call with the one in the other's place is the same call: refused alike, and otherwise with the same turn there.
+use mathlib.Core.Path.{_≡_, refl, sym, ap, ap₂, _∙_}
+use mathlib.Core.Bool.{Bool, true, not, _&&_, _||_}
+use mathlib.Core.List.{List, [], _∷_, _++_}
+use mathlib.Core.Option.{Option, none, some}
+use Prim.Native.Nat.{ℕ, suc}
+use lib.ListN.{length, length-append}
+use lib.Dec.{ltb, eqb}
+use Rattle.rules.specs.declared.Rect.{Rect}
+use Rattle.rules.specs.declared.Record.{Record}
+use Rattle.rules.specs.declared.Reply.the-variants.{Listed, BadRectangle, NoRoom}
+use Rattle.rules.specs.declared.Request.{Request}
+use Rattle.rules.specs.declared.Asked.{Asked}
+use Rattle.rules.specs.declared.Asked.the-variants.{Search}
+use Rattle.rules.specs.declared.Mode.the-variants.{Meeting, OnlyInside}
+use Rattle.rules.specs.declared.Verdict.{Verdict}
+use Rattle.rules.specs.declared.Verdict.the-variants.{BadLists, BadLength, NotSound, NoRequest}
+use Rattle.rules.specs.Lists.{every}
+use Rattle.rules.specs.Numbers.{mostRequests}
+use Rattle.rules.specs.Geometry.{valid}
+use Rattle.rules.specs.Pool.{Pool}
+use Rattle.rules.specs.Search.{opened}
+use Rattle.rules.specs.Layout.{validLength}
+use Rattle.rules.specs.Sound.{sound}
+use Rattle.rules.specs.Insert.{ours}
+use Rattle.rules.specs.Answers.{row, firstRow}
+use Rattle.rules.specs.Request.{Turn, turn, asked, searchFault, request}
+use Rattle.rules.specs.Call.{Lent, Left, Batch, isRequest, callFault, refused, served, call, afterTurn, doRequest, doRequests, starting}
+use Rattle.sound_laws.specs.Tree.{Whole}
+use Rattle.search_laws.specs.Window.{wholeSite}
+use Rattle.search_laws.proofs.Site.{whole-site}
+use Rattle.in_force_laws.proofs.Call.{callBy-refused, callBy-served}
+use Rattle.map.specs.Asking.{Allowed}
+use Rattle.map.proofs.Calls.{once}
+use Rattle.demands.specs.Demands.{after, withRequests}
+use Rattle.demands.proofs.Demands.{first-whole, all-whole}
+use Rattle.demands.proofs.Unasked.{two-after}
+
+-- the turn of a search, by what is found: nothing else of it depends on the mode
+turnBy : Pool → ℕ → ℕ → Rect → List Record → Turn
+turnBy p filled room window fs =
+    elim (firstRow (row (not (valid window)) BadRectangle ∷ row (ltb room (length fs)) (NoRoom (length fs) (opened p window)) ∷ [])) [
+      | some reply ↦ turn p reply []
+      | none ↦ turn p (Listed (length fs) filled (opened p window)) fs
+    ]
+
+same-turn : (p : Pool) → Whole p → (filled room : ℕ)
+    → request ours p filled room (Search OnlyInside wholeSite) ≡ request ours p filled room (Search Meeting wholeSite)
+unfolding request searchFault turnBy
+same-turn p w filled room = ap (turnBy p filled room wholeSite) (whole-site p w)
+
+request-is : (x : Request) (a : Asked) → asked x ≡ some a → isRequest x ≡ true
+unfolding isRequest
+request-is x a e = rw (e, isRequest)
+
+same-every : (q s : Request) → isRequest q ≡ true → isRequest s ≡ true → (done rest : List Request)
+    → every isRequest (done ++ q ∷ rest) ≡ every isRequest (done ++ s ∷ rest)
+unfolding every
+same-every q s a b [] rest = rw (a, b)
+same-every q s a b (x ∷ done) rest = ap (λ (t : Bool). isRequest x && t) (same-every q s a b done rest)
+
+-- what `call` gives is allowed
+itself : (l : Lent) → Allowed l (call l)
+itself l = record { number = refl; pool = refl; workspace = refl; answers = refl; found = refl }
+
+module _ (l : Lent) (done : List Request) (q s : Request) (rest : List Request) (all : l .requests ≡ done ++ q ∷ rest)
+    (inside : asked q ≡ some (Search OnlyInside wholeSite)) (meeting : asked s ≡ some (Search Meeting wholeSite)) where
+  abbrev other : Lent
+  other = withRequests l (done ++ s ∷ rest) (l .answers)
+
+  -- what refuses the call, by how many requests there are and whether all of them are some
+  refusedBy : ℕ → Bool → Option Verdict
+  refusedBy n are =
+      firstRow (
+      row (ltb mostRequests n || not (eqb (length (l .answers)) n)) BadLists
+      ∷ row (not (validLength (l .pool)) || not (eqb (length (l .workspace)) (length (l .pool)))) BadLength
+      ∷ row (not (sound (l .pool))) NotSound
+      ∷ row (not are) NoRequest
+      ∷ [])
+
+  same-fault : callFault l ≡ callFault other
+  unfolding callFault refusedBy
+  same-fault = ap₂ refusedBy many are
+    where
+      many : length (l .requests) ≡ length (done ++ s ∷ rest)
+      many = ap length all ∙ length-append done (q ∷ rest) ∙ sym (length-append done (s ∷ rest))
+
+      are : every isRequest (l .requests) ≡ every isRequest (done ++ s ∷ rest)
+      are = ap (every isRequest) all ∙ same-every q s (request-is q _ inside) (request-is s _ meeting) done rest
+
+  module _ (fine : callFault l ≡ none) where
+    abbrev so-far : Batch
+    so-far = after l done
+
+    same-step : doRequest ours (length done) so-far (asked q) ≡ doRequest ours (length done) so-far (asked s)
+    unfolding doRequest
+    same-step =
+        rw (inside, meeting)
+        (ap (afterTurn (length done) so-far) (same-turn (so-far .pool) (all-whole l 0 done (starting l) (first-whole l fine)) _ _))
+
+    same-batch : doRequests ours 0 (l .requests) (starting l) ≡ doRequests ours 0 (done ++ s ∷ rest) (starting l)
+    unfolding doRequests
+    same-batch =
+        ap (λ (qs : List Request). doRequests ours 0 qs (starting l)) all ∙ two-after l done (q ∷ rest)
+        ∙ ap (doRequests ours (suc (length done)) rest) same-step ∙ sym (two-after l done (s ∷ rest))
+
+  same-call : call l ≡ call other
+  unfolding call refused served starting
+  same-call = go (callFault l) refl
+    where
+      go : (o : Option Verdict) → callFault l ≡ o → call l ≡ call other
+      go (some v) h = callBy-refused ours l v h ∙ sym (callBy-refused ours other v (sym same-fault ∙ h))
+      go none h = callBy-served ours l h ∙ ap served (same-batch h) ∙ sym (callBy-served ours other (sym same-fault ∙ h))
+
+  -- whatever is lent, all that comes back is the same
+  pub planners-site : (o x : Left) → Allowed l o → Allowed other x → o ≡ x
+  planners-site o x k m = once l o (call l) k (itself l) ∙ same-call ∙ once other (call other) x (itself other) m
