@@ -2,6 +2,7 @@
 
 use crate::events::{Events, Trace};
 use crate::geometry::Rect;
+use crate::mode::Mode;
 use crate::pool::{slots_of, Map, Pair, RecordNumber};
 use crate::sound::sound;
 use crate::tree::NoSlotFree;
@@ -9,13 +10,16 @@ use crate::tree::NoSlotFree;
 pub const INSERT: i32 = 1;
 pub const DELETE: i32 = 2;
 pub const UPDATE: i32 = 3;
+/// "kind 4 keeps meeting; kinds 5 and 6 .. are inside and enclosing"
 pub const SEARCH: i32 = 4;
+pub const INSIDE: i32 = 5;
+pub const ENCLOSING: i32 = 6;
 
 /// "A batch has 0 to 1,024 requests."
 pub const MOST_REQUESTS: usize = 1_024;
 
-/// What `call` returns for a request of none of the four kinds. The document gives no number
-/// for it ("A request is of one of the four kinds"); nothing is written.
+/// What `call` returns for a request of none of the six kinds. The documents give no number for
+/// it ("A request is of one of the four kinds", and Req 01 adds two); nothing is written.
 pub const NO_SUCH_KIND: i32 = -1;
 
 /// Ten words: the kind, the record number, the rectangle inserted, deleted, to be replaced, or
@@ -43,6 +47,21 @@ impl Request {
 
     pub fn search(window: [i32; 4]) -> Request {
         Request { kind: SEARCH, number: 0, first: window, second: [0; 4] }
+    }
+
+    /// A search for the records that lie in the window.
+    pub fn inside(window: [i32; 4]) -> Request {
+        Request { kind: INSIDE, ..Request::search(window) }
+    }
+
+    /// A search for the records that hold the window.
+    pub fn enclosing(window: [i32; 4]) -> Request {
+        Request { kind: ENCLOSING, ..Request::search(window) }
+    }
+
+    /// Whether it is a search, of any mode.
+    pub fn is_search(&self) -> bool {
+        (SEARCH..=ENCLOSING).contains(&self.kind)
     }
 
     pub fn from_words(words: [i32; 10]) -> Request {
@@ -150,7 +169,7 @@ fn call_refused(
     if !sound(pool) {
         return Some(2);
     }
-    let known = |request: &Request| (INSERT..=SEARCH).contains(&request.kind);
+    let known = |request: &Request| (INSERT..=ENCLOSING).contains(&request.kind);
     (!requests.iter().all(known)).then_some(NO_SUCH_KIND)
 }
 
@@ -168,7 +187,10 @@ impl Batch<'_> {
             INSERT => self.insert(request),
             DELETE => self.delete(request),
             UPDATE => self.update(request),
-            _ => self.search(request),
+            SEARCH => self.search(request, Mode::Meeting),
+            INSIDE => self.search(request, Mode::Inside),
+            ENCLOSING => self.search(request, Mode::Enclosing),
+            _ => unreachable!("the kinds were looked at before"),
         }
     }
 
@@ -241,17 +263,19 @@ impl Batch<'_> {
         }
     }
 
-    /// Checks 3, 8. "8 reports found and opened as they would have been, start zero."
-    fn search(&mut self, request: &Request) -> Answer {
+    /// Checks 3, 8, the same in every mode ("Refusals: none new"). "8 reports found and opened as
+    /// they would have been, start zero."
+    fn search(&mut self, request: &Request, mode: Mode) -> Answer {
         let window = Rect::from_words(request.first);
         if !window.valid() {
             return Answer::plain(3);
         }
-        let finding = self.map.search(&window);
+        let finding = self.map.search(&window, mode);
         let (count, opened) = (finding.pairs.len(), finding.opened as i32);
         if count > self.found.len() - self.filled {
             return Answer { number: 8, found: count as i32, start: 0, opened };
         }
+        self.events.note_search(mode, &window, &finding.sight);
         let start = self.filled;
         for (place, pair) in self.found[start..].iter_mut().zip(&finding.pairs) {
             *place = Found::of(pair);

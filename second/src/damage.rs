@@ -1,16 +1,15 @@
 //! Sound pools with one or two words changed, to try the check for 2.
 
-use crate::call::Request;
 use crate::dice::Dice;
-use crate::generate::history;
+use crate::generate::{history, SEARCHES};
 use crate::pool::{slot_start, slots_of, Slot, ENTRY_WORDS, HEAD_WORDS};
 use crate::script::{pool_line, request_line};
 use crate::style::{whole_site, STYLES};
 
-/// A damaged pool and a search of the whole site, as a script.
+/// A damaged pool and a search of the whole site in one of the modes, as a script.
 pub fn script(seed: u64, slots: usize) -> String {
     let pool = damaged_pool(seed, slots);
-    let search = Request::search(whole_site().to_words());
+    let search = Dice::new(seed.wrapping_add(1)).pick(&SEARCHES)(whole_site().to_words());
     format!(
         "# damaged pool, seed {seed}\n{}\nwork same\nfound {}\n{}\n",
         pool_line(&pool),

@@ -1,6 +1,8 @@
 //! The program `dustmap`: frames in, lines out.
 
-use crate::call::{call, Answer, Found, Request, DELETE, INSERT, SEARCH, UPDATE};
+use crate::call::{
+    call, Answer, Found, Request, DELETE, ENCLOSING, INSERT, INSIDE, SEARCH, UPDATE,
+};
 use crate::pool::{blank, HEAD_WORDS, SLOT_WORDS};
 
 /// "a 128-slot pool (5,384 words)"
@@ -55,7 +57,7 @@ impl Station {
         assert_eq!(result, 0, "the pool is sound");
         let Answer { number, found, opened, .. } = answers[0];
         output.push_str(&format!("{place} {number} {found} {opened}\n"));
-        if request.kind == SEARCH && number == 0 {
+        if request.is_search() && number == 0 {
             for record in &self.found[..found as usize] {
                 let Found { number, low_x, low_y, high_x, high_y } = record;
                 output.push_str(&format!("{number} {low_x} {low_y} {high_x} {high_y}\n"));
@@ -78,7 +80,7 @@ fn next_frame(rest: &mut &[u8]) -> Result<Request, BadFrame> {
 }
 
 /// "Kind 1 insert and 2 delete: number, rectangle (length 22). 3 update: number, old, new (38).
-/// 4 search: window (18)."
+/// 4 search: window (18)." And "kinds 5 and 6, of the same layout, are inside and enclosing".
 fn request_of(kind: i32, length: usize, body: &[u8]) -> Result<Request, BadFrame> {
     match (kind, length) {
         (INSERT | DELETE, 22) => {
@@ -89,7 +91,9 @@ fn request_of(kind: i32, length: usize, body: &[u8]) -> Result<Request, BadFrame
             let w = words_of(body);
             Ok(Request { kind, number: w[0], first: four(&w[1..5]), second: four(&w[5..9]) })
         }
-        (SEARCH, 18) => Ok(Request::search(four(&words_of(body)))),
+        (SEARCH | INSIDE | ENCLOSING, 18) => {
+            Ok(Request { kind, ..Request::search(four(&words_of(body))) })
+        }
         _ => Err(BadFrame),
     }
 }

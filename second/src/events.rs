@@ -2,6 +2,9 @@
 
 use std::collections::BTreeSet;
 
+use crate::geometry::{compare, Comparison, Rect};
+use crate::mode::Mode;
+
 /// What one request did to the tree. Levels are counted from the leaves, leaf 1.
 #[derive(Clone, Debug, Default)]
 pub struct Trace {
@@ -11,6 +14,14 @@ pub struct Trace {
     pub levels_condensed: BTreeSet<i64>,
     pub split_by_entry_set_aside: bool,
     pub root_shortened: bool,
+}
+
+/// What one search met: the covers of the children that it opened, and the rectangles of all
+/// records that meet the window, listed by the mode or not.
+#[derive(Clone, Debug, Default)]
+pub struct Sight {
+    pub covers: Vec<Rect>,
+    pub records: Vec<Rect>,
 }
 
 /// Counters over all requests of a call. All but the refusals count accepted requests alone.
@@ -33,6 +44,24 @@ pub struct Events {
     pub refused_7_insert: u64,
     pub refused_7_delete: u64,
     pub refused_7_update: u64,
+    /// Records listed by inside, and not equal to the window.
+    pub inside_found: u64,
+    /// Records listed by enclosing, and not equal to the window.
+    pub enclosing_found: u64,
+    /// Records equal to the window, listed in each of the modes.
+    pub equal_found_meeting: u64,
+    pub equal_found_inside: u64,
+    pub equal_found_enclosing: u64,
+    /// Of `inside_found` and `enclosing_found`, the records that share a side with the window.
+    pub inside_touching: u64,
+    pub enclosing_touching: u64,
+    /// Records that meet the window, and that inside or enclosing does not list.
+    pub inside_passed_over: u64,
+    pub enclosing_passed_over: u64,
+    /// Children opened by inside whose cover is not inside the window, and by enclosing whose cover
+    /// does not enclose it: what a search would lose that asked the mode of covers too.
+    pub inside_opened_not_inside: u64,
+    pub enclosing_opened_not_enclosing: u64,
 }
 
 impl Events {
@@ -47,8 +76,42 @@ impl Events {
         self.root_shortened += u64::from(trace.root_shortened);
     }
 
+    /// Takes in what an accepted search met.
+    pub fn note_search(&mut self, mode: Mode, window: &Rect, sight: &Sight) {
+        for record in &sight.records {
+            self.note_record(mode, window, record);
+        }
+        let not_of_the_mode = |cover: &&Rect| !mode.lists(compare(cover, window));
+        let count = sight.covers.iter().filter(not_of_the_mode).count() as u64;
+        match mode {
+            Mode::Meeting => (),
+            Mode::Inside => self.inside_opened_not_inside += count,
+            Mode::Enclosing => self.enclosing_opened_not_enclosing += count,
+        }
+    }
+
+    fn note_record(&mut self, mode: Mode, window: &Rect, record: &Rect) {
+        let touching = u64::from(shares_a_side(record, window));
+        match (mode, compare(record, window)) {
+            (Mode::Meeting, Comparison::Equal) => self.equal_found_meeting += 1,
+            (Mode::Inside, Comparison::Equal) => self.equal_found_inside += 1,
+            (Mode::Enclosing, Comparison::Equal) => self.equal_found_enclosing += 1,
+            (Mode::Inside, Comparison::Inside) => {
+                self.inside_found += 1;
+                self.inside_touching += touching;
+            }
+            (Mode::Enclosing, Comparison::Enclosing) => {
+                self.enclosing_found += 1;
+                self.enclosing_touching += touching;
+            }
+            (Mode::Meeting, _) => (),
+            (Mode::Inside, _) => self.inside_passed_over += 1,
+            (Mode::Enclosing, _) => self.enclosing_passed_over += 1,
+        }
+    }
+
     /// Each counter with its name, in a fixed order.
-    pub fn named(&self) -> [(&'static str, u64); 10] {
+    pub fn named(&self) -> [(&'static str, u64); 21] {
         [
             ("node_split", self.node_split),
             ("split_two_levels", self.split_two_levels),
@@ -60,6 +123,17 @@ impl Events {
             ("refused_7_insert", self.refused_7_insert),
             ("refused_7_delete", self.refused_7_delete),
             ("refused_7_update", self.refused_7_update),
+            ("inside_found", self.inside_found),
+            ("enclosing_found", self.enclosing_found),
+            ("equal_found_meeting", self.equal_found_meeting),
+            ("equal_found_inside", self.equal_found_inside),
+            ("equal_found_enclosing", self.equal_found_enclosing),
+            ("inside_touching", self.inside_touching),
+            ("enclosing_touching", self.enclosing_touching),
+            ("inside_passed_over", self.inside_passed_over),
+            ("enclosing_passed_over", self.enclosing_passed_over),
+            ("inside_opened_not_inside", self.inside_opened_not_inside),
+            ("enclosing_opened_not_enclosing", self.enclosing_opened_not_enclosing),
         ]
     }
 
@@ -75,6 +149,17 @@ impl Events {
         self.refused_7_insert += other.refused_7_insert;
         self.refused_7_delete += other.refused_7_delete;
         self.refused_7_update += other.refused_7_update;
+        self.inside_found += other.inside_found;
+        self.enclosing_found += other.enclosing_found;
+        self.equal_found_meeting += other.equal_found_meeting;
+        self.equal_found_inside += other.equal_found_inside;
+        self.equal_found_enclosing += other.equal_found_enclosing;
+        self.inside_touching += other.inside_touching;
+        self.enclosing_touching += other.enclosing_touching;
+        self.inside_passed_over += other.inside_passed_over;
+        self.enclosing_passed_over += other.enclosing_passed_over;
+        self.inside_opened_not_inside += other.inside_opened_not_inside;
+        self.enclosing_opened_not_enclosing += other.enclosing_opened_not_enclosing;
     }
 
     /// `events name=value name=value ..`
@@ -83,4 +168,9 @@ impl Events {
             self.named().iter().map(|(name, value)| format!("{name}={value}")).collect();
         format!("events {}", fields.join(" "))
     }
+}
+
+/// Whether a side of the one is the same side of the other: low x with low x, and so on.
+fn shares_a_side(a: &Rect, b: &Rect) -> bool {
+    a.low_x == b.low_x || a.low_y == b.low_y || a.high_x == b.high_x || a.high_y == b.high_y
 }

@@ -1,11 +1,17 @@
-//! Histories drawn from a seed: a mix of the four kinds, with some refusals.
+//! Histories drawn from a seed: a mix of the six kinds, with some refusals.
 
 use crate::call::{call, Answer, Found, Request, DELETE, INSERT, UPDATE};
 use crate::dice::Dice;
-use crate::geometry::{Rect, COORDINATE_LIMIT};
+use crate::geometry::{joint_cover, Rect, COORDINATE_LIMIT};
 use crate::pool::{Pair, RecordNumber};
 use crate::script::{blank_pool, request_line};
-use crate::style::Style;
+use crate::style::{whole_site, window_one_off, window_within, Style};
+
+/// A search of a window.
+type Search = fn([i32; 4]) -> Request;
+
+/// "A search carries one of three modes": meeting, inside, enclosing.
+pub const SEARCHES: [Search; 3] = [Request::search, Request::inside, Request::enclosing];
 
 /// Draws requests one after another and keeps the pairs in force, so that most deletes find their pair.
 pub struct Generator {
@@ -131,19 +137,39 @@ impl Generator {
     }
 
     fn search(&mut self, fault: bool) -> Request {
-        let window = if self.dice.chance(30) && !self.in_force.is_empty() {
-            let place = self.dice.below(self.in_force.len() as u64) as usize;
-            self.in_force[place].rect
-        } else {
-            self.style.window(&mut self.dice)
-        };
-        let mut request = Request::search(window.to_words());
+        let window = self.window();
+        let mut request = self.dice.pick(&SEARCHES)(window.to_words());
         // A search has no number: this field is not looked at.
         request.number = self.dice.pick(&[0, -1, 5]);
         if fault {
             request.first = self.bad_rect(request.first);
         }
         request
+    }
+
+    /// Mostly a window made from rectangles in force, so that inside and enclosing often find
+    /// something: one of them, one of them but for a side, one that lies in one of them, or one
+    /// that holds several. Else the whole site, or a window of the style.
+    fn window(&mut self) -> Rect {
+        if self.in_force.is_empty() {
+            return self.style.window(&mut self.dice);
+        }
+        let rect = self.dice.pick(&self.in_force).rect;
+        match self.dice.weighted(&[20, 15, 15, 15, 5, 30]) {
+            0 => rect,
+            1 => window_one_off(&rect, &mut self.dice),
+            2 => window_within(&rect, &mut self.dice),
+            3 => self.window_that_holds(rect),
+            4 => whole_site(),
+            _ => self.style.window(&mut self.dice),
+        }
+    }
+
+    /// The joint cover of a rectangle and one to three others in force: some of them share a side
+    /// with it, and others may lie deeper in it.
+    fn window_that_holds(&mut self, rect: Rect) -> Rect {
+        let more = self.dice.between(1, 3);
+        (0..more).fold(rect, |all, _| joint_cover(&all, &self.dice.pick(&self.in_force).rect))
     }
 
     /// A new pair; one time in five under the number of a pair in force.

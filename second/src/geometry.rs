@@ -48,6 +48,38 @@ pub fn meets(a: &Rect, b: &Rect) -> bool {
     a.low_x <= b.high_x && b.low_x <= a.high_x && a.low_y <= b.high_y && b.low_y <= a.high_y
 }
 
+/// Whether the first holds the second: on no side does the second reach beyond it. Sides may be
+/// shared.
+fn holds(a: &Rect, b: &Rect) -> bool {
+    a.low_x <= b.low_x && a.low_y <= b.low_y && b.high_x <= a.high_x && b.high_y <= a.high_y
+}
+
+/// "The comparison of two rectangles shall now say apart, inside, enclosing, equal or otherwise
+/// meeting" (document 02, Req 01). One of the five is said, so inside and enclosing leave equal
+/// out here; where equal counts as both, the one who asks says so.
+#[derive(Clone, Copy, Debug, PartialEq, Eq)]
+pub enum Comparison {
+    Apart,
+    Inside,
+    Enclosing,
+    Equal,
+    OtherwiseMeeting,
+}
+
+/// What the first of two valid rectangles is to the second: inside when it lies in the second,
+/// enclosing when it holds the second.
+pub fn compare(a: &Rect, b: &Rect) -> Comparison {
+    if !meets(a, b) {
+        return Comparison::Apart;
+    }
+    match (holds(b, a), holds(a, b)) {
+        (true, false) => Comparison::Inside,
+        (false, true) => Comparison::Enclosing,
+        (true, true) => Comparison::Equal,
+        (false, false) => Comparison::OtherwiseMeeting,
+    }
+}
+
 /// "Area is width times height."
 pub fn area(a: &Rect) -> i128 {
     i128::from(a.high_x - a.low_x) * i128::from(a.high_y - a.low_y)

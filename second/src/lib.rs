@@ -1,8 +1,8 @@
 //! A second, independent program for the dust map: an R-tree in a pool of 32-bit words.
 //!
-//! Written from the documents (01, and of 02 the surveyor's boxes) and Guttman's 1984 paper
-//! alone, plainly and without care for speed, so that others can be compared with it. Sentences
-//! in quotes are the documents'; names such as CL3 or CT6 are the paper's steps.
+//! Written from the documents (01, and of 02 the zones wholly inside and the surveyor's boxes) and
+//! Guttman's 1984 paper alone, plainly and without care for speed, so that others can be compared
+//! with it. Sentences in quotes are the documents'; names such as CL3 or CT6 are the paper's steps.
 
 #![forbid(unsafe_code)]
 
@@ -15,6 +15,7 @@ pub mod events;
 pub mod exact;
 pub mod generate;
 pub mod geometry;
+pub mod mode;
 pub mod pool;
 pub mod queries;
 pub mod script;
@@ -28,7 +29,10 @@ pub use call::{call, call_counting, Answer, Found, Request};
 pub use choose::{choose_child, pick_seeds, split_nine};
 pub use events::Events;
 pub use exact::Exact;
-pub use geometry::{area, cover, enlargement, joint_cover, meets, waste, Rect};
+pub use geometry::{
+    area, compare, cover, enlargement, joint_cover, meets, waste, Comparison, Rect,
+};
+pub use mode::Mode;
 pub use pool::{blank, pairs_in_leaves, Pair, RecordNumber, Slot};
 pub use sound::sound;
 pub use survey::{box_window, disc_window, point_window, Query};

@@ -1,6 +1,8 @@
 //! Text scripts: a pool and one batch, written as lines; and what comes of them.
 
-use crate::call::{call_counting, Answer, Found, Request, DELETE, INSERT, SEARCH, UPDATE};
+use crate::call::{
+    call_counting, Answer, Found, Request, DELETE, ENCLOSING, INSERT, INSIDE, SEARCH, UPDATE,
+};
 use crate::events::Events;
 use crate::pool::{blank, HEAD_WORDS, SLOT_WORDS};
 
@@ -50,6 +52,8 @@ fn request(name: &str, rest: &str) -> Result<Request, String> {
         "update" => exactly(&words)
             .map(|[n, a, b, c, d, e, f, g, h]| Request::update(n, [a, b, c, d], [e, f, g, h])),
         "search" => exactly(&words).map(Request::search),
+        "inside" => exactly(&words).map(Request::inside),
+        "enclosing" => exactly(&words).map(Request::enclosing),
         "request" => exactly(&words).map(Request::from_words),
         _ => Err(format!("unknown line {name}")),
     }
@@ -113,7 +117,7 @@ fn found_line(place: &Found) -> String {
 /// The places that accepted searches filled: the sum of what they found.
 fn places_filled(requests: &[Request], answers: &[Answer]) -> usize {
     let pairs = requests.iter().zip(answers);
-    pairs.filter(|(r, a)| r.kind == SEARCH && a.number == 0).map(|(_, a)| a.found as usize).sum()
+    pairs.filter(|(r, a)| r.is_search() && a.number == 0).map(|(_, a)| a.found as usize).sum()
 }
 
 /// `pool w0 w1 ..`
@@ -131,6 +135,8 @@ pub fn request_line(request: &Request) -> String {
         DELETE => format!("delete {number} {}", text(first)),
         UPDATE => format!("update {number} {} {}", text(first), text(second)),
         SEARCH => format!("search {}", text(first)),
+        INSIDE => format!("inside {}", text(first)),
+        ENCLOSING => format!("enclosing {}", text(first)),
         _ => format!("request {kind} {number} {} {}", text(first), text(second)),
     }
 }

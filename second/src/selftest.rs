@@ -3,7 +3,9 @@
 //! Nothing here uses the tree code but through `call`: what a request has to answer is read
 //! from the document again, over lists and over the pool's words.
 
-use crate::call::{call, call_counting, Answer, Found, Request, DELETE, INSERT, SEARCH, UPDATE};
+use crate::call::{
+    call, call_counting, Answer, Found, Request, DELETE, ENCLOSING, INSERT, INSIDE, UPDATE,
+};
 use crate::dice::Dice;
 use crate::events::Events;
 use crate::generate::{pair_of, Generator};
@@ -163,7 +165,7 @@ impl Trial {
         report.tallest = report.tallest.max(self.pool[2]);
         ensure(result == 0, "the call was refused")?;
         ensure(work == self.pool, "the workspace differs from the pool")?;
-        let outcome = if request.kind == SEARCH {
+        let outcome = if request.is_search() {
             self.check_search(&before, request, &answer, &found)?
         } else {
             ensure(found.iter().all(|f| *f == UNTOUCHED), "a change wrote the found list")?;
@@ -192,7 +194,7 @@ impl Trial {
         ensure(self.pool == before, "a search changed the pool")?;
         let mut outcome = Outcome { request, number: 0, list: Vec::new(), opened: 0 };
         if rectangle_in_order(request.first) {
-            outcome.list = brute_force(self.generator.in_force(), request.first);
+            outcome.list = brute_force(self.generator.in_force(), &request);
             outcome.opened = covers_met(before, request.first);
         } else {
             outcome.number = 3;
@@ -310,14 +312,11 @@ fn check_pool(pool: &[i32], in_force: &[Pair]) -> Result<(), String> {
     ensure(height == 1 || 2 * 3_usize.pow(height - 1) <= pairs.len(), "the tree is too tall")
 }
 
-/// The pairs in force that meet the window, in the document's order.
-fn brute_force(in_force: &[Pair], window: [i32; 4]) -> Vec<Found> {
-    let [low_x, low_y, high_x, high_y] = window.map(i64::from);
-    let misses =
-        |r: &Rect| r.high_x < low_x || high_x < r.low_x || r.high_y < low_y || high_y < r.low_y;
+/// The pairs in force that the search asks for, in the document's order.
+fn brute_force(in_force: &[Pair], search: &Request) -> Vec<Found> {
     let mut list: Vec<Found> = in_force
         .iter()
-        .filter(|pair| !misses(&pair.rect))
+        .filter(|pair| asked_for(&pair.rect, search))
         .map(|pair| {
             let [low_x, low_y, high_x, high_y] = pair.rect.to_words();
             Found { number: pair.number.0 as i32, low_x, low_y, high_x, high_y }
@@ -327,7 +326,20 @@ fn brute_force(in_force: &[Pair], window: [i32; 4]) -> Vec<Found> {
     list
 }
 
-/// The root, and every other node in use whose cover meets the window.
+/// Whether a record is asked for: "inside" where it lies in the window, "enclosing" where it holds
+/// the window, else where it does not miss the window. Told side by side, and not by the
+/// comparison that the search uses.
+fn asked_for(record: &Rect, search: &Request) -> bool {
+    let [low_x, low_y, high_x, high_y] = search.first.map(i64::from);
+    let Rect { low_x: left, low_y: bottom, high_x: right, high_y: top } = *record;
+    match search.kind {
+        INSIDE => !(left < low_x || right > high_x || bottom < low_y || top > high_y),
+        ENCLOSING => !(left > low_x || right < high_x || bottom > low_y || top < high_y),
+        _ => !(right < low_x || left > high_x || top < low_y || bottom > high_y),
+    }
+}
+
+/// The root, and every other node in use whose cover meets the window; whatever the mode.
 fn covers_met(pool: &[i32], window: [i32; 4]) -> i32 {
     let window = Rect::from_words(window);
     let slots = slots_of(pool.len()).expect("a pool of valid length");
@@ -371,7 +383,7 @@ fn check_as_one_batch(trial: &mut Trial, slots: usize) -> Result<(), String> {
 /// The answer due to a request after some places have been written. "Accepted searches fill the
 /// found list one after another, start being the number of places filled before".
 fn answer_due(outcome: &Outcome, written: &mut Vec<Found>, places: usize) -> Answer {
-    if outcome.request.kind != SEARCH || outcome.number != 0 {
+    if !outcome.request.is_search() || outcome.number != 0 {
         return plain(outcome.number);
     }
     let (found, opened) = (outcome.list.len(), outcome.opened);

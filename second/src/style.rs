@@ -77,6 +77,37 @@ pub fn whole_site() -> Rect {
     Rect::new(-limit, -limit, limit, limit)
 }
 
+/// A window that lies in a rectangle. On each axis a side is shared one time in two, or more.
+pub fn window_within(rect: &Rect, dice: &mut Dice) -> Rect {
+    let (low_x, high_x) = part(rect.low_x, rect.high_x, dice);
+    let (low_y, high_y) = part(rect.low_y, rect.high_y, dice);
+    Rect::new(low_x, low_y, high_x, high_y)
+}
+
+/// A part of the way from low to high, both included.
+fn part(low: i64, high: i64, dice: &mut Dice) -> (i64, i64) {
+    let (one, other) = (dice.between(low, high), dice.between(low, high));
+    match dice.below(4) {
+        0 => (low, one),
+        1 => (one, high),
+        _ => (one.min(other), one.max(other)),
+    }
+}
+
+/// A window that is a rectangle but for one side, a millimetre further in or out. Where that is not
+/// valid, the rectangle itself.
+pub fn window_one_off(rect: &Rect, dice: &mut Dice) -> Rect {
+    let mut sides = [rect.low_x, rect.low_y, rect.high_x, rect.high_y];
+    sides[dice.below(4) as usize] += dice.pick(&[-1, 1]);
+    let [low_x, low_y, high_x, high_y] = sides;
+    let moved = Rect::new(low_x, low_y, high_x, high_y);
+    if moved.valid() {
+        moved
+    } else {
+        *rect
+    }
+}
+
 fn sized(dice: &mut Dice, reach: i64, size: i64) -> Rect {
     let (x, y) = (dice.between(-reach, reach), dice.between(-reach, reach));
     Rect::new(x, y, x + dice.between(0, size), y + dice.between(0, size))

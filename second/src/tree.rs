@@ -3,7 +3,9 @@
 //! Guttman's steps are named beside the lines that render them.
 
 use crate::choose::{choose_child, split_nine, LEAST_ENTRIES, MOST_ENTRIES};
-use crate::geometry::{meets, Rect};
+use crate::events::Sight;
+use crate::geometry::{compare, Comparison, Rect};
+use crate::mode::Mode;
 use crate::pool::{Entry, Map, Node, Pair, Pointer, Slot};
 
 /// "the rules call for a slot at a moment when none is free"
@@ -23,36 +25,51 @@ struct SetAside {
     entry: Entry,
 }
 
-/// The records found by a search, in order, and the number of nodes opened.
+/// The records found by a search, in order, and the number of nodes opened. The sight notes what
+/// the search met on its way.
 pub struct Finding {
     pub pairs: Vec<Pair>,
     pub opened: i64,
+    pub sight: Sight,
 }
 
 impl Map {
     /// Whether the pair is held: a look at every leaf.
     pub fn held(&self, pair: &Pair) -> bool {
         let mut leaves = self.nodes().iter().filter(|node| node.is_leaf());
-        leaves.any(|leaf| leaf.entries.contains(&record_entry(pair)))
+        leaves.any(|leaf| leaf.entries.iter().any(|entry| is_pair(entry, pair)))
     }
 
     /// "Found records are ordered by record number, then low x, low y, high x, high y."
-    pub fn search(&self, window: &Rect) -> Finding {
-        let mut finding = Finding { pairs: Vec::new(), opened: 0 };
-        self.open(self.root, window, &mut finding);
+    pub fn search(&self, window: &Rect, mode: Mode) -> Finding {
+        let mut finding = Finding { pairs: Vec::new(), opened: 0, sight: Sight::default() };
+        self.open(self.root, window, mode, &mut finding);
         finding.pairs.sort();
         finding
     }
 
     /// Opens a node. "The root is always opened."
-    fn open(&self, slot: Slot, window: &Rect, finding: &mut Finding) {
+    fn open(&self, slot: Slot, window: &Rect, mode: Mode, finding: &mut Finding) {
         finding.opened += 1;
-        for entry in self.node(slot).entries.iter().filter(|e| meets(&e.rect, window)) {
+        for entry in &self.node(slot).entries {
+            let comparison = compare(&entry.rect, window);
+            if comparison == Comparison::Apart {
+                continue;
+            }
             match entry.pointer {
-                // S1: "opens every child whose entry rectangle meets the window"
-                Pointer::Child(child) => self.open(child, window, finding),
-                // S2: a qualifying record.
-                Pointer::Record(number) => finding.pairs.push(Pair { number, rect: entry.rect }),
+                // S1: "All modes open the nodes whose cover meets the window", so the mode is
+                // not asked here, also where it would leave a node out.
+                Pointer::Child(child) => {
+                    finding.sight.covers.push(entry.rect);
+                    self.open(child, window, mode, finding);
+                }
+                // S2: a record qualifies by the mode.
+                Pointer::Record(number) => {
+                    finding.sight.records.push(entry.rect);
+                    if mode.lists(comparison) {
+                        finding.pairs.push(Pair { number, rect: entry.rect });
+                    }
+                }
             }
         }
     }
@@ -93,9 +110,10 @@ impl Map {
             path.push(Step { node: slot, place: index + 1 });
             let found = match entry.pointer {
                 Pointer::Child(child) => {
-                    meets(&entry.rect, &pair.rect) && self.find_leaf(child, pair, path)
+                    compare(&entry.rect, &pair.rect) != Comparison::Apart
+                        && self.find_leaf(child, pair, path)
                 }
-                Pointer::Record(_) => *entry == record_entry(pair),
+                Pointer::Record(_) => is_pair(entry, pair),
             };
             if found {
                 return true;
@@ -243,6 +261,12 @@ impl Map {
     fn entry_for(&self, slot: Slot) -> Entry {
         Entry { rect: self.node(slot).cover(), pointer: Pointer::Child(slot) }
     }
+}
+
+/// Whether a leaf entry is of the pair: the same number, and a rectangle that compares equal.
+fn is_pair(entry: &Entry, pair: &Pair) -> bool {
+    entry.pointer == Pointer::Record(pair.number)
+        && compare(&entry.rect, &pair.rect) == Comparison::Equal
 }
 
 /// The leaf entry of a pair.

@@ -72,11 +72,11 @@ fn lengths_of_pools() {
 }
 
 #[test]
-fn a_kind_of_none_of_the_four() {
+fn a_kind_of_none_of_the_six() {
     let pool = blank_pool(1);
     let mut unsound = pool.clone();
     unsound[7] = 1;
-    for kind in [0, 5, -1, i32::MAX] {
+    for kind in [0, 7, -1, i32::MAX, i32::MIN] {
         let mut words = [0; 10];
         words[0] = kind;
         let requests = [Request::insert(7, R), Request::from_words(words)];
@@ -109,6 +109,8 @@ fn order_of_checks_in_a_request() {
         (Request::update(7, point(0), S), 5),
         (Request::update(7, R, S), 6),
         (Request::search(BAD), 3),
+        (Request::inside(BAD), 3),
+        (Request::enclosing(BAD), 3),
     ];
     for (request, due) in cases {
         let (answers, _) = batch(&mut pool, &[request]);
@@ -122,8 +124,9 @@ fn fields_not_used_are_not_looked_at() {
     let mut pool = blank_pool(1);
     let insert = Request { kind: 1, number: 7, first: R, second: BAD };
     let search = Request { kind: 4, number: -3, first: R, second: BAD };
+    let (inside, enclosing) = (Request { kind: 5, ..search }, Request { kind: 6, ..search });
     let delete = Request { kind: 2, number: 7, first: R, second: BAD };
-    for request in [insert, search, delete] {
+    for request in [insert, search, inside, enclosing, delete] {
         assert_eq!(number(&mut pool, request), 0);
     }
 }

@@ -71,14 +71,16 @@ fn odd_and_wrong_lengths() {
 
 #[test]
 fn a_length_right_for_another_kind() {
-    for (kind, words) in [(1, 4), (1, 9), (2, 4), (2, 9), (3, 5), (3, 4), (4, 5), (4, 9)] {
+    let searches = [(4, 5), (4, 9), (5, 5), (5, 9), (6, 5), (6, 9)];
+    let changes = [(1, 4), (1, 9), (2, 4), (2, 9), (3, 5), (3, 4)];
+    for (kind, words) in changes.into_iter().chain(searches) {
         assert_eq!(run(&frame(kind, &vec![1; words])), "bad frame 1\n", "{kind}, {words} words");
     }
 }
 
 #[test]
 fn unknown_kinds() {
-    for kind in [0, 5, 6, 255, 256, 257, 1_025, 65_535] {
+    for kind in [0, 7, 8, 255, 256, 257, 1_025, 65_535] {
         for words in [4, 5, 9] {
             assert_eq!(run(&frame(kind, &vec![1; words])), "bad frame 1\n", "kind {kind}");
         }

@@ -28,7 +28,7 @@ fn refused_calls() {
     assert_eq!(first_lines(&format!("blank 0\n{request}"), 1), ["result 1"]);
     assert_eq!(first_lines(&format!("blank 1\nwork 49\n{request}"), 1), ["result 1"]);
     assert_eq!(first_lines(&format!("blank 1\nanswers 2\n{request}"), 1), ["result 9"]);
-    assert_eq!(first_lines("blank 1\nrequest 5 0 0 0 0 0 0 0 0 0\n", 1), ["result -1"]);
+    assert_eq!(first_lines("blank 1\nrequest 7 0 0 0 0 0 0 0 0 0\n", 1), ["result -1"]);
     let zeros = vec!["0"; 50].join(" ");
     assert_eq!(first_lines(&format!("pool {zeros}\n{request}"), 1), ["result 2"]);
 }
@@ -36,6 +36,9 @@ fn refused_calls() {
 #[test]
 fn lines_that_cannot_be_read() {
     for text in ["insert 1 2 3 4", "search 0 0 0 x", "blank", "turn 5", "pool 1 2147483648"] {
+        assert!(parse(text).is_err(), "{text}");
+    }
+    for text in ["inside 0 0 1", "inside 7 0 0 1 1", "enclosing", "enclosing 0 0 1 y"] {
         assert!(parse(text).is_err(), "{text}");
     }
 }
@@ -86,6 +89,7 @@ fn the_examples_kept() {
             include_str!("../examples/update-refused-7.out"),
         ),
         (include_str!("../examples/mixed.script"), include_str!("../examples/mixed.out")),
+        (include_str!("../examples/modes.script"), include_str!("../examples/modes.out")),
     ];
     for (script, due) in kept {
         assert_eq!(output(script), due);

@@ -25,9 +25,14 @@ pub fn number(pool: &mut [i32], request: Request) -> i32 {
     batch(pool, &[request]).0[0].number
 }
 
-/// Does one search: the record numbers found and the nodes opened.
+/// Does one search for the records that meet the window: their numbers and the nodes opened.
 pub fn search(pool: &mut [i32], window: [i32; 4]) -> (Vec<i32>, i32) {
-    let (answers, found) = batch(pool, &[Request::search(window)]);
+    found_by(pool, Request::search(window))
+}
+
+/// Does one search of any mode: the record numbers found and the nodes opened.
+pub fn found_by(pool: &mut [i32], request: Request) -> (Vec<i32>, i32) {
+    let (answers, found) = batch(pool, &[request]);
     assert_eq!(answers[0].number, 0);
     let numbers = found[..answers[0].found as usize].iter().map(|f| f.number).collect();
     (numbers, answers[0].opened)
