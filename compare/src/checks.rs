@@ -75,11 +75,17 @@ fn pools_of(slots: usize, count: usize, dice: &mut Dice) -> Vec<(&'static str, V
     pools
 }
 
-/// An insert and a search over a pool that may be anything; where it is not sound, nothing may be written.
+/// An insert, and a search of each mode, over a pool that may be anything; where it is not sound, nothing may be written.
 fn call_over(what: &str, pool: Vec<i32>, dice: &mut Dice, tally: &mut Tally, seen: &mut Seen) {
-    let requests = vec![Request::insert(9, [1, 2, 3, 4]), Request::search(whole_site().to_words())];
+    let everything = whole_site().to_words();
+    let requests = vec![
+        Request::insert(9, [1, 2, 3, 4]),
+        Request::search(everything),
+        Request::inside(everything),
+        Request::enclosing([2, 3, 2, 3]),
+    ];
     let work = garbage_words(dice, pool.len());
-    let answers = vec![Answer { number: -5, found: -6, start: -7, opened: -8 }; 2];
+    let answers = vec![Answer { number: -5, found: -6, start: -7, opened: -8 }; requests.len()];
     let found = vec![Found { number: -9, ..Found::default() }; 100];
     lend(
         &format!("a call, {what} pool"),

@@ -8,7 +8,7 @@ use crate::tally::Tally;
 use dustmap::{Answer, Found, Rect, Request};
 use second::dice::Dice;
 use second::pool::{pairs_in_leaves, slot_start, Slot};
-use second::style::{whole_site, Style};
+use second::style::{whole_site, window_within, Style};
 use std::time::Instant;
 
 const SLOTS: usize = 4_096;
@@ -43,62 +43,82 @@ fn insert(dice: &mut Dice) -> Request {
     Request::insert(number, Rect::from_words(Style::Random.rect(dice).to_words()))
 }
 
-/// Batches with requests of every kind over the full pool, made to both programs.
+/// Batches with requests of every kind over the full pool, made to both programs. There is room for two searches that find everything, and a
+/// little more.
 pub fn calls(full: &[i32], dice: &mut Dice, tally: &mut Tally, seen: &mut Seen) {
+    use second::Request; // and not the library's
     let pairs = pairs_in_leaves(full);
-    let mut requests = vec![second::Request::search(whole_site().to_words())];
+    let everything = whole_site().to_words();
+    let mut requests = vec![Request::search(everything), Request::inside(everything)];
     for _ in 0..12 {
         let pair = dice.pick(&pairs);
         let (number, rect) = (pair.number.0 as i32, pair.rect.to_words());
+        let part = window_within(&dice.pick(&pairs).rect, dice).to_words();
         let mut fresh = || Style::Random.rect(dice).to_words();
         requests.extend([
-            second::Request::insert(number, fresh()),
-            second::Request::update(number, rect, fresh()),
-            second::Request::delete(number, rect),
-            second::Request::search(fresh()),
+            Request::insert(number, fresh()),
+            Request::enclosing(rect),
+            Request::update(number, rect, fresh()),
+            Request::delete(number, rect),
+            Request::search(fresh()),
+            Request::inside(fresh()),
+            Request::enclosing(part),
         ]);
     }
     let lent = Lent {
         pool: full.to_vec(),
         work: garbage_words(dice, full.len()),
         answers: garbage_answers(dice, requests.len()),
-        found: garbage_found(dice, pairs.len() + 10),
+        found: garbage_found(dice, 2 * pairs.len() + 60),
         requests,
     };
     lend("the largest pool, full", &lent, tally, seen);
 }
 
-/// Prints how a search for everything compares with one sort of what it finds, starting from the order in which a walk meets it.
+/// Prints how a search for everything compares with one sort of what it finds, starting from the order in which a walk meets it. Inside the
+/// whole site lies everything that meets it.
 pub fn time(full: &[i32], tally: &mut Tally) {
     if !second::sound(full) {
         // That was reported when it was filled, and a walk over it might not end.
         return;
     }
-    let mut pool = full.to_vec();
-    let everything = Request::search(Rect::from_words(whole_site().to_words()));
     let mut unsorted = Vec::new();
-    walk(&pool, pool[1] as usize, &mut unsorted);
+    walk(full, full[1] as usize, &mut unsorted);
+    let everything = Rect::from_words(whole_site().to_words());
+    time_search("search", Request::search(everything), full, &unsorted, tally);
+    time_search("search inside", Request::search_inside(everything), full, &unsorted, tally);
+    if !cfg!(target_arch = "x86_64") {
+        println!("left out on this processor: that these are at most {MOST_SORTS} times, since the search runs under an emulator and the sort does not");
+    }
+}
+
+fn time_search(
+    name: &str,
+    everything: Request,
+    full: &[i32],
+    unsorted: &[Found],
+    tally: &mut Tally,
+) {
+    let mut pool = full.to_vec();
     let (mut found, mut sorted) = (vec![Found::default(); unsorted.len()], Vec::new());
     let (mut search, mut nothing, mut sort) = (f64::INFINITY, f64::INFINITY, f64::INFINITY);
     // The least of many, since anything else that runs at the time can only add. They take turns, so that it adds to all three.
     for _ in 0..40 {
         search = search.min(call(&mut pool, &[everything], &mut found));
         nothing = nothing.min(call(&mut pool, &[], &mut []));
-        sort = sort.min(sorted_copy(&unsorted, &mut sorted));
+        sort = sort.min(sorted_copy(unsorted, &mut sorted));
     }
     let ratio = (search - nothing) / sort;
-    println!("a search that finds {} records: {search:.0} us", found.len());
+    println!("a {name} that finds {} records: {search:.0} us", found.len());
     println!("  a call with no request: {nothing:.0} us; the sort of Rust's library: {sort:.0} us");
     println!(
         "  the search, less a call with no request, takes {ratio:.1} times as long as the sort"
     );
-    tally.hold(found == sorted, || "the search for everything: not what a sort gives".into());
+    tally.hold(found == sorted, || format!("the {name} for everything: not what a sort gives"));
     if cfg!(target_arch = "x86_64") {
         tally.hold(ratio <= MOST_SORTS, || {
-            format!("the search for everything: more than {MOST_SORTS} times as long as a sort")
+            format!("the {name} for everything: more than {MOST_SORTS} times as long as a sort")
         });
-    } else {
-        println!("left out on this processor: that this is at most {MOST_SORTS} times, since the search runs under an emulator and the sort does not");
     }
 }
 

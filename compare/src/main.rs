@@ -8,6 +8,7 @@ mod detached;
 mod histories;
 mod largest;
 mod lent;
+mod modes;
 mod pools;
 mod scripts;
 mod seen;
@@ -34,6 +35,7 @@ fn main() {
     for round in 0..rounds {
         checks::pools(&mut dice, &mut tally, &mut seen);
         histories::all(seed.wrapping_add(round << 20), &mut tally, &mut seen);
+        modes::all(&mut dice, &mut tally, &mut seen);
         twice::all(&mut dice, &mut tally, &mut seen);
         sizes::all(&mut dice, &mut tally, &mut seen);
         survey::all(seed.wrapping_add(round), &mut tally, &mut seen);

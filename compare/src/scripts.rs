@@ -7,9 +7,10 @@ use crate::tally::Tally;
 use second::script::parse;
 use second::{Answer, Found};
 
-const SCRIPTS: [(&str, &str); 6] = [
+const SCRIPTS: [(&str, &str); 7] = [
     ("delete-refused-7", include_str!("../../second/examples/delete-refused-7.script")),
     ("mixed", include_str!("../../second/examples/mixed.script")),
+    ("modes", include_str!("../../second/examples/modes.script")),
     ("two-levels", include_str!("../../second/examples/two-levels.script")),
     ("two-levels-pool", include_str!("../../second/examples/two-levels-pool.script")),
     ("two-levels-split", include_str!("../../second/examples/two-levels-split.script")),

@@ -3,16 +3,18 @@
 use crate::lent::Lent;
 use crate::survey_met::Met;
 use crate::tally::Tally;
-use second::call::{DELETE, INSERT, MOST_REQUESTS, SEARCH, UPDATE};
+use second::call::{
+    DELETE, ENCLOSING, INSERT, INSIDE, MOST_REQUESTS, NO_SUCH_KIND, SEARCH, UPDATE,
+};
 use second::pool::slots_of;
 use second::{sound, Answer, Events, Request};
 use std::collections::BTreeMap;
 
 /// The rows of the table that refuse a call, in the order of checks.
-const CALL_REFUSALS: [i32; 4] = [9, 1, 2, -1];
+const CALL_REFUSALS: [i32; 4] = [9, 1, 2, NO_SUCH_KIND];
 
 /// Everything that has to be met, by name.
-const WANTED: [&str; 73] = [
+const WANTED: [&str; 97] = [
     "check said 0",
     "check said 1",
     "check said 2",
@@ -27,6 +29,8 @@ const WANTED: [&str; 73] = [
     "1 where 2 was due too",
     "1 where -1 was due too",
     "2 where -1 was due too",
+    "-1 for kind 0",
+    "-1 for kind 7",
     "batch of 0",
     "batch of 1",
     "batch of a few",
@@ -37,6 +41,7 @@ const WANTED: [&str; 73] = [
     "found list filled to its last place",
     "found list with places beyond",
     "found list filled by several searches",
+    "found list filled by searches of all modes",
     "search accepted after one refused 8",
     "workspace unlike the pool",
     "insert 0",
@@ -59,17 +64,29 @@ const WANTED: [&str; 73] = [
     "search 0",
     "search 3",
     "search 8",
+    "search inside 0",
+    "search inside 3",
+    "search inside 8",
+    "search enclosing 0",
+    "search enclosing 3",
+    "search enclosing 8",
     "pool of 1 slot",
     "pool of 2 to 12 slots",
     "pool of 128 slots",
     "pool of 4,096 slots",
-    "pair held twice: found",
+    "pair held twice: found by search",
+    "pair held twice: found by search inside",
+    "pair held twice: found by search enclosing",
     "pair held twice: one deleted",
     "pair held twice: one updated",
     "pair held twice: insert 6",
     "pair held twice: update 6",
     "search by a survey window found records",
     "search by a survey window found nothing",
+    "search inside by a survey window found records",
+    "search inside by a survey window found nothing",
+    "search enclosing by a survey window found records",
+    "search enclosing by a survey window found nothing",
     "pool: a detached leaf",
     "pool: a detached tree",
     "pool: a node that is its own child",
@@ -86,6 +103,15 @@ const WANTED: [&str; 73] = [
     "every size found, numbers falling",
     "every size found, numbers close together, far from 1",
     "every size found, one number in ten far from the others",
+    "every size found inside, numbers from 1 to 3",
+    "every size found inside, all numbers equal",
+    "every size found inside, any numbers",
+    "every size found inside, numbers falling",
+    "every size found inside, numbers close together, far from 1",
+    "every size found inside, one number in ten far from the others",
+    "every size found inside, one record in the other",
+    "every size found enclosing, one record in the other",
+    "every way for a record to lie to a window",
 ];
 
 #[derive(Default)]
@@ -107,6 +133,7 @@ impl Seen {
         self.events.add(events);
         self.note(format!("call returned {number}"));
         self.order_of_checks(lent, number);
+        self.unknown_kinds(lent, number);
         self.batch(lent.requests.len(), number);
         if number != 0 {
             return;
@@ -126,6 +153,15 @@ impl Seen {
         };
         for &later in CALL_REFUSALS[place + 1..].iter().filter(|&&n| due(n, lent)) {
             self.note(format!("{number} where {later} was due too"));
+        }
+    }
+
+    /// The kinds next to the known ones, where nothing but a kind was wrong.
+    fn unknown_kinds(&mut self, lent: &Lent, number: i32) {
+        for kind in [INSERT - 1, ENCLOSING + 1] {
+            if number == NO_SUCH_KIND && lent.requests.iter().any(|r| r.kind == kind) {
+                self.note(format!("{number} for kind {kind}"));
+            }
         }
     }
 
@@ -155,35 +191,32 @@ impl Seen {
             _ => (),
         }
         let pairs = lent.requests.iter().zip(&left.answers);
-        let searches: Vec<Answer> =
-            pairs.filter(|(r, _)| r.kind == SEARCH).map(|(_, a)| *a).collect();
+        let searches: Vec<(i32, Answer)> =
+            pairs.filter(|(r, _)| r.is_search()).map(|(r, a)| (r.kind, *a)).collect();
         self.found_list(lent.found.len(), &searches);
     }
 
-    /// How the searches of an accepted call used the found list.
-    fn found_list(&mut self, places: usize, searches: &[Answer]) {
-        let fills = |a: &&Answer| a.number == 0 && a.found > 0;
+    /// How the searches of an accepted call, each by its kind, used the found list.
+    fn found_list(&mut self, places: usize, searches: &[(i32, Answer)]) {
+        let fills = |(_, a): &&(i32, Answer)| a.number == 0 && a.found > 0;
         let filling = searches.iter().filter(fills).count();
-        let filled: usize = searches.iter().filter(fills).map(|a| a.found as usize).sum();
-        let mut from_refused = searches.iter().skip_while(|a| a.number != 8);
+        let filled: usize = searches.iter().filter(fills).map(|(_, a)| a.found as usize).sum();
+        let by_kind = |kind| searches.iter().filter(fills).any(|&(k, _)| k == kind);
+        let all_modes = [SEARCH, INSIDE, ENCLOSING].into_iter().all(by_kind);
+        let mut from_refused = searches.iter().skip_while(|(_, a)| a.number != 8);
         let used = [
             ("found list of no places", places == 0),
             ("found list filled to its last place", filled > 0 && filled == places),
             ("found list with places beyond", filled > 0 && filled < places),
             ("found list filled by several searches", filling > 1),
-            ("search accepted after one refused 8", from_refused.any(|a| fills(&a))),
+            ("found list filled by searches of all modes", all_modes),
+            ("search accepted after one refused 8", from_refused.any(|search| fills(&search))),
         ];
         used.iter().filter(|(_, so)| *so).for_each(|(what, _)| self.note(*what));
     }
 
     fn request(&mut self, request: &Request, answer: &Answer) {
-        let kind = match request.kind {
-            INSERT => "insert",
-            DELETE => "delete",
-            UPDATE => "update",
-            _ => "search",
-        };
-        self.note(format!("{kind} {}", answer.number));
+        self.note(format!("{} {}", kind_name(request), answer.number));
         if request.kind == UPDATE && answer.number == 0 && request.first == request.second {
             self.note("update of a pair to itself");
         }
@@ -201,6 +234,19 @@ impl Seen {
     }
 }
 
+/// What a request of an accepted call is called in what was met; each mode of a search has its own name.
+pub fn kind_name(request: &Request) -> &'static str {
+    match request.kind {
+        INSERT => "insert",
+        DELETE => "delete",
+        UPDATE => "update",
+        SEARCH => "search",
+        INSIDE => "search inside",
+        ENCLOSING => "search enclosing",
+        _ => unreachable!("an accepted call has requests of known kinds"),
+    }
+}
+
 /// Whether a row of the table that refuses a call is true of what was lent.
 fn due(number: i32, lent: &Lent) -> bool {
     let valid_length = slots_of(lent.pool.len()).is_some();
@@ -208,6 +254,6 @@ fn due(number: i32, lent: &Lent) -> bool {
         9 => lent.requests.len() > MOST_REQUESTS || lent.answers.len() != lent.requests.len(),
         1 => !valid_length || lent.work.len() != lent.pool.len(),
         2 => valid_length && !sound(&lent.pool),
-        _ => lent.requests.iter().any(|r| !(INSERT..=SEARCH).contains(&r.kind)),
+        _ => lent.requests.iter().any(|r| !(INSERT..=ENCLOSING).contains(&r.kind)),
     }
 }

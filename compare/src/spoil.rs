@@ -1,9 +1,13 @@
 //! Lists as a caller might lend them: with old content, with fields that nobody looks at, with several faults at once.
 
 use crate::lent::Lent;
-use second::call::{DELETE, INSERT, MOST_REQUESTS, SEARCH, UPDATE};
+use second::call::{DELETE, ENCLOSING, INSERT, INSIDE, MOST_REQUESTS, SEARCH, UPDATE};
 use second::dice::Dice;
 use second::{Answer, Found, Request};
+
+/// What is no kind of a request: what stands beside the kinds, and what would be one of them with its sign or its upper bits left out.
+const UNKNOWN: [i32; 13] =
+    [0, 7, 7, 8, 9, -1, -5, 257, 262, 1 << 16, (1 << 16) + 5, i32::MIN, i32::MAX];
 
 /// Any word, the ends of the range among them.
 pub fn garbage_word(dice: &mut Dice) -> i32 {
@@ -41,7 +45,7 @@ pub fn fill_unused(dice: &mut Dice, request: &mut Request) {
     if request.kind != UPDATE {
         request.second = garbage_rect(dice);
     }
-    if request.kind == SEARCH {
+    if request.is_search() {
         request.number = garbage_word(dice);
     }
 }
@@ -49,7 +53,7 @@ pub fn fill_unused(dice: &mut Dice, request: &mut Request) {
 /// Several faults in one request, so that the order of its checks shows: it has to be the table's.
 pub fn muddle(dice: &mut Dice, request: &mut Request, other: &Request) {
     if dice.chance(40) {
-        request.kind = dice.pick(&[INSERT, DELETE, UPDATE, SEARCH]);
+        request.kind = dice.pick(&[INSERT, DELETE, UPDATE, SEARCH, INSIDE, ENCLOSING]);
     }
     if dice.chance(30) {
         request.number = dice.pick(&[0, -1, i32::MIN, other.number]);
@@ -141,5 +145,5 @@ fn unknown_kind(dice: &mut Dice, lent: &mut Lent) {
         lent.answers = garbage_answers(dice, 1);
     }
     let place = dice.below(lent.requests.len() as u64) as usize;
-    lent.requests[place].kind = dice.pick(&[0, 5, -1, 9, i32::MIN, i32::MAX, 1 << 16, 257]);
+    lent.requests[place].kind = dice.pick(&UNKNOWN);
 }

@@ -3,10 +3,11 @@
 use crate::both::lend;
 use crate::lent::Lent;
 use crate::pools::sound_pool;
-use crate::seen::Seen;
+use crate::seen::{kind_name, Seen};
 use crate::spoil::{garbage_answers, garbage_found, garbage_words};
 use crate::tally::Tally;
 use second::dice::Dice;
+use second::generate::SEARCHES as MODES;
 use second::pool::{pairs_in_leaves, Pair};
 use second::queries::{double, drawn, kept, line, stepped};
 use second::survey::{window, window_or_causes, Query, BAD_SURVEY};
@@ -170,11 +171,14 @@ fn searches(dice: &mut Dice, tally: &mut Tally, seen: &mut Seen) {
     }
 }
 
-/// A batch of searches by the library's windows for queries about the records of a pool.
+/// A batch of searches of any mode by the library's windows for queries about the records of a pool.
 fn search(pool: Vec<i32>, dice: &mut Dice, tally: &mut Tally, seen: &mut Seen) {
     let pairs = pairs_in_leaves(&pool);
-    let windows = (0..SEARCHES).map(|_| library_window(dice, &pairs, tally));
-    let requests: Vec<Request> = windows.map(Request::search).collect();
+    let mut any_search = || {
+        let window = library_window(dice, &pairs, tally);
+        dice.pick(&MODES)(window)
+    };
+    let requests: Vec<Request> = (0..SEARCHES).map(|_| any_search()).collect();
     let lent = Lent {
         work: garbage_words(dice, pool.len()),
         answers: garbage_answers(dice, requests.len()),
@@ -183,10 +187,10 @@ fn search(pool: Vec<i32>, dice: &mut Dice, tally: &mut Tally, seen: &mut Seen) {
         pool,
     };
     let left = lend("searches by survey windows", &lent, tally, seen);
-    for answer in left.lent.answers {
+    for (request, answer) in lent.requests.iter().zip(&left.lent.answers) {
         tally.hold(answer.number == 0, || format!("a survey window refused {}", answer.number));
         let found = if answer.found > 0 { "records" } else { "nothing" };
-        seen.note(format!("search by a survey window found {found}"));
+        seen.note(format!("{} by a survey window found {found}", kind_name(request)));
     }
 }
 

@@ -3,11 +3,12 @@
 
 use crate::both::lend;
 use crate::lent::{Left, Lent};
-use crate::seen::Seen;
+use crate::seen::{kind_name, Seen};
 use crate::spoil::{garbage_answers, garbage_found, garbage_words};
 use crate::tally::Tally;
 use second::call::{DELETE, INSERT, UPDATE};
 use second::dice::Dice;
+use second::generate::SEARCHES;
 use second::pool::{pairs_in_leaves, slot_start, slots_of, Pair, Slot};
 use second::script::blank_pool;
 use second::style::whole_site;
@@ -93,9 +94,15 @@ fn draw(dice: &mut Dice, pairs: &[Pair]) -> Request {
         2 => Request::insert(number, rect),
         3 | 4 => Request::delete(number, rect),
         5 => Request::update(number, rect, dice.pick(&[other, rect, fresh.1])),
-        6 => Request::search(rect),
-        _ => Request::search(whole_site().to_words()),
+        6 => dice.pick(&SEARCHES)(rect),
+        _ => dice.pick(&SEARCHES)(dice.pick(&[whole_site().to_words(), middle(rect)])),
     }
+}
+
+/// The point in the middle of a rectangle.
+fn middle([low_x, low_y, high_x, high_y]: [i32; 4]) -> [i32; 4] {
+    let (x, y) = ((low_x + high_x) / 2, (low_y + high_y) / 2);
+    [x, y, x, y]
 }
 
 /// What a call met of pairs that were held twice when it began: the first request that names one, and any search that shows one.
@@ -114,7 +121,9 @@ fn note(lent: &Lent, left: &Left, before: &[Pair], seen: &mut Seen) {
         (DELETE, 0) if old => seen.note("pair held twice: one deleted"),
         (UPDATE, 0) if old => seen.note("pair held twice: one updated"),
         (UPDATE, 6) if new => seen.note("pair held twice: update 6"),
-        (_, 0) if twice_in(left, answer.found as usize) => seen.note("pair held twice: found"),
+        (_, 0) if twice_in(left, answer.found as usize) => {
+            seen.note(format!("pair held twice: found by {}", kind_name(request)));
+        }
         _ => (),
     }
 }
