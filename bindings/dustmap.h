@@ -22,11 +22,20 @@ struct dustmap_rect {
     int32_t low_x, low_y, high_x, high_y;
 };
 
-enum dustmap_kind { DUSTMAP_INSERT = 1, DUSTMAP_DELETE = 2, DUSTMAP_UPDATE = 3, DUSTMAP_SEARCH = 4 };
+/* A search carries one of three modes, by its kind. Sides may touch in each of them. A record that is equal to the window counts as
+ * inside and as enclosing. All modes open the nodes whose cover meets the window: `opened` is the same in every mode. */
+enum dustmap_kind {
+    DUSTMAP_INSERT = 1,
+    DUSTMAP_DELETE = 2,
+    DUSTMAP_UPDATE = 3,
+    DUSTMAP_SEARCH = 4,          /* lists the records that meet the window */
+    DUSTMAP_SEARCH_INSIDE = 5,   /* lists those alone that lie inside it */
+    DUSTMAP_SEARCH_ENCLOSING = 6 /* lists those alone that enclose it */
+};
 
 /* Ten words. Fields that the kind does not use are not looked at. */
 struct dustmap_request {
-    int32_t kind;               /* one of the four above */
+    int32_t kind;               /* one of the six above */
     int32_t number;             /* the record number, 1 or more; a search has none */
     struct dustmap_rect first;  /* inserted, deleted, to be replaced, or the window */
     struct dustmap_rect second; /* an update's new rectangle */
@@ -46,8 +55,8 @@ enum dustmap_number {
     /* Call refused: pool not sound. What to do: do not use this pool; it is damaged, or is no pool. Take the last good copy and
      * make the later changes again, or insert every record into a blank one. */
     DUSTMAP_NOT_SOUND = 2,
-    /* Call refused: a request is of none of the four kinds. What to do: give each request the kind 1 insert, 2 delete, 3 update
-     * or 4 search. */
+    /* Call refused: a request is of none of the six kinds. What to do: give each request the kind 1 insert, 2 delete, 3 update, 4
+     * search, 5 search inside or 6 search enclosing. */
     DUSTMAP_NO_REQUEST = -1,
     /* Call refused: a NaN, an infinity, low above high, a negative radius, or a centre, radius or finished coordinate beyond
      * 1,000,000,000 in size. What to do: give finite numbers in millimetres, no low above its high and no radius below 0; the
@@ -68,7 +77,7 @@ enum dustmap_number {
      * ask again, or blank a pool with more slots (4,096 at most) and insert every record there. */
     DUSTMAP_NO_SLOT = 7,
     /* Request refused: search: more found than places left in the found list. What to do: ask again with a longer found list (the
-     * answer says how many records this search finds), or with a smaller window. */
+     * answer says how many records this search finds), or with a smaller window; for a search enclosing, with a larger one. */
     DUSTMAP_NO_ROOM = 8
 };
 /* End of what `tools/numbers` writes. */

@@ -13,6 +13,11 @@ Rectangles are low x, low y, high x, high y in whole millimetres, and touching c
     m.insert(8, Rect.from_box(-2.5, 0.25, 4.0, 8.75))
     m.search(Rect.from_disc(12.5, 3.0, 7.5))
 
+`search` lists every record that meets the window. A planner who closes a block wants only those inside it, or only those that enclose it:
+
+    m.search_inside((0, 0, 50, 50))
+    m.search_enclosing((2, 2, 3, 3))
+
 What the map refuses is raised as `Refused`, with the number and its words; in a batch each request has its own answer, and a refused one does not
 stop the others. What cannot be asked at all, as a float for a whole number or a number beyond 32 bits, is a TypeError or a ValueError before
 anything is done.
@@ -43,8 +48,17 @@ MOST_REQUESTS = 1_024
 # Coordinates are from minus this to this.
 FARTHEST = 1_000_000_000
 
-INSERT, DELETE, UPDATE, SEARCH = 1, 2, 3, 4
-KINDS = {INSERT: "insert", DELETE: "delete", UPDATE: "update", SEARCH: "search"}
+INSERT, DELETE, UPDATE, SEARCH, SEARCH_INSIDE, SEARCH_ENCLOSING = 1, 2, 3, 4, 5, 6
+KINDS = {
+    INSERT: "insert",
+    DELETE: "delete",
+    UPDATE: "update",
+    SEARCH: "search",
+    SEARCH_INSIDE: "search inside",
+    SEARCH_ENCLOSING: "search enclosing",
+}
+# "A search carries one of three modes".
+SEARCHES = (SEARCH, SEARCH_INSIDE, SEARCH_ENCLOSING)
 
 
 class Meaning(NamedTuple):
@@ -108,8 +122,8 @@ NUMBERS: dict[int, Meaning] = {
         NO_REQUEST,
         "no request",
         "call refused",
-        "a request is of none of the four kinds",
-        "give each request the kind 1 insert, 2 delete, 3 update or 4 search",
+        "a request is of none of the six kinds",
+        "give each request the kind 1 insert, 2 delete, 3 update, 4 search, 5 search inside or 6 search enclosing",
     ),
     BAD_SURVEY: Meaning(
         BAD_SURVEY,
@@ -158,7 +172,7 @@ NUMBERS: dict[int, Meaning] = {
         "no room",
         "request refused",
         "search: more found than places left in the found list",
-        "ask again with a longer found list (the answer says how many records this search finds), or with a smaller window",
+        "ask again with a longer found list (the answer says how many records this search finds), or with a smaller window; for a search enclosing, with a larger one",
     ),
 }
 # End of what `tools/numbers` writes.
@@ -261,7 +275,10 @@ def _count(value: Any, what: str, least: int, most: int) -> int:
 
 @dataclass(frozen=True)
 class Request:
-    """One request of a batch. `Request.insert`, `delete`, `update` and `search` make them; fields that the kind does not use are not looked at."""
+    """One request of a batch. `Request.insert`, `delete`, `update`, `search`, `search_inside` and `search_enclosing` make them.
+
+    Fields that the kind does not use are not looked at.
+    """
 
     kind: int
     number: int
@@ -295,9 +312,19 @@ class Request:
         """To list every record whose rectangle meets the window."""
         return Request(SEARCH, 0, _rect(window, "window"))
 
+    @staticmethod
+    def search_inside(window: Sequence[int]) -> Request:
+        """To list those records alone that lie inside the window."""
+        return Request(SEARCH_INSIDE, 0, _rect(window, "window"))
+
+    @staticmethod
+    def search_enclosing(window: Sequence[int]) -> Request:
+        """To list those records alone that enclose the window."""
+        return Request(SEARCH_ENCLOSING, 0, _rect(window, "window"))
+
     def __str__(self) -> str:
         kind = KINDS.get(self.kind, f"kind {self.kind}")
-        number = "" if self.kind == SEARCH else f" {self.number}"
+        number = "" if self.kind in SEARCHES else f" {self.number}"
         to = f" to {tuple(self.second)}" if self.kind == UPDATE else ""
         return f"{kind}{number} {tuple(self.first)}{to}"
 
@@ -460,7 +487,25 @@ class Map:
 
     def search(self, window: Sequence[int], places: Optional[int] = None) -> Found:
         """Every record whose rectangle meets the window. With `places`, a search that finds more than that is refused 8."""
-        answer = self.batch([Request.search(window)], places)[0].or_raise()
+        return self._found(Request.search(window), places)
+
+    def search_inside(self, window: Sequence[int], places: Optional[int] = None) -> Found:
+        """Only the records that lie inside the window. They may touch its sides from within, and one equal to it is inside.
+
+        It opens the nodes that `search` opens. With `places`, a search that finds more than that is refused 8.
+        """
+        return self._found(Request.search_inside(window), places)
+
+    def search_enclosing(self, window: Sequence[int], places: Optional[int] = None) -> Found:
+        """Only the records that enclose the window: it lies inside them, and one equal to it encloses it.
+
+        It opens the nodes that `search` opens. With `places`, a search that finds more than that is refused 8.
+        """
+        return self._found(Request.search_enclosing(window), places)
+
+    def _found(self, search: Request, places: Optional[int]) -> Found:
+        """What a search found; or its refusal is raised."""
+        answer = self.batch([search], places)[0].or_raise()
         return Found(answer.records, answer.opened)
 
     def records(self) -> tuple[Record, ...]:
@@ -497,7 +542,7 @@ class Map:
 
         What has been found and what would have been found is then the room that it needs: a search changes nothing.
         """
-        searches = sum(request.kind == SEARCH for request in asked)
+        searches = sum(request.kind in SEARCHES for request in asked)
         answers, found = self._call(asked, 64 * searches if places is None else places)
         if places is None and NO_ROOM in answers[0::4]:
             self._put_back(before)

@@ -52,6 +52,25 @@ DOCUMENT = {
 }
 
 
+# A block that is to be closed; zones about it, records 1 to 12, and the modes that list each: meeting, inside, enclosing.
+BLOCK = Rect(0, 0, 100, 80)
+ZONES = [
+    ("within", Rect(20, 20, 40, 30), "meeting inside"),
+    ("touching two sides from within", Rect(0, 70, 30, 80), "meeting inside"),
+    ("as wide as the block", Rect(0, 10, 100, 20), "meeting inside"),
+    ("a point at its corner", Rect(100, 80, 100, 80), "meeting inside"),
+    ("equal", BLOCK, "meeting inside enclosing"),
+    ("around it", Rect(-10, -10, 110, 90), "meeting enclosing"),
+    ("around it, three sides in common", Rect(0, 0, 100, 81), "meeting enclosing"),
+    ("cut by a side", Rect(90, 30, 110, 40), "meeting"),
+    ("across it", Rect(-10, 40, 110, 50), "meeting"),
+    ("touching a side from outside", Rect(100, 0, 120, 80), "meeting"),
+    ("touching a corner from outside", Rect(-10, -10, 0, 0), "meeting"),
+    ("one millimetre away", Rect(101, 0, 120, 80), ""),
+]
+MODES = {"meeting": Request.search, "inside": Request.search_inside, "enclosing": Request.search_enclosing}
+
+
 def nine() -> list[Request]:
     """The entries of site example 7 as records 1 to 9."""
     return [Request.insert(k + 1, (10 * k, 0, 10 * k + 10, 10)) for k in range(8)] + [Request.insert(9, (1000, 0, 1010, 10))]
@@ -94,7 +113,7 @@ class Case(unittest.TestCase):
 
 
 class Examples(Case):
-    """Document 01's own, and what dispatch does with doubles."""
+    """Document 01's own, what dispatch does with doubles, and what a planner does with the modes of a search."""
 
     def test_as_a_user_writes_it(self) -> None:
         m = Map(slots=128)
@@ -107,7 +126,7 @@ class Examples(Case):
         self.assertFalse(m.search((11, 0, 20, 10)), "nothing found is an empty sequence")
 
     def test_the_scripts(self) -> None:
-        for name in ("document", "survey"):
+        for name in ("document", "survey", "modes"):
             script = ROOT / "bindings" / "python" / f"{name}.py"
             run = subprocess.run([sys.executable, "-B", script], stdout=subprocess.PIPE, check=True, text=True)
             self.assertEqual(run.stdout, (ROOT / "examples" / f"{name}.lines").read_text())
@@ -148,11 +167,79 @@ def printed(frames: bytes) -> str:
         length, kind = struct.unpack_from("<HH", frames, at)
         words = struct.unpack_from(f"<{(length - 2) // 4}i", frames, at + 4)
         at += 2 + length
-        number, rects = (0, words) if kind == dustmap.SEARCH else (words[0], words[1:])
+        number, rects = (0, words) if kind in dustmap.SEARCHES else (words[0], words[1:])
         answer = m.batch([Request(kind, number, Rect(*rects[:4]), Rect(*(rects[4:] or ZONE)))], places=64)[0]
         lines.append((len([line for line in lines if len(line) == 4]) + 1, answer.number, answer.found, answer.opened))
         lines += [(r.number, *r.rect) for r in answer.records]
     return "".join(" ".join(map(str, line)) + "\n" for line in lines)
+
+
+class Modes(Case):
+    """Searches that list only the records inside the window, or only those that enclose it."""
+
+    def block(self) -> Map:
+        """A map of the zones about the block."""
+        m = Map(12)
+        for number, (_, rect, _) in enumerate(ZONES, 1):
+            m.insert(number, rect)
+        return m
+
+    def listed(self, mode: str) -> tuple[Record, ...]:
+        """What a search of the block lists in that mode."""
+        return tuple(Record(number, rect) for number, (_, rect, modes) in enumerate(ZONES, 1) if mode in modes.split())
+
+    def test_each_lists_its_own(self) -> None:
+        m = self.block()
+        searches = {"meeting": m.search, "inside": m.search_inside, "enclosing": m.search_enclosing}
+        opened = {search(BLOCK).opened for search in searches.values()}
+        self.assertEqual(len(opened), 1, "opened is the same in every mode")
+        for mode, search in searches.items():
+            self.assertEqual(search(BLOCK).records, self.listed(mode), mode)
+            self.assertEqual(search((500, 500, 501, 501)).records, (), mode)
+
+    def test_in_one_batch(self) -> None:
+        m = self.block()
+        before = m.words()
+        answers = m.batch(request(BLOCK) for request in MODES.values())
+        self.assertEqual([a.records for a in answers], [self.listed(mode) for mode in MODES])
+        self.assertEqual([(a.number, a.found) for a in answers], [(0, 11), (0, 5), (0, 3)])
+        self.assertEqual(m.words(), before, "a search changes nothing")
+
+    def test_all_open_the_nodes_whose_cover_meets_the_window(self) -> None:
+        m = Map(12)
+        m.batch(nine())
+        for window, numbers, opened in (
+            ((55, 0, 58, 10), ([6], [], [6]), 2),
+            ((60, 0, 60, 0), ([6, 7], [], [6, 7]), 3),
+            ((15, 0, 45, 10), ([2, 3, 4, 5], [3, 4], []), 2),
+            ((1000, 0, 1010, 10), ([9], [9], [9]), 2),
+            ((2000, 0, 2000, 0), ([], [], []), 1),
+        ):
+            answers = m.batch(request(window) for request in MODES.values())
+            self.assertEqual([[r.number for r in a.records] for a in answers], list(numbers), window)
+            self.assertEqual({a.opened for a in answers}, {opened}, window)
+
+    def test_a_window_of_floats(self) -> None:
+        m = Map()
+        m.insert(7, Rect.from_box(10.5, -20.5, 30.5, -5.5))
+        self.assertEqual(len(m.search_inside(Rect.from_box(10.25, -20.25, 30.25, -5.25))), 1, "rounded outward, the two are equal")
+        self.assertEqual(len(m.search_enclosing(Rect.from_point(30.5, -5.5))), 1)
+        self.assertEqual(len(m.search_enclosing(Rect.from_disc(30.5, -5.5, 0))), 0, "a disc goes one millimetre further")
+
+    def test_8_by_what_the_mode_lists(self) -> None:
+        m = self.block()
+        searches = {"meeting": m.search, "inside": m.search_inside, "enclosing": m.search_enclosing}
+        for mode, request in MODES.items():
+            count = len(self.listed(mode))
+            answer = self.refused_request(8, m, request(BLOCK), places=count - 1)
+            self.assertEqual((answer.found, answer.opened), (count, m.search(BLOCK).opened))
+            self.assertEqual(self.refused(8, lambda: searches[mode](BLOCK, places=count - 1)).found, count)
+            self.assertEqual(len(searches[mode](BLOCK, places=count)), count)
+
+    def test_their_words(self) -> None:
+        words = [str(request(ZONE)) for request in MODES.values()]
+        self.assertEqual(words, ["search (0, 0, 10, 10)", "search inside (0, 0, 10, 10)", "search enclosing (0, 0, 10, 10)"])
+        self.assertIn("search inside (1, 0, 0, 0): 3 bad rectangle", str(self.refused(3, lambda: Map().search_inside((1, 0, 0, 0)))))
 
 
 class Refusals(Case):
@@ -195,8 +282,9 @@ class Refusals(Case):
     def test_no_request(self) -> None:
         m = Map()
         before = m.words()
-        self.refused(-1, lambda: m.batch([Request.insert(1, ZONE), Request(5, 1, Rect(*ZONE))]))
-        self.assertEqual(m.words(), before, "not even the good request is done")
+        for kind in (0, 7, -1, 2**31 - 1, -(2**31)):
+            self.refused(-1, lambda kind=kind: m.batch([Request.insert(1, ZONE), Request(kind, 1, Rect(*ZONE))]))
+            self.assertEqual(m.words(), before, "not even the good request is done")
 
     def test_3_bad_rectangle(self) -> None:
         m = Map()
@@ -205,7 +293,8 @@ class Refusals(Case):
             self.refused_request(3, m, Request.insert(1, rect))
             self.refused_request(3, m, Request.delete(0, rect))
             self.refused_request(3, m, Request.update(1, (0, 0, MOST, 0), rect))
-            self.refused_request(3, m, Request.search(rect))
+            for request in MODES.values():
+                self.refused_request(3, m, request(rect))
             self.refused(3, lambda rect=rect: m.insert(1, rect))
 
     def test_4_bad_number(self) -> None:
@@ -396,6 +485,14 @@ class Growing(Case):
         self.assertEqual(answers, [one_by_one.batch([request])[0] for request in requests])
         self.assertEqual(m.words(), one_by_one.words())
 
+    def test_a_batch_of_every_mode(self) -> None:
+        m = row_of(300, 128)
+        m.insert(301, dustmap.WHOLE_SITE)
+        answers = m.batch(request(window) for request in MODES.values() for window in (dustmap.WHOLE_SITE, (0, 0, 5, 5)))
+        numbers = [[r.number for r in a.records] for a in answers]
+        everything = list(range(1, 302))
+        self.assertEqual(numbers, [everything, [1, 301], everything, [1], [301], [1, 301]])
+
     def test_the_largest_map(self) -> None:
         m = row_of(16_000, dustmap.MOST_SLOTS)
         self.assertEqual([r.number for r in m.records()], list(range(1, 16_001)))
@@ -475,11 +572,14 @@ class WrongTypes(Case):
         wrong = [None, 7, "0011", b"abcd", {0, 1, 2, 3}, {0: 0, 1: 1, 2: 2, 3: 3}, (k for k in ZONE)]
         wrong += [(0, 0, 1.0, 1), (0, False, 1, 1), (0, 0, "1", 1), ((0, 0), (1, 1), 2, 2), (0, None, 1, 1)]
         for rect in wrong:
-            for ask in (lambda r: m.insert(1, r), lambda r: m.delete(1, r), lambda r: m.update(1, ZONE, r), lambda r: m.update(1, r, ZONE), m.search):
+            for ask in (lambda r: m.insert(1, r), lambda r: m.delete(1, r), lambda r: m.update(1, ZONE, r), lambda r: m.update(1, r, ZONE)):
                 self.assertRaises(TypeError, ask, rect)
+            for search in (m.search, m.search_inside, m.search_enclosing):
+                self.assertRaises(TypeError, search, rect)
         for rect in ((), (0, 0, 1), (0, 0, 1, 1, 2), (0, 0, 2**31, 0), (0, -(2**31) - 1, 0, 0), (2**32, 2**32, 2**32, 2**32)):
             self.assertRaises(ValueError, m.insert, 1, rect)
-            self.assertRaises(ValueError, m.search, rect)
+            for search in (m.search, m.search_inside, m.search_enclosing):
+                self.assertRaises(ValueError, search, rect)
         self.assertRaisesRegex(ValueError, "new rectangle, high x: 2147483648", m.update, 1, ZONE, (0, 0, 2**31, 0))
         self.assertRaises(TypeError, Request, dustmap.INSERT, 1, Rect(0, 0, 1.5, 1))
         m.insert(1, [0, 0, 1, 1])
@@ -533,7 +633,7 @@ class Model:
         rects = [r.first, r.second] if r.kind == dustmap.UPDATE else [r.first]
         if any(abs(c) > MOST for rect in rects for c in rect) or any(a > c or b > d for a, b, c, d in rects):
             return 3
-        if r.kind == dustmap.SEARCH:
+        if r.kind in dustmap.SEARCHES:
             return 0
         if r.number < 1:
             return 4
@@ -543,9 +643,9 @@ class Model:
         held = r.kind == dustmap.INSERT or (r.kind == dustmap.UPDATE and new != old)
         return 6 if held and new in self.pairs else 0
 
-    def found(self, window: Rect) -> tuple[Record, ...]:
-        """The pairs whose rectangles meet the window, touching too, in found order."""
-        return tuple(sorted(p for p in self.pairs if meet(p.rect, window)))
+    def found(self, search: Request) -> tuple[Record, ...]:
+        """The pairs that the search lists, in found order."""
+        return tuple(sorted(p for p in self.pairs if LISTS[search.kind](p.rect, search.first)))
 
     def do(self, r: Request) -> None:
         """The change that an accepted request makes."""
@@ -560,8 +660,21 @@ def meet(a: Rect, b: Rect) -> bool:
     return a.low_x <= b.high_x and b.low_x <= a.high_x and a.low_y <= b.high_y and b.low_y <= a.high_y
 
 
+def inside(a: Rect, b: Rect) -> bool:
+    """On each axis a begins no sooner than b and ends no later."""
+    return b.low_x <= a.low_x and a.high_x <= b.high_x and b.low_y <= a.low_y and a.high_y <= b.high_y
+
+
+# Whether a search of each kind lists a rectangle for a window.
+LISTS: dict[int, Callable[[Rect, Rect], bool]] = {
+    dustmap.SEARCH: meet,
+    dustmap.SEARCH_INSIDE: inside,
+    dustmap.SEARCH_ENCLOSING: lambda rect, window: inside(window, rect),
+}
+
+
 def opened(words: list[int], window: Rect) -> int:
-    """The nodes that a search opens: the root, and one for each cover in the pool that meets the window."""
+    """The nodes that a search opens in every mode: the root, and one for each cover in the pool that meets the window."""
     count = 1
     for slot in range(8, len(words), 42):
         level, entries = words[slot : slot + 2]
@@ -585,11 +698,18 @@ class Dice:
             return Rect(rect.high_x + 1, rect.low_y, rect.low_x, rect.high_y)
         return rect._replace(high_y=MOST + self.dice.randint(0, 1)) if chance < 0.04 else rect
 
+    def window(self) -> Rect:
+        """Any rectangle; or about that of a pair that is held, so that records are equal to it, inside it, around it and just beside it."""
+        if not self.model.pairs or self.dice.random() < 0.4:
+            return self.rect()
+        held = self.dice.choice(sorted(self.model.pairs)).rect
+        return Rect(*(side + self.dice.choice([0, 0, 0, -1, 1]) for side in held))
+
     def draw(self) -> Request:
         """A request; deletes and updates mostly of a pair that is held."""
-        kind = self.dice.choices([1, 2, 3, 4], [40, 22, 18, 20])[0]
-        if kind == dustmap.SEARCH:
-            return Request.search(self.rect())
+        kind = self.dice.choices([1, 2, 3, 4, 5, 6], [40, 22, 18, 8, 6, 6])[0]
+        if kind in dustmap.SEARCHES:
+            return Request(kind, 0, self.window())
         number, rect = self.dice.randint(0, 60), self.rect()
         if self.model.pairs and self.dice.random() < (0.1 if kind == dustmap.INSERT else 0.9):
             number, rect = self.dice.choice(sorted(self.model.pairs))
@@ -602,8 +722,11 @@ class Dice:
 class Histories(Case):
     """Thousands of requests, against the plain model; one by one, and again in batches."""
 
-    def history(self, seed: int, slots: int, wide: int, count: int) -> set[tuple[int, int]]:
-        """Requests one by one, each answer compared; then the same requests in batches, on another map. The kinds and answers met."""
+    def history(self, seed: int, slots: int, wide: int, count: int) -> set[tuple[int, ...]]:
+        """Requests one by one, each answer compared; then the same requests in batches, on another map.
+
+        Gives the kinds with the answers met, and again with whether a record that was listed is equal to the window.
+        """
         m, model = Map(slots), Model()
         dice = Dice(seed, model, wide)
         requests, answers, met = [], [], set()
@@ -611,6 +734,7 @@ class Histories(Case):
             requests.append(dice.draw())
             answers.append(self.one(m, model, requests[-1]))
             met.add((requests[-1].kind, answers[-1].number))
+            met |= {(requests[-1].kind, 0, int(record.rect == requests[-1].first)) for record in answers[-1].records}
         self.in_batches(slots, requests, answers, m.words())
         return met
 
@@ -618,10 +742,10 @@ class Histories(Case):
         """One request of both, compared; its answer."""
         answer = m.batch([request])[0]
         due = model.refusal(request)
-        no_slot = due == 0 and request.kind != dustmap.SEARCH and answer.number == 7
+        no_slot = due == 0 and request.kind not in dustmap.SEARCHES and answer.number == 7
         self.assertEqual(answer.number, 7 if no_slot else due, request)
-        if request.kind == dustmap.SEARCH and due == 0:
-            self.assertEqual(answer.records, model.found(request.first), request)
+        if request.kind in dustmap.SEARCHES and due == 0:
+            self.assertEqual(answer.records, model.found(request), request)
             self.assertEqual((answer.found, answer.opened), (len(answer.records), opened(m.words(), request.first)), request)
         else:
             self.assertEqual((answer.found, answer.opened, answer.records), (0, 0, ()), request)
@@ -642,9 +766,10 @@ class Histories(Case):
 
     def test_with_slots_enough(self) -> None:
         met = self.history(1, 1000, 300, 4000)
-        wanted = {(1, 0), (1, 3), (1, 4), (1, 6), (2, 0), (2, 3), (2, 5), (3, 0), (3, 3), (3, 5), (3, 6), (4, 0), (4, 3)}
+        wanted = {(1, 0), (1, 3), (1, 4), (1, 6), (2, 0), (2, 3), (2, 5), (3, 0), (3, 3), (3, 5), (3, 6)}
+        wanted |= {answer for kind in dustmap.SEARCHES for answer in ((kind, 0), (kind, 3), (kind, 0, 0), (kind, 0, 1))}
         self.assertLessEqual(wanted, met, "a history that did not meet every answer")
-        self.assertNotIn(7, {number for _, number in met})
+        self.assertNotIn(7, {number for _, number, *_ in met})
 
     def test_with_few_slots(self) -> None:
         met = self.history(2, 12, 60, 3000) | self.history(3, 1, 20, 500) | self.history(4, 40, 1000, 3000)

@@ -1,14 +1,16 @@
 //! The window as the command asks for it: four whole numbers; or a box, a point or a disc, in numbers that need not be whole.
 
+use crate::mode::Mode;
 use crate::USAGE;
 use dustmap::numbers::meaning;
 use dustmap::Rect;
 use std::fmt;
 use std::str::FromStr;
 
-/// A window; and the disc that it is around, where it was asked for by one.
+/// A window and the mode of its search; and the disc that it is around, where it was asked for by one.
 pub struct Asked {
     pub window: Rect,
+    pub mode: Mode,
     pub disc: Option<Disc>,
 }
 
@@ -19,11 +21,13 @@ pub struct Disc {
     pub radius: f64,
 }
 
-/// What the words after the name of the file ask for: nothing where there are none.
-pub fn asked(words: &[String]) -> Result<Option<Asked>, String> {
-    let words: Vec<&str> = words.iter().map(String::as_str).collect();
-    let (window, disc) = match words[..] {
-        [] => return Ok(None),
+/// What the words after the name of the file ask for, in the mode that is named, if one is: nothing where there are none.
+pub fn asked(mode: Option<Mode>, words: &[&str]) -> Result<Option<Asked>, String> {
+    let (window, disc) = match *words {
+        [] => match mode {
+            Some(mode) => return Err(format!("--{mode}: there is no window\n{USAGE}")),
+            None => return Ok(None),
+        },
         ["--point", x, y] => (Rect::from_point(number(x)?, number(y)?), None),
         ["--box", low_x, low_y, high_x, high_y] => {
             (Rect::from_box(number(low_x)?, number(low_y)?, number(high_x)?, number(high_y)?), None)
@@ -38,7 +42,8 @@ pub fn asked(words: &[String]) -> Result<Option<Asked>, String> {
         }
         _ => return Err(USAGE.to_string()),
     };
-    Ok(Some(Asked { window: window.map_err(refused)?, disc }))
+    let mode = mode.unwrap_or(Mode::Meeting);
+    Ok(Some(Asked { window: window.map_err(refused)?, mode, disc }))
 }
 
 /// A whole number or a double. What is read as a double may be infinite, or no number: the library refuses it.

@@ -1,6 +1,6 @@
 //! Requests to the proved library.
 
-use dustmap::{Answer, Found, Request, MOST_REQUESTS, SEARCH};
+use dustmap::{Answer, Found, Request, MOST_REQUESTS};
 
 /// "a found list of 64": as `dustmap` has it.
 const PLACES: usize = 64;
@@ -13,7 +13,7 @@ pub fn one(pool: &mut [i32], request: Request, found: &mut [Found]) -> Answer {
 /// The numbers that come back for the requests, in turn, as if each were a batch of one with a found list of 64. Changes are put
 /// together in batches, since each call looks through the whole pool first; a search needs a found list of its own.
 pub fn all(pool: &mut [i32], requests: &[Request]) -> Vec<u32> {
-    let alike = |a: &Request, b: &Request| a.kind != SEARCH && b.kind != SEARCH;
+    let alike = |a: &Request, b: &Request| !a.is_search() && !b.is_search();
     let batches = requests.chunk_by(alike).flat_map(|run| run.chunks(MOST_REQUESTS));
     let mut numbers = Vec::new();
     for batch in batches {

@@ -1,7 +1,7 @@
 //! The frames that `dustmap` reads: "two bytes length of what follows, two bytes kind, then signed 32-bit words, all
 //! little-endian".
 
-use dustmap::{Rect, Request, DELETE, INSERT, SEARCH, UPDATE};
+use dustmap::{Rect, Request, DELETE, INSERT, SEARCH, SEARCH_ENCLOSING, SEARCH_INSIDE, UPDATE};
 
 /// The requests of the frames, up to the first bad one; and whether there was one.
 pub fn requests(mut bytes: &[u8]) -> (Vec<Request>, bool) {
@@ -24,8 +24,8 @@ fn next(bytes: &mut &[u8]) -> Option<Request> {
     request(i32::from(u16::from_le_bytes(*kind)), words)
 }
 
-/// "Kind 1 insert and 2 delete: number, rectangle (length 22). 3 update: number, old, new (38). 4 search: window (18)." The
-/// lengths count the kind's two bytes.
+/// "Kind 1 insert and 2 delete: number, rectangle (length 22). 3 update: number, old, new (38). 4 search: window (18)." "kinds 5
+/// and 6, of the same layout, are inside and enclosing". The lengths count the kind's two bytes.
 fn request(kind: i32, bytes: &[u8]) -> Option<Request> {
     let words: Vec<i32> = bytes
         .chunks(4)
@@ -39,6 +39,8 @@ fn request(kind: i32, bytes: &[u8]) -> Option<Request> {
         (DELETE, 5) => Some(Request::delete(words[0], rect(1))),
         (UPDATE, 9) => Some(Request::update(words[0], rect(1), rect(5))),
         (SEARCH, 4) => Some(Request::search(rect(0))),
+        (SEARCH_INSIDE, 4) => Some(Request::search_inside(rect(0))),
+        (SEARCH_ENCLOSING, 4) => Some(Request::search_enclosing(rect(0))),
         _ => None,
     }
 }

@@ -6,6 +6,7 @@ use crate::svg::{circle, rect, text, Place};
 use crate::tree::{Node, Tree};
 use crate::window::{is_opened, Shown};
 use dustmap::Rect;
+use std::iter::once;
 
 const PLAIN: &str = "font-size=\"13\" fill=\"#333333\"";
 const SMALL: &str = "font-size=\"11\" fill=\"#595959\"";
@@ -165,20 +166,21 @@ fn window_lines(legend: &mut Legend, shown: &Shown) {
         &found,
         &format!("{} found", counted(shown.found.len(), "record", "records")),
     );
-    for numbers in number_lines(shown) {
-        legend.line(&numbers, SMALL, INDENT);
+    // The mode goes below the count. A search is of the window, so what it finds may lie beside a disc.
+    let mode = format!("those {} the window", shown.mode);
+    for words in once(mode).chain(number_lines(shown)) {
+        legend.line(&words, SMALL, INDENT);
         legend.y -= 6.0;
     }
 }
 
-/// The disc that the window is around. A search is of the window, so what it finds may lie beside the disc.
+/// The disc that the window is around.
 fn disc_lines(legend: &mut Legend, disc: &Disc) {
     let ring = legend.ring(&format!("fill=\"none\" stroke=\"{FOUND}\" stroke-width=\"1.5\""));
     legend.switch_with("disc", &ring, "the disc and its centre");
     for (what, number) in [("x", disc.x), ("y", disc.y), ("radius", disc.radius)] {
         legend.line(&format!("{what} {}", shortest(number)), PLAIN, INDENT);
     }
-    legend.line("found is what meets the window", SMALL, INDENT);
 }
 
 /// The numbers found, in found order, as many as have room.

@@ -1,6 +1,6 @@
 //! Draws the map that a file of frames leaves, as SVG on standard output.
 //!
-//! usage: draw [--slots N] FRAMES [WINDOW]
+//! usage: draw [--slots N] FRAMES [WINDOW [--inside | --enclosing]]
 
 mod asked;
 mod batch;
@@ -8,6 +8,7 @@ mod frames;
 mod labels;
 mod legend;
 mod look;
+mod mode;
 mod page;
 mod picture;
 mod svg;
@@ -20,9 +21,10 @@ use std::process::ExitCode;
 /// "a 128-slot pool (5,384 words)": as `dustmap` has it.
 const SLOTS: usize = 128;
 
-const USAGE: &str = "usage: tools/draw [--slots N] FRAMES [WINDOW] > map.svg
+const USAGE: &str = "usage: tools/draw [--slots N] FRAMES [WINDOW [--inside | --enclosing]] > map.svg
 FRAMES is a file as dustmap reads it, or - for standard input. WINDOW is in millimetres: LOW-X LOW-Y HIGH-X HIGH-Y, four whole numbers;
 or --box LOW-X LOW-Y HIGH-X HIGH-Y, --point X Y or --disc X Y RADIUS, whose numbers need not be whole.
+The records that meet the window are marked; with --inside those alone that lie inside it, with --enclosing those alone that enclose it.
 The pool has 128 slots, as that of dustmap, unless --slots says another number, 1 to 4096.";
 
 fn main() -> ExitCode {
@@ -37,12 +39,13 @@ fn main() -> ExitCode {
 
 fn run() -> Result<(), String> {
     let arguments: Vec<String> = std::env::args().skip(1).collect();
-    let (slots, rest) = match arguments.as_slice() {
-        [option, number, rest @ ..] if option == "--slots" => (slots_of(number)?, rest),
+    let (mode, words) = mode::mode(&arguments)?;
+    let (slots, rest) = match words.as_slice() {
+        ["--slots", number, rest @ ..] => (slots_of(number)?, rest),
         rest => (SLOTS, rest),
     };
     let (file, window) = rest.split_first().ok_or(USAGE)?;
-    let asked = asked::asked(window)?;
+    let asked = asked::asked(mode, window)?;
     let mut pool = after(&bytes_of(file)?, slots);
     let tree = tree::read(&pool);
     let shown = asked.map(|asked| window::look(&mut pool, &tree, asked)).transpose()?;

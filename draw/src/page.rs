@@ -23,8 +23,9 @@ pub fn head(tree: &Tree, shown: Option<&Shown>) -> String {
         let [low_x, low_y, high_x, high_y] = s.window.to_words();
         let disc = s.disc.as_ref().map(|disc| format!(" of {disc}")).unwrap_or_default();
         format!(
-            ", and the window {low_x}, {low_y} to {high_x}, {high_y}{disc}: {} found, {} opened",
+            ", and the window {low_x}, {low_y} to {high_x}, {high_y}{disc}: {} found {} it, {} opened",
             counted(s.found.len(), "record", "records"),
+            s.mode,
             counted(s.opened.len(), "node", "nodes")
         )
     });

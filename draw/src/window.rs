@@ -2,11 +2,13 @@
 
 use crate::asked::{refused, Asked, Disc};
 use crate::batch::one;
+use crate::mode::Mode;
 use crate::tree::{meets, Node, Tree};
-use dustmap::{Found, Rect, Request};
+use dustmap::{Found, Rect};
 
 pub struct Shown {
     pub window: Rect,
+    pub mode: Mode,
     /// What the window is around, where it was asked for by a disc.
     pub disc: Option<Disc>,
     /// In found order.
@@ -15,11 +17,12 @@ pub struct Shown {
     pub opened: Vec<usize>,
 }
 
-/// Searches the pool. Which nodes are opened is read from the covers; the search says how many, and the two have to agree.
+/// Searches the pool. Which nodes are opened is read from the covers; the search says how many, and the two have to agree, in every
+/// mode.
 pub fn look(pool: &mut [i32], tree: &Tree, asked: Asked) -> Result<Shown, String> {
-    let Asked { window, disc } = asked;
+    let Asked { window, mode, disc } = asked;
     let mut found = vec![Found::default(); tree.slots * 8];
-    let answer = one(pool, Request::search(window), &mut found);
+    let answer = one(pool, mode.search(window), &mut found);
     if answer.number != 0 {
         return Err(refused(answer.number as i32));
     }
@@ -32,10 +35,11 @@ pub fn look(pool: &mut [i32], tree: &Tree, asked: Asked) -> Result<Shown, String
         "the covers that meet the window, and the root"
     );
     opened.sort_unstable();
-    Ok(Shown { window, disc, found, opened })
+    Ok(Shown { window, mode, disc, found, opened })
 }
 
-/// "Search descends from the root and opens every child whose entry rectangle meets the window."
+/// "Search descends from the root and opens every child whose entry rectangle meets the window." "All modes open the nodes whose
+/// cover meets the window."
 fn open(tree: &Tree, slot: usize, window: &Rect, opened: &mut Vec<usize>) {
     opened.push(slot);
     let node = tree.node(slot);

@@ -16,7 +16,10 @@ pub const MOST_REQUESTS: usize = 1_024;
 pub const INSERT: i32 = 1;
 pub const DELETE: i32 = 2;
 pub const UPDATE: i32 = 3;
+/// The three modes of a search: it lists the records that meet the window, those inside it, or those that enclose it.
 pub const SEARCH: i32 = 4;
+pub const SEARCH_INSIDE: i32 = 5;
+pub const SEARCH_ENCLOSING: i32 = 6;
 
 /// A closed rectangle in whole millimetres. The order of the fields is part of found order.
 #[repr(C)]
@@ -113,8 +116,29 @@ impl Request {
         Request { kind: UPDATE, number, first: old, second: new }
     }
 
+    /// For the records that meet the window; touching counts.
     pub fn search(window: Rect) -> Request {
-        Request { kind: SEARCH, number: 0, first: window, second: Rect::default() }
+        Request::search_of(SEARCH, window)
+    }
+
+    /// For those alone that lie inside the window, which may touch its sides from within. One equal to the window is inside.
+    /// As many nodes are opened as in a search for all that meet the window.
+    pub fn search_inside(window: Rect) -> Request {
+        Request::search_of(SEARCH_INSIDE, window)
+    }
+
+    /// For those alone that enclose the window, one equal to it too. As many nodes are opened as in the other modes.
+    pub fn search_enclosing(window: Rect) -> Request {
+        Request::search_of(SEARCH_ENCLOSING, window)
+    }
+
+    fn search_of(kind: i32, window: Rect) -> Request {
+        Request { kind, number: 0, first: window, second: Rect::default() }
+    }
+
+    /// Whether it is a search, of whatever mode.
+    pub fn is_search(&self) -> bool {
+        [SEARCH, SEARCH_INSIDE, SEARCH_ENCLOSING].contains(&self.kind)
     }
 }
 

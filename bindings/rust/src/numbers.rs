@@ -32,7 +32,7 @@ pub const BAD_LISTS: i32 = 9;
 pub const BAD_LENGTH: i32 = 1;
 /// Call refused: pool not sound.
 pub const NOT_SOUND: i32 = 2;
-/// Call refused: a request is of none of the four kinds.
+/// Call refused: a request is of none of the six kinds.
 pub const NO_REQUEST: i32 = -1;
 /// Call refused: a NaN, an infinity, low above high, a negative radius, or a centre, radius or finished coordinate beyond 1,000,000,000 in size.
 pub const BAD_SURVEY: i32 = 12;
@@ -83,8 +83,8 @@ pub const NUMBERS: [Meaning; 12] = [
         number: NO_REQUEST,
         name: "no request",
         effect: "call refused",
-        when: "a request is of none of the four kinds",
-        what_to_do: "give each request the kind 1 insert, 2 delete, 3 update or 4 search",
+        when: "a request is of none of the six kinds",
+        what_to_do: "give each request the kind 1 insert, 2 delete, 3 update, 4 search, 5 search inside or 6 search enclosing",
     },
     Meaning {
         number: BAD_SURVEY,
@@ -133,7 +133,7 @@ pub const NUMBERS: [Meaning; 12] = [
         name: "no room",
         effect: "request refused",
         when: "search: more found than places left in the found list",
-        what_to_do: "ask again with a longer found list (the answer says how many records this search finds), or with a smaller window",
+        what_to_do: "ask again with a longer found list (the answer says how many records this search finds), or with a smaller window; for a search enclosing, with a larger one",
     },
 ];
 // End of what `tools/numbers` writes.

@@ -108,7 +108,7 @@ fn the_edge_of_the_range() {
 #[test]
 fn a_refused_call_writes_nothing() {
     let search = Request::search(Rect::new(0, 0, 1, 1));
-    let other = Request { kind: 5, ..search };
+    let other = Request { kind: 7, ..search };
     let mut sound = vec![0; words(2)];
     assert_eq!(blank(&mut sound), 0);
     let unsound = vec![3; words(2)];

@@ -24,7 +24,9 @@ fn a_refusal_by_its_name() {
     assert_eq!(answers[1].number as i32, HELD);
     let said = meaning(HELD).expect("words").to_string();
     assert!(said.starts_with("6 held (request refused): insert: pair held;"), "{said}");
-    let other = Request { kind: 5, ..insert };
-    assert_eq!(call(&mut pool, &mut work, &[other], &mut answers[..1], &mut []), NO_REQUEST);
+    for kind in [i32::MIN, -1, 0, 7, i32::MAX] {
+        let other = Request { kind, ..insert };
+        assert_eq!(call(&mut pool, &mut work, &[other], &mut answers[..1], &mut []), NO_REQUEST);
+    }
     assert_eq!(check(&vec![3; words(3)]), NOT_SOUND);
 }
