@@ -190,12 +190,14 @@ pub fn wanted(mode: Mode, a: Rect, window: Rect) -> bool
     }
 }
 
-// "the first exact pair": the same number, and an equal rectangle.
+// "the first exact pair": the same number, and an equal rectangle. Hardly any two records have the same number: only these are compared.
 pub fn exact_pair(a: Record, b: Record) -> bool
     ensures { λ r. ⌜ r ≡ C.exactPair a b ⌝ }
 {
-    let number = same_number(a.number, b.number);
-    and(number, is_equal(compare(a.rect, b.rect)))
+    if !same_number(a.number, b.number) {
+        return false;
+    }
+    is_equal(compare(a.rect, b.rect))
 }
 
 // ---- covers

@@ -444,8 +444,7 @@ fn report(status: i32) {
 }
 
 // The whole program. Its result is the status that it ends with.
-#[no_mangle]
-pub extern "C" fn dustmap_run() -> i32
+pub fn run_all() -> i32
     ensures { λ r. ⌜ Runs r ⌝ }
 {
     let status = answer_all();

@@ -177,10 +177,10 @@ fn keep_wanted(pool: &[i32], mode: Mode, window: Rect, items: &mut [i32], n: usi
     ensures long { λ _. ⌜ length (now (items .exit)) ≡ length (now (items .entry)) ⌝ }
 {
     let mut count: usize = 0;
-    let mut k: usize = 0;
-    while k < n {
-        count = keep_item(pool, mode, window, items, k, count);
-        k += 1;
+    let mut at: usize = 0;
+    while at < n {
+        count = keep_item(pool, mode, window, items, at, count);
+        at += 1;
     }
     count
 }

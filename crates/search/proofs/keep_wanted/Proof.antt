@@ -7,10 +7,10 @@ use Rattle.search.proofs.keep_wanted.Statement.{statement}
 use Rattle.search.proofs.keep_wanted.Tie as tie
 
 abbrev Inv-loop : tie.InvT-loop
-Inv-loop pool mode window items₀ n count₀ k₀ items count k = Keeping pool mode window items₀ items n count k
+Inv-loop pool mode window items₀ n count₀ at₀ items count at = Keeping pool mode window items₀ items n count at
 
 abbrev μ-loop : tie.MeasureT-loop
-μ-loop pool mode window items₀ n count₀ k₀ items count k = n - k
+μ-loop pool mode window items₀ n count₀ at₀ items count at = n - at
 
 loop-holds : tie.Need-loop-holds Inv-loop μ-loop
 loop-holds c = keeping-first (c .args .pool .now) (c .args .mode) (c .args .window) (c .args .items .now) (c .args .n)
@@ -28,7 +28,7 @@ keep-item-requires c κs =
           omega (
             arith,
             spot-ahead (loop .inv) (loop-test .taken),
-            start .pre .1 .1 .inside (loop .k) (omega arith) (omega (arith, loop-test .taken)),
+            start .pre .1 .1 .inside (loop .at) (omega arith) (omega (arith, loop-test .taken)),
           ),
         ),
       ),
