@@ -132,33 +132,19 @@ module _ (a b : Rect) where
 
 -- ---- questions
 
-any-meeting : (i e : Bool) → isMeeting (meetingAs i e) ≡ true
-unfolding isMeeting meetingAs
-any-meeting true true = refl
-any-meeting true false = refl
-any-meeting false true = refl
-any-meeting false false = refl
+-- of two that meet: each question by the two answers
+pub record Answers (i e : Bool) : Type 0 where
+  pub meeting : isMeeting (meetingAs i e) ≡ true
+  pub inside : isInside (meetingAs i e) ≡ i
+  pub enclosing : isEnclosing (meetingAs i e) ≡ e
+  pub equal : isEqual (meetingAs i e) ≡ (i && e)
 
-inside-as : (i e : Bool) → isInside (meetingAs i e) ≡ i
-unfolding isInside meetingAs
-inside-as true true = refl
-inside-as true false = refl
-inside-as false true = refl
-inside-as false false = refl
-
-enclosing-as : (i e : Bool) → isEnclosing (meetingAs i e) ≡ e
-unfolding isEnclosing meetingAs
-enclosing-as true true = refl
-enclosing-as true false = refl
-enclosing-as false true = refl
-enclosing-as false false = refl
-
-equal-as : (i e : Bool) → isEqual (meetingAs i e) ≡ (i && e)
-unfolding isEqual meetingAs
-equal-as true true = refl
-equal-as true false = refl
-equal-as false true = refl
-equal-as false false = refl
+answers : (i e : Bool) → Answers i e
+unfolding isMeeting isInside isEnclosing isEqual meetingAs
+answers true true = record { meeting = refl; inside = refl; enclosing = refl; equal = refl }
+answers true false = record { meeting = refl; inside = refl; enclosing = refl; equal = refl }
+answers false true = record { meeting = refl; inside = refl; enclosing = refl; equal = refl }
+answers false false = record { meeting = refl; inside = refl; enclosing = refl; equal = refl }
 
 -- a question that is no of two that are apart
 module _ (asks : Relation → Bool) (says : Bool → Bool → Bool) (each : (i e : Bool) → asks (meetingAs i e) ≡ says i e) (no : asks Apart ≡ false)
@@ -174,7 +160,7 @@ module _ (a b : Rect) where
   -- meeting is all but apart
   pub meeting-is : isMeeting (compared a b) ≡ meets a b
   unfolding isMeeting
-  meeting-is = asked-of isMeeting (λ i e. true) any-meeting refl a b ∙ still (meets a b)
+  meeting-is = asked-of isMeeting (λ i e. true) (λ i e. answers i e .meeting) refl a b ∙ still (meets a b)
     where
       still : (t : Bool) → (t && true) ≡ t
       still true = refl
@@ -182,15 +168,15 @@ module _ (a b : Rect) where
 
   pub inside-is : isInside (compared a b) ≡ (meets a b && liesIn a b)
   unfolding isInside
-  inside-is = asked-of isInside (λ i e. i) inside-as refl a b
+  inside-is = asked-of isInside (λ i e. i) (λ i e. answers i e .inside) refl a b
 
   pub enclosing-is : isEnclosing (compared a b) ≡ (meets a b && liesIn b a)
   unfolding isEnclosing
-  enclosing-is = asked-of isEnclosing (λ i e. e) enclosing-as refl a b
+  enclosing-is = asked-of isEnclosing (λ i e. e) (λ i e. answers i e .enclosing) refl a b
 
   equal-is : isEqual (compared a b) ≡ (meets a b && (liesIn a b && liesIn b a))
   unfolding isEqual
-  equal-is = asked-of isEqual (λ i e. i && e) equal-as refl a b
+  equal-is = asked-of isEqual (λ i e. i && e) (λ i e. answers i e .equal) refl a b
 
   -- equal are the same
   pub equal-same : isEqual (compared a b) ≡ true → a ≡ b
