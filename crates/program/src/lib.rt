@@ -444,7 +444,8 @@ fn report(status: i32) {
 }
 
 // The whole program. Its result is the status that it ends with.
-pub fn run_all() -> i32
+#[no_mangle]
+pub extern "C" fn dustmap_run() -> i32
     ensures { λ r. ⌜ Runs r ⌝ }
 {
     let status = answer_all();
