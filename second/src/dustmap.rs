@@ -3,6 +3,7 @@
 use crate::call::{
     call, Answer, Found, Request, DELETE, ENCLOSING, INSERT, INSIDE, SEARCH, UPDATE,
 };
+use crate::frames::{take_frame, Frame};
 use crate::pool::{blank, HEAD_WORDS, SLOT_WORDS};
 
 /// "a 128-slot pool (5,384 words)"
@@ -66,49 +67,29 @@ impl Station {
     }
 }
 
-/// "two bytes length of what follows, two bytes kind, then signed 32-bit words, all
-/// little-endian". Takes the frame off the front.
+/// Takes the frame off the front: cut or without a kind it is a bad frame.
 fn next_frame(rest: &mut &[u8]) -> Result<Request, BadFrame> {
-    let length = usize::from(take_two(rest)?);
-    if rest.len() < length {
-        return Err(BadFrame);
-    }
-    let (mut body, after) = rest.split_at(length);
-    *rest = after;
-    let kind = i32::from(take_two(&mut body)?);
-    request_of(kind, length, body)
+    request_of(&take_frame(rest).ok_or(BadFrame)?)
 }
 
 /// "Kind 1 insert and 2 delete: number, rectangle (length 22). 3 update: number, old, new (38).
 /// 4 search: window (18)." And "kinds 5 and 6, of the same layout, are inside and enclosing".
-fn request_of(kind: i32, length: usize, body: &[u8]) -> Result<Request, BadFrame> {
-    match (kind, length) {
+fn request_of(frame: &Frame) -> Result<Request, BadFrame> {
+    let kind = i32::from(frame.kind);
+    match (kind, frame.length) {
         (INSERT | DELETE, 22) => {
-            let w = words_of(body);
+            let w = frame.words();
             Ok(Request { kind, number: w[0], first: four(&w[1..5]), second: [0; 4] })
         }
         (UPDATE, 38) => {
-            let w = words_of(body);
+            let w = frame.words();
             Ok(Request { kind, number: w[0], first: four(&w[1..5]), second: four(&w[5..9]) })
         }
         (SEARCH | INSIDE | ENCLOSING, 18) => {
-            Ok(Request { kind, ..Request::search(four(&words_of(body))) })
+            Ok(Request { kind, ..Request::search(four(&frame.words())) })
         }
         _ => Err(BadFrame),
     }
-}
-
-fn take_two(rest: &mut &[u8]) -> Result<u16, BadFrame> {
-    if rest.len() < 2 {
-        return Err(BadFrame);
-    }
-    let value = u16::from_le_bytes([rest[0], rest[1]]);
-    *rest = &rest[2..];
-    Ok(value)
-}
-
-fn words_of(body: &[u8]) -> Vec<i32> {
-    body.chunks_exact(4).map(|b| i32::from_le_bytes([b[0], b[1], b[2], b[3]])).collect()
 }
 
 fn four(words: &[i32]) -> [i32; 4] {

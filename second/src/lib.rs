@@ -1,18 +1,25 @@
 //! A second, independent program for the dust map: an R-tree in a pool of 32-bit words.
 //!
-//! Written from the documents (01, and of 02 the zones wholly inside and the surveyor's boxes) and
-//! Guttman's 1984 paper alone, plainly and without care for speed, so that others can be compared
-//! with it. Sentences in quotes are the documents'; names such as CL3 or CT6 are the paper's steps.
+//! Written from the documents (01, and of 02 the zones wholly inside, the map carried between
+//! offices and the surveyor's boxes) and Guttman's 1984 paper alone, plainly and without care for
+//! speed, so that others can be compared with it. Sentences in quotes are the documents'; names
+//! such as CL3 or CT6 are the paper's steps.
 
 #![forbid(unsafe_code)]
 
 pub mod call;
+pub mod carried;
+pub mod carry;
 pub mod choose;
 pub mod damage;
 pub mod dice;
 pub mod dustmap;
 pub mod events;
 pub mod exact;
+pub mod files;
+pub mod files_drawn;
+pub mod files_kept;
+pub mod frames;
 pub mod generate;
 pub mod geometry;
 pub mod mode;
@@ -26,6 +33,7 @@ pub mod survey;
 pub mod tree;
 
 pub use call::{call, call_counting, Answer, Found, Request};
+pub use carry::{read, write};
 pub use choose::{choose_child, pick_seeds, split_nine};
 pub use events::Events;
 pub use exact::Exact;

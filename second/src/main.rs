@@ -1,17 +1,19 @@
 //! `second dustmap | script | generate STYLE SEED N COUNT | damage SEED N | survey SEED COUNT |
-//! selftest`
+//! carry | carry SEED COUNT | selftest`
 
 use std::io::{Read, Write};
 use std::process::ExitCode;
 
 use second::style::Style;
-use second::{damage, dustmap, generate, queries, script, selftest};
+use second::{damage, dustmap, files, generate, queries, script, selftest};
 
 const USAGE: &str = "usage: second dustmap
        second script
        second generate STYLE SEED N COUNT
        second damage SEED N
        second survey SEED COUNT
+       second carry
+       second carry SEED COUNT
        second selftest
 styles: random clustered grid points lines duplicates limits churn";
 
@@ -42,6 +44,8 @@ fn run(arguments: &[&str]) -> Result<(Vec<u8>, ExitCode), String> {
         }
         ["damage", seed, slots] => damage::script(number(seed)?, slot_count(slots)?),
         ["survey", seed, count] => queries::cases(number(seed)?, number(count)? as usize),
+        ["carry"] => files::run(&text_input()?)?,
+        ["carry", seed, count] => files::cases(number(seed)?, number(count)? as usize),
         ["selftest"] => return Ok(tested()),
         _ => return Err(USAGE.to_string()),
     };

@@ -6,6 +6,7 @@
 use crate::call::{
     call, call_counting, Answer, Found, Request, DELETE, ENCLOSING, INSERT, INSIDE, UPDATE,
 };
+use crate::carried;
 use crate::dice::Dice;
 use crate::events::Events;
 use crate::generate::{pair_of, Generator};
@@ -44,6 +45,9 @@ pub struct Report {
     /// How often each of 3 to 8 was answered.
     refused: [u64; 9],
     tallest: i32,
+    /// Pools that were carried to another of the same length, and those that had no room there.
+    carried: u64,
+    carried_refused_7: u64,
     events: Events,
 }
 
@@ -54,12 +58,14 @@ impl Report {
         let refused: Vec<String> =
             (3..=8).map(|n| format!("refused_{n}={}", self.refused[n])).collect();
         lines.push(format!(
-            "{} {} requests={} accepted={} tallest={}",
+            "{} {} requests={} accepted={} tallest={} carried={} carried_refused_7={}",
             self.events.line(),
             refused.join(" "),
             self.requests,
             self.accepted,
-            self.tallest
+            self.tallest,
+            self.carried,
+            self.carried_refused_7
         ));
         lines.push(format!("{} passed, {} failed\n", self.passed, self.failed));
         lines.join("\n")
@@ -98,12 +104,13 @@ pub fn run() -> Report {
     report
 }
 
-/// Every event and every refusal of a request has to have happened.
+/// Every event and every refusal of a request has to have happened, and both ends of a carrying.
 fn check_all_happened(report: &mut Report) {
     let never = |count: u64| count == 0;
     let events = report.events.named();
+    let carried = [("carried", report.carried), ("carried_refused_7", report.carried_refused_7)];
     let refused: Vec<u64> = report.refused[3..=8].to_vec();
-    for (name, count) in events {
+    for (name, count) in events.into_iter().chain(carried) {
         if never(count) {
             report.fail(format!("{name} never happened"));
         }
@@ -145,7 +152,12 @@ fn one_history(
     for place in 1..=count {
         trial.step(report).map_err(|why| format!("request {place}: {why}"))?;
     }
-    check_as_one_batch(&mut trial, slots)
+    check_as_one_batch(&mut trial, slots)?;
+    match carried::check(&trial.pool, trial.generator.in_force())? {
+        0 => report.carried += 1,
+        _ => report.carried_refused_7 += 1,
+    }
+    Ok(())
 }
 
 impl Trial {
@@ -234,7 +246,7 @@ impl Trial {
     }
 }
 
-fn ensure(holds: bool, why: &str) -> Result<(), String> {
+pub(crate) fn ensure(holds: bool, why: &str) -> Result<(), String> {
     holds.then_some(()).ok_or_else(|| why.to_string())
 }
 
@@ -289,7 +301,7 @@ fn check_update_in_two(before: &[i32], request: Request, after: &[i32]) -> Resul
 }
 
 /// A change as a batch of one; gives the answer's number.
-fn do_one(pool: &mut [i32], request: Request) -> i32 {
+pub(crate) fn do_one(pool: &mut [i32], request: Request) -> i32 {
     let mut work = vec![0; pool.len()];
     let mut answers = [Answer::default()];
     match call(pool, &mut work, &[request], &mut answers, &mut []) {

@@ -16,7 +16,7 @@ FOUND = Slice("found", "f", True, RECORD, "fs", 4)
 ALL_ASKED = Callee("batch", "all_asked", "all-asked")
 REFUSAL = Callee("batch", "refusal", "refusal")
 SERVE = Callee("batch", "serve", "serve")
-COPY = Callee("request", "copy", "copy")
+COPY = Callee("pool", "copy", "copy")
 
 # pointers of `&*x`, `&mut *x`, and the slices of them
 SEEN, CHANGED = "tyRef erased imm (tyInt w32)", "tyRef erased mut (tyInt w32)"
@@ -141,7 +141,7 @@ def serves():
 def copies():
     """The workspace becomes the pool."""
     walk = Walk(DONE, 10)
-    walk.note("request::copy(pool, work);")
+    walk.note("pool::copy(pool, work);")
     walk.lend(23, 24, 1, "room-p .0")
     walk.rewrite("_24", CALL.holds(24, "sliceVal (bp, op) m", "m : ℕ"), "sym lp")
     walk.lend(25, 26, 2, "room-w .0")

@@ -46,22 +46,12 @@ fn lists_fit(requests: usize, answers: usize) -> bool
     answers == requests
 }
 
-// False where 1 is given: "pool length wrong, or workspace length differs from the pool's".
-fn lengths_fit(pool: &[i32], workspace: usize) -> bool
-    ensures { λ r. ⌜ not r ≡ (not (L.validLength (now (pool .entry))) || not (eqb workspace (length (now (pool .entry))))) ⌝ }
-{
-    if !pool::valid_length(pool) {
-        return false;
-    }
-    workspace == pool.len()
-}
-
 // "The table's order is the order of checks.": 9, 1, 2; last, -1 for a list that holds something which is no request. 0 where nothing refuses.
 pub fn refusal(pool: &[i32], workspace: usize, requests: usize, answers: usize, asked: bool) -> i32
     ensures { λ r. ⌜ r ≡ refusalOf (now (pool .entry)) workspace requests answers asked ⌝ }
 {
     let lists = lists_fit(requests, answers);
-    let lengths = lengths_fit(pool, workspace);
+    let lengths = pool::lengths_fit(pool, workspace);
     if !lists {
         return 9;
     }

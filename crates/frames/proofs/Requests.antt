@@ -22,7 +22,7 @@ use Rattle.rules.specs.Request.{asked}
 use Rattle.rules.specs.Call.{isRequest}
 use Rattle.rules.specs.Frames.{Frame, wordValues, rectIn, requestIn, ofKind, windowIn, frameRequest}
 use Rattle.frames.specs.Reading.{searchKind, kindLength, someLength}
-use Rattle.frames.specs.Places.{wordBytes, rectBytes, changeFrom, updateFrom, searchFrom, requestFrom}
+use Rattle.frames.specs.Places.{wordFrom, rectOfBytes, changeFrom, updateFrom, searchFrom, requestFrom}
 use Rattle.frames.proofs.Words.{word-in}
 
 pub true-false : true ≡ false → ⊥
@@ -192,8 +192,8 @@ frameFrom k n bs = record { kind = k; body = take (4 * n) (drop 4 bs) }
 body-length : (n : ℕ) (bs : List ℕ) → 4 + 4 * n ≤ length bs → length (take (4 * n) (drop 4 bs)) ≡ 4 * n
 body-length n bs h = length-take-le (4 * n) (drop 4 bs) (omega (arith, length-drop 4 bs))
 
-rect-in : (bs : List ℕ) (n i : ℕ) → i + 3 < n → rectIn (wordValues n (take (4 * n) (drop 4 bs))) i ≡ rectBytes bs (4 + 4 * i)
-unfolding rectIn rectBytes
+rect-in : (bs : List ℕ) (n i : ℕ) → i + 3 < n → rectIn (wordValues n (take (4 * n) (drop 4 bs))) i ≡ rectOfBytes bs (4 + 4 * i)
+unfolding rectIn rectOfBytes
 rect-in bs n i h =
     let e1 : 4 + 4 * (i + 1) ≡ 4 + 4 * i + 4 = omega arith in
     let e2 : 4 + 4 * (i + 2) ≡ 4 + 4 * i + 8 = omega arith in
@@ -256,22 +256,22 @@ search-is k bs l m h =
 -- ---- what the code makes of each kind
 
 module _ (bs : List ℕ) where
-  pub rect-made : (p : ℕ) {a b c d : ℤ} → a ≡ wordBytes bs p → b ≡ wordBytes bs (p + 4) → c ≡ wordBytes bs (p + 8) → d ≡ wordBytes bs (p + 12)
-      → rectangle a b c d ≡ rectBytes bs p
-  unfolding rectBytes
+  pub rect-made : (p : ℕ) {a b c d : ℤ} → a ≡ wordFrom bs p → b ≡ wordFrom bs (p + 4) → c ≡ wordFrom bs (p + 8) → d ≡ wordFrom bs (p + 12)
+      → rectangle a b c d ≡ rectOfBytes bs p
+  unfolding rectOfBytes
   rect-made p e f g h = λ i. rectangle (e i) (f i) (g i) (h i)
 
-  pub change-made : {k : ℤ} (k′ : ℤ) {n : ℤ} {a b : Rect} → k ≡ k′ → n ≡ wordBytes bs 4 → a ≡ rectBytes bs 8 → b ≡ noRect
+  pub change-made : {k : ℤ} (k′ : ℤ) {n : ℤ} {a b : Rect} → k ≡ k′ → n ≡ wordFrom bs 4 → a ≡ rectOfBytes bs 8 → b ≡ noRect
       → record { kind = k; number = number n; first = a; second = b } ≡ changeFrom k′ bs
   unfolding changeFrom requestIn
   change-made k′ e f g h = λ i. record { kind = e i; number = number (f i); first = g i; second = h i }
 
-  pub update-made : {n : ℤ} {a b : Rect} → n ≡ wordBytes bs 4 → a ≡ rectBytes bs 8 → b ≡ rectBytes bs 24
+  pub update-made : {n : ℤ} {a b : Rect} → n ≡ wordFrom bs 4 → a ≡ rectOfBytes bs 8 → b ≡ rectOfBytes bs 24
       → record { kind = pos 3; number = number n; first = a; second = b } ≡ updateFrom bs
   unfolding updateFrom requestIn
   update-made f g h = λ i. record { kind = pos 3; number = number (f i); first = g i; second = h i }
 
-  pub search-made : {k : ℤ} (k′ : ℤ) {a b : Rect} → k ≡ k′ → a ≡ rectBytes bs 4 → b ≡ noRect
+  pub search-made : {k : ℤ} (k′ : ℤ) {a b : Rect} → k ≡ k′ → a ≡ rectOfBytes bs 4 → b ≡ noRect
       → record { kind = k; number = number (pos 0); first = a; second = b } ≡ searchFrom k′ bs
   unfolding searchFrom requestIn
   search-made k′ e g h = λ i. record { kind = e i; number = number (pos 0); first = g i; second = h i }

@@ -31,6 +31,22 @@ wrote-then {l} {a} {m} {b} {o} {at} {n} {p} v w =
       bytes = w .bytes ∙ rw (v .bytes, v .place) (sets-append a b l at);
     }
 
+-- one byte more, at the next place; and so two and four
+wrote-next : {l a m : List ℕ} {at n : ℕ} → Wrote l at a m n → (x p : ℕ) → p ≡ n → Wrote l at (a ++ x ∷ []) (set m p x) (p + 1)
+wrote-next {l} {a} {m} {at} {n} w x p e = rw e (wrote-then w (wrote-byte m n x))
+
+pub wrote-two : (l : List ℕ) (at : ℕ) {a b x y : ℕ} → x ≡ a → y ≡ b → Wrote l at (a ∷ b ∷ []) (set (set l at x) (at + 1) y) (at + 2)
+wrote-two l at {a} {b} {x} {y} e f =
+    let w = wrote-next (wrote-byte l at x) y (at + 1) refl in
+    record { place = refl; bytes = w .bytes ∙ rw (e, f) }
+
+pub wrote-four : (l : List ℕ) (at : ℕ) {a b c d w x y z : ℕ} → w ≡ a → x ≡ b → y ≡ c → z ≡ d
+    → Wrote l at (a ∷ b ∷ c ∷ d ∷ []) (set (set (set (set l at w) (at + 1) x) (at + 2) y) (at + 3) z) (at + 4)
+wrote-four l at {a} {b} {c} {d} {w} {x} {y} {z} e f g h =
+    let two = wrote-next (wrote-byte l at w) x (at + 1) refl in
+    let four = wrote-next (wrote-next two y (at + 2) (omega arith)) z (at + 3) (omega arith) in
+    record { place = refl; bytes = four .bytes ∙ rw (e, f, g, h) }
+
 pub wrote-as : {l a b m : List ℕ} {at n : ℕ} → a ≡ b → Wrote l at a m n → Wrote l at b m n
 wrote-as {l} {a} {b} {m} {at} {n} e w = subst (λ (t : List ℕ). Wrote l at t m n) e w
 

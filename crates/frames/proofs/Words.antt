@@ -14,7 +14,7 @@ use mir.Val.{SFits, toZ, ofZ}
 use mir.Facts.{toZ-ofZ, toZ-pos, sfits-widen}
 use Rattle.rules.specs.Layout.{wordAt}
 use Rattle.rules.specs.Frames.{byteAt, pairValue, signed, wordValue, wordValues}
-use Rattle.frames.specs.Places.{lift, wordBytes}
+use Rattle.frames.specs.Places.{lift, wordFrom}
 
 -- ---- the sign
 
@@ -98,7 +98,7 @@ words-at (suc n) (suc i) bs h =
     ∙ ap (λ (l : List ℕ). wordValue (take 4 l)) (drop-drop (4 * i) 4 bs ∙ ap (λ (k : ℕ). drop k bs) e)
 
 -- the words of a frame stand from byte 4 on
-pub word-in : (bs : List ℕ) (n i : ℕ) → i < n → wordAt (wordValues n (take (4 * n) (drop 4 bs))) i ≡ wordBytes bs (4 + 4 * i)
+pub word-in : (bs : List ℕ) (n i : ℕ) → i < n → wordAt (wordValues n (take (4 * n) (drop 4 bs))) i ≡ wordFrom bs (4 + 4 * i)
 word-in bs n i h =
     let body = take (4 * n) (drop 4 bs) in
     let same : (k : ℕ) → k < 4 → getD body (4 * i + k) 0 ≡ getD bs (4 + 4 * i + k) 0 =

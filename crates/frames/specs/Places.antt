@@ -13,20 +13,20 @@ use Rattle.rules.specs.Geometry.{noRect}
 use Rattle.rules.specs.Frames.{wordValue, requestIn}
 use Rattle.frames.specs.Reading.{searchKind}
 
-abbrev pub wordBytes : List ℕ → ℕ → ℤ
-wordBytes bs p = wordValue (take 4 (drop p bs))
+abbrev pub wordFrom : List ℕ → ℕ → ℤ
+wordFrom bs p = wordValue (take 4 (drop p bs))
 
-unfoldable pub rectBytes : List ℕ → ℕ → Rect
-rectBytes bs p = rectangle (wordBytes bs p) (wordBytes bs (p + 4)) (wordBytes bs (p + 8)) (wordBytes bs (p + 12))
+unfoldable pub rectOfBytes : List ℕ → ℕ → Rect
+rectOfBytes bs p = rectangle (wordFrom bs p) (wordFrom bs (p + 4)) (wordFrom bs (p + 8)) (wordFrom bs (p + 12))
 
 unfoldable pub changeFrom : ℤ → List ℕ → Request
-changeFrom k bs = requestIn k (wordBytes bs 4) (rectBytes bs 8) noRect
+changeFrom k bs = requestIn k (wordFrom bs 4) (rectOfBytes bs 8) noRect
 
 unfoldable pub updateFrom : List ℕ → Request
-updateFrom bs = requestIn (pos 3) (wordBytes bs 4) (rectBytes bs 8) (rectBytes bs 24)
+updateFrom bs = requestIn (pos 3) (wordFrom bs 4) (rectOfBytes bs 8) (rectOfBytes bs 24)
 
 unfoldable pub searchFrom : ℤ → List ℕ → Request
-searchFrom k bs = requestIn k (pos 0) (rectBytes bs 4) noRect
+searchFrom k bs = requestIn k (pos 0) (rectOfBytes bs 4) noRect
 
 unfoldable pub requestFrom : ℕ → List ℕ → Request
 requestFrom k bs = cond (eqb k 3) (updateFrom bs) (cond (searchKind k) (searchFrom (pos k) bs) (changeFrom (pos k) bs))

@@ -1,12 +1,13 @@
-// Frames in, lines out: the bytes that `dustmap` reads and writes. There is no pool here and no system call.
+// Frames in, lines out: the bytes that `dustmap` reads and writes, and the numbers of a file's frames. There is no pool here and no system call.
 ghost use mathlib.Core.Path.{_≡_};
 ghost use mathlib.Core.List.{[], _∷_, _++_};
-ghost use Prim.Native.Nat.{suc, min, _+_, _*_, _-_, _≤_, _<_};
+ghost use Prim.Native.Nat.{suc, min, _+_, _*_, _-_, _%_, _≤_, _<_};
 ghost use lib.ListN.{length, take, drop, getD};
 ghost use Rattle.rules.specs.Geometry.{noRect};
 ghost use Rattle.rules.specs.Frames as F;
+ghost use Rattle.rules.specs.File.{pairBytes, unsigned, wordBytes};
 ghost use Rattle.frames.specs.Reading.{kindLength, someLength, framed};
-ghost use Rattle.frames.specs.Places.{wordBytes, rectBytes, changeFrom, updateFrom, searchFrom, requestFrom, lift};
+ghost use Rattle.frames.specs.Places.{wordFrom, rectOfBytes, changeFrom, updateFrom, searchFrom, requestFrom, lift};
 ghost use Rattle.frames.specs.Writing.{Wrote};
 use rules::Answer;
 use rules::Record;
@@ -24,7 +25,7 @@ fn wide(x: u8) -> u64
 }
 
 // Two bytes, the lowest first.
-fn pair_at(bytes: &[u8], at: usize) -> u64
+pub fn pair_at(bytes: &[u8], at: usize) -> u64
     requires { ⌜ at + 2 ≤ length (now bytes) ⌝ }
     ensures is { λ r. ⌜ r ≡ F.pairValue (take 2 (drop at (now (bytes .entry)))) ⌝ }
     ensures small { λ r. ⌜ r < 65536 ⌝ }
@@ -60,7 +61,7 @@ fn signed(n: u64) -> i32
 // A "signed 32-bit" word.
 pub fn word_at(bytes: &[u8], at: usize) -> i32
     requires { ⌜ at + 4 ≤ length (now bytes) ⌝ }
-    ensures { λ r. ⌜ r ≡ wordBytes (now (bytes .entry)) at ⌝ }
+    ensures { λ r. ⌜ r ≡ wordFrom (now (bytes .entry)) at ⌝ }
 {
     signed(unsigned_at(bytes, at))
 }
@@ -68,7 +69,7 @@ pub fn word_at(bytes: &[u8], at: usize) -> i32
 // Low x, low y, high x, high y.
 pub fn rect_at(bytes: &[u8], at: usize) -> Rect
     requires { ⌜ at + 16 ≤ length (now bytes) ⌝ }
-    ensures { λ r. ⌜ r ≡ rectBytes (now (bytes .entry)) at ⌝ }
+    ensures { λ r. ⌜ r ≡ rectOfBytes (now (bytes .entry)) at ⌝ }
 {
     let lowX = word_at(bytes, at);
     let lowY = word_at(bytes, at + 4);
@@ -80,6 +81,58 @@ pub fn rect_at(bytes: &[u8], at: usize) -> Rect
         highX,
         highY,
     }
+}
+
+// ---- numbers, as their bytes. Each of these gives the place after what it wrote
+
+// The lowest byte of a number.
+fn low_byte(n: u64) -> u8
+    ensures { λ r. ⌜ r ≡ n % 256 ⌝ }
+{
+    (n % 256) as u8
+}
+
+// Two bytes, the lowest first.
+pub fn put_pair(out: &mut [u8], at: usize, n: u64) -> usize
+    requires { ⌜ at + 2 ≤ length (now out) ⌝ }
+    ensures { λ r. ⌜ Wrote (now (out .entry)) at (pairBytes n) (now (out .exit)) r ⌝ }
+{
+    out[at] = low_byte(n);
+    out[at + 1] = low_byte(n / 256);
+    at + 2
+}
+
+// A number with a sign, counted from the least that 32 bits hold.
+fn lifted(z: i32) -> u64
+    ensures is { λ r. ⌜ r ≡ lift z ⌝ }
+    ensures small { λ r. ⌜ r < 4294967296 ⌝ }
+{
+    (z as i64 + 2147483648) as u64
+}
+
+// The number that the bits of a word are.
+fn unsigned(z: i32) -> u64
+    ensures { λ r. ⌜ r ≡ unsigned z ⌝ }
+{
+    let up = lifted(z);
+    if up < 2147483648 {
+        up + 2147483648
+    } else {
+        up - 2147483648
+    }
+}
+
+// A "signed 32-bit" word.
+pub fn put_word(out: &mut [u8], at: usize, z: i32) -> usize
+    requires { ⌜ at + 4 ≤ length (now out) ⌝ }
+    ensures { λ r. ⌜ Wrote (now (out .entry)) at (wordBytes z) (now (out .exit)) r ⌝ }
+{
+    let n = unsigned(z);
+    out[at] = low_byte(n);
+    out[at + 1] = low_byte(n / 256);
+    out[at + 2] = low_byte(n / 65536);
+    out[at + 3] = low_byte(n / 16777216);
+    at + 4
 }
 
 // ---- frames
@@ -257,14 +310,6 @@ fn put_field(out: &mut [u8], at: usize, n: u64, after: u8) -> usize
     let end = put_number(out, at, n);
     out[end] = after;
     end + 1
-}
-
-// A number with a sign, counted from the least that 32 bits hold.
-fn lifted(z: i32) -> u64
-    ensures is { λ r. ⌜ r ≡ lift z ⌝ }
-    ensures small { λ r. ⌜ r < 4294967296 ⌝ }
-{
-    (z as i64 + 2147483648) as u64
 }
 
 // A number with its sign, and the byte after it.

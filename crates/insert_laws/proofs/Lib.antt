@@ -12,5 +12,6 @@ pub mod Standing
 pub mod Whole
 pub mod Taken
 pub mod Slots
+pub mod Enough
 pub mod Halves
 pub mod Widened

@@ -49,7 +49,7 @@ pub extern "C" fn dustmap_call(
     }
     batch::serve(pool, work, requests, answers, found);
     // "On return 0 the workspace equals the pool."
-    request::copy(pool, work);
+    pool::copy(pool, work);
     0
 }
 

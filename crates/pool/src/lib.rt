@@ -2,12 +2,13 @@
 // written; `tidy` asks whether the words are a pool's and nothing else, `blank` makes them those of a blank pool. What is read is what
 // the definition `read` reads, of any words of a valid length.
 ghost use mathlib.Core.Path.{_≡_};
-ghost use mathlib.Core.Bool.{true, false};
+ghost use mathlib.Core.Bool.{true, false, not, _||_};
 ghost use mathlib.Core.List.{[], _∷_, _++_};
 ghost use Prim.Native.Nat.{_+_, _<_, _≤_};
+ghost use lib.Dec.{eqb};
 ghost use lib.ListN.{length, set, take, drop};
 ghost use lib.Seq.{sets};
-ghost use Rattle.rules.specs.Numbers.{most, mostSlots};
+ghost use Rattle.rules.specs.Numbers.{goodNumber, most, mostSlots};
 ghost use Rattle.rules.specs.Layout as L;
 ghost use Rattle.rules.specs.Pool as P;
 ghost use Rattle.rules.specs.Choose.{rectFrom};
@@ -110,6 +111,38 @@ pub fn valid_length(pool: &[i32]) -> bool
         return false;
     }
     pool.len() == HEAD_SIZE + SLOT_SIZE * n
+}
+
+// False where 1 is given: "pool length wrong, or workspace length differs from the pool's".
+pub fn lengths_fit(pool: &[i32], workspace: usize) -> bool
+    ensures { λ r. ⌜ not r ≡ (not (L.validLength (now (pool .entry))) || not (eqb workspace (length (now (pool .entry))))) ⌝ }
+{
+    if !valid_length(pool) {
+        return false;
+    }
+    workspace == pool.len()
+}
+
+// "Record numbers: 1 to 2,147,483,647."
+pub fn good_number(n: RecordNumber) -> bool
+    ensures { λ r. ⌜ r ≡ goodNumber n ⌝ }
+{
+    let k = n.0;
+    geometry::le(1, k)
+}
+
+// ---- a copy
+
+// The words of one list into another of the same length.
+pub fn copy(source: &[i32], target: &mut [i32])
+    requires { ⌜ length (now source) ≡ length (now target) ⌝ }
+    ensures { λ _. ⌜ now (target .exit) ≡ now (source .entry) ⌝ }
+{
+    let mut i: usize = 0;
+    while i < target.len() {
+        target[i] = source[i];
+        i += 1;
+    }
 }
 
 // ---- a word read

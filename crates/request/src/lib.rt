@@ -44,14 +44,6 @@ pub struct Served {
 
 // ---- requests and answers
 
-// "Record numbers: 1 to 2,147,483,647."
-fn good_number(n: RecordNumber) -> bool
-    ensures { λ r. ⌜ r ≡ N.goodNumber n ⌝ }
-{
-    let k = n.0;
-    geometry::le(1, k)
-}
-
 // "kind 4 keeps meeting; kinds 5 and 6, of the same layout, are inside and enclosing".
 fn mode_of(kind: i32) -> Mode
     ensures { λ m. ⌜ m ≡ modeOf kind ⌝ }
@@ -131,18 +123,6 @@ fn answer_of(reply: Reply) -> Answer
 
 // ---- a copy of the pool
 
-// The words of one list into another of the same length.
-pub fn copy(source: &[i32], target: &mut [i32])
-    requires { ⌜ length (now source) ≡ length (now target) ⌝ }
-    ensures { λ _. ⌜ now (target .exit) ≡ now (source .entry) ⌝ }
-{
-    let mut i: usize = 0;
-    while i < target.len() {
-        target[i] = source[i];
-        i += 1;
-    }
-}
-
 // The pool is kept in the workspace where a change may be refused halfway: it is then taken back from there.
 fn keep(pool: &[i32], work: &mut [i32], halfway: bool)
     requires { ⌜ length (now pool) ≡ length (now work) ⌝ }
@@ -150,7 +130,7 @@ fn keep(pool: &[i32], work: &mut [i32], halfway: bool)
     ensures kept { λ _. ⌜ (halfway ≡ true → now (work .exit) ≡ now (pool .entry)) ⌝ }
 {
     if halfway {
-        copy(pool, work);
+        pool::copy(pool, work);
     }
 }
 
@@ -161,7 +141,7 @@ fn take_back(pool: &mut [i32], kept: &[i32], o: Outcome)
 {
     match o {
         Outcome::Made(_) => {}
-        Outcome::Refused => copy(kept, pool),
+        Outcome::Refused => pool::copy(kept, pool),
     }
 }
 
@@ -199,7 +179,7 @@ fn insert(pool: &mut [i32], r: Record, free: FreeSlots) -> Served
     if !geometry::valid(rect) {
         return told(Reply::BadRectangle, free);
     }
-    if !good_number(number) {
+    if !pool::good_number(number) {
         return told(Reply::BadNumber, free);
     }
     if find_leaf::holds(pool, r) {
@@ -254,7 +234,7 @@ fn delete(pool: &mut [i32], work: &mut [i32], r: Record, free: FreeSlots) -> Ser
     if !geometry::valid(rect) {
         return told(Reply::BadRectangle, free);
     }
-    if !good_number(number) {
+    if !pool::good_number(number) {
         return told(Reply::BadNumber, free);
     }
     let way = find_leaf::find_leaf(pool, r);
@@ -313,7 +293,7 @@ fn update(pool: &mut [i32], work: &mut [i32], old: Record, new: Rect, free: Free
     if !geometry::valid(new) {
         return told(Reply::BadRectangle, free);
     }
-    if !good_number(number) {
+    if !pool::good_number(number) {
         return told(Reply::BadNumber, free);
     }
     let way = find_leaf::find_leaf(pool, old);

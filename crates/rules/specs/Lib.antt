@@ -1,5 +1,5 @@
 -- Document 01 as definitions, in the document's order. `call` in Call.antt is the top, and everything else is a part of it; of document 02,
--- Compare is Req 01, and Doubles and Survey are Req 03.
+-- Compare is Req 01, File is Req 02, and Doubles and Survey are Req 03.
 pub mod Lists
 pub mod Numbers
 pub mod Geometry
@@ -17,10 +17,12 @@ pub mod Answers
 pub mod Request
 pub mod Call
 pub mod Frames
+pub mod File
 pub mod Doubles
 pub mod Survey
 pub mod Computed
 pub mod Histories
 pub mod Examples
 pub mod ModeExamples
+pub mod FileExamples
 pub mod SurveyExamples

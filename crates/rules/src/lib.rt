@@ -145,3 +145,15 @@ pub enum Surveyed {
     Rounded(Rect),
     BadSurvey,
 }
+
+// Req 02: what refuses a file, or a write of one: a case for each number of its refusals.
+pub enum FileFault {
+    BadLength,
+    NotSound,
+    BadRectangle,
+    BadNumber,
+    NoSlot,
+    ShortBuffer,
+    BadFrame,
+    NotAfter,
+}

@@ -76,10 +76,10 @@ use Rattle.batch.proofs.serve as serve
 use Rattle.batch.proofs.serve.Symbol as serve-def
 use Rattle.batch.proofs.serve.Symbol.{name as #batch·serve}
 use Rattle.batch.proofs.serve.Met as serve-thm
-use Rattle.request.proofs.copy as copy
-use Rattle.request.proofs.copy.Symbol as copy-def
-use Rattle.request.proofs.copy.Symbol.{name as #request·copy}
-use Rattle.request.proofs.copy.Met as copy-thm
+use Rattle.pool.proofs.copy as copy
+use Rattle.pool.proofs.copy.Symbol as copy-def
+use Rattle.pool.proofs.copy.Symbol.{name as #pool·copy}
+use Rattle.pool.proofs.copy.Met as copy-thm
 use Rattle.map.proofs.dustmap_call.Key.{name as #map·dustmap-call}
 use Rattle.map.proofs.dustmap_call as dustmap-call′
 use Rattle.map.proofs.dustmap_call.Statement as stated
@@ -230,7 +230,7 @@ module _ {M : Type 1} (𝓤 : URA M) (H : Heap 𝓤) (A : Atoms 𝓤) (W : Given
       (known-all-asked : Triple 𝓤 (𝓣 .C #batch·all-asked) (AllAskedC 𝓤 H A mem run))
       (known-refusal : Triple 𝓤 (𝓣 .C #batch·refusal) (RefusalC 𝓤 H A mem run))
       (known-serve : Triple 𝓤 (𝓣 .C #batch·serve) (ServeC 𝓤 H A mem run))
-      (known-copy : Triple 𝓤 (𝓣 .C #request·copy) (CopyC 𝓤 H A mem run)) where
+      (known-copy : Triple 𝓤 (𝓣 .C #pool·copy) (CopyC 𝓤 H A mem run)) where
     module _ (l₀ l₁ l₂ l₃ l₄ l₅ l₆ l₇ l₈ l₉ l₁₀ l₁₁ l₁₂ l₁₃ l₁₄ l₁₅ l₁₆ l₁₇ l₁₈ l₁₉ l₂₀ l₂₁ l₂₂ l₂₃ l₂₄ l₂₅ l₂₆ : ℕ) where
       -- the locals: the type of each, and where it lies
       abbrev E : Env 𝓤 H
@@ -260,7 +260,7 @@ module _ {M : Type 1} (𝓤 : URA M) (H : Heap 𝓤) (A : Atoms 𝓤) (W : Given
           → length nr ≡ length rs → length nf ≡ length fs → Batched (batchOf l) np nr nf → Sq W (lists np nw nr nf ++ holding [])
           (runs (𝓣 .C) (𝓣 .Λ) E mir.t-19 (atRet E Post))
       copies h np nw nr nf lp lw lr lf b =
-          -- request::copy(pool, work);
+          -- pool::copy(pool, work);
           puts ! (pointed ! 12 refl (sub ! 0 refl (whole !))) (init ! 56 refl (tt, tt)) $
           puts ! (agg ! (and-then ! (held ! 56 refl) (and-then ! (part ! 12 refl (sub ! 1 refl (whole !))) (no-more !))))
           (init ! 58 refl (tt, (tt, (record { fits = room-p .0 }, tt)))) $
@@ -474,7 +474,7 @@ module _ {M : Type 1} (𝓤 : URA M) (H : Heap 𝓤) (A : Atoms 𝓤) (W : Given
 module _ {M : Type 1} (𝓤 : URA M) (H : Heap 𝓤) (A : Atoms 𝓤) (W : Given 𝓤 H A) (mem : Memory → SProp 𝓤) (run : Routine → Fun 𝓤) where
   -- the walk, whatever the caller passes
   dustmap-call-walks : (𝓣 : Tables 𝓤 H) → Triple 𝓤 (𝓣 .C #batch·all-asked) (AllAskedC 𝓤 H A mem run) → Triple 𝓤 (𝓣 .C #batch·refusal)
-      (RefusalC 𝓤 H A mem run) → Triple 𝓤 (𝓣 .C #batch·serve) (ServeC 𝓤 H A mem run) → Triple 𝓤 (𝓣 .C #request·copy) (CopyC 𝓤 H A mem run)
+      (RefusalC 𝓤 H A mem run) → Triple 𝓤 (𝓣 .C #batch·serve) (ServeC 𝓤 H A mem run) → Triple 𝓤 (𝓣 .C #pool·copy) (CopyC 𝓤 H A mem run)
       → Walks 𝓤 H A dustmap-call′.ended stayed (WpFn 𝓤 H (𝓣 .C) (𝓣 .Λ) code.function) (dustmap-call′.clauses 𝓤 H A mem run)
   dustmap-call-walks 𝓣 known-all-asked known-refusal known-serve known-copy =
       walked 𝓤 H A dustmap-call′.ended stayed (dustmap-call′.clauses 𝓤 H A mem run) (WpFn 𝓤 H (𝓣 .C) (𝓣 .Λ) code.function)
@@ -506,7 +506,7 @@ module _ {M : Type 1} (𝓤 : URA M) (H : Heap 𝓤) (A : Atoms 𝓤) (W : Given
 -- what is had at exit gives what the contract says
 dustmap-call-meets : {M : Type 1} (𝓤 : URA M) (H : Heap 𝓤) (A : Atoms 𝓤) → Given 𝓤 H A → (mem : Memory → SProp 𝓤) (run : Routine → Fun 𝓤)
     (𝓣 : Tables 𝓤 H) → Triple 𝓤 (𝓣 .C #batch·all-asked) (AllAskedC 𝓤 H A mem run) → Triple 𝓤 (𝓣 .C #batch·refusal) (RefusalC 𝓤 H A mem run)
-    → Triple 𝓤 (𝓣 .C #batch·serve) (ServeC 𝓤 H A mem run) → Triple 𝓤 (𝓣 .C #request·copy) (CopyC 𝓤 H A mem run) → Meets 𝓤 H A dustmap-call′.signature
+    → Triple 𝓤 (𝓣 .C #batch·serve) (ServeC 𝓤 H A mem run) → Triple 𝓤 (𝓣 .C #pool·copy) (CopyC 𝓤 H A mem run) → Meets 𝓤 H A dustmap-call′.signature
     (WpFn 𝓤 H (𝓣 .C) (𝓣 .Λ) code.function) (dustmap-call′.spec 𝓤 H A mem run)
 dustmap-call-meets 𝓤 H A W mem run 𝓣 known-all-asked known-refusal known-serve known-copy =
     walk-meets 𝓤 H A dustmap-call′.ended stayed W (
@@ -540,4 +540,4 @@ dustmap-call-spec 𝓤 H 𝓜 𝓖 𝓡 =
     (cited 𝓤 H (RefusalC 𝓤 H (𝓖 .A) (𝓜 .mem) (𝓡 .run)) 𝓜 𝓡 code.env #batch·refusal refusal-def.routine code.calls-batch·refusal
     (refusal-thm.met 𝓤 H 𝓜 𝓖 𝓡))
     (cited 𝓤 H (ServeC 𝓤 H (𝓖 .A) (𝓜 .mem) (𝓡 .run)) 𝓜 𝓡 code.env #batch·serve serve-def.routine code.calls-batch·serve (serve-thm.met 𝓤 H 𝓜 𝓖 𝓡))
-    (cited 𝓤 H (CopyC 𝓤 H (𝓖 .A) (𝓜 .mem) (𝓡 .run)) 𝓜 𝓡 code.env #request·copy copy-def.routine code.calls-request·copy (copy-thm.met 𝓤 H 𝓜 𝓖 𝓡)))
+    (cited 𝓤 H (CopyC 𝓤 H (𝓖 .A) (𝓜 .mem) (𝓡 .run)) 𝓜 𝓡 code.env #pool·copy copy-def.routine code.calls-pool·copy (copy-thm.met 𝓤 H 𝓜 𝓖 𝓡)))

@@ -12,8 +12,8 @@ use native.Mathlib.Omega.{arith}
 use lib.ListN.{length, getD, set, length-set}
 use lib.Seq.{getD-set-same, getD-set-other, ext-getD}
 use lib.IntN.{ℤ, pos}
-use Rattle.request.proofs.copy.Statement.{statement}
-use Rattle.request.proofs.copy.Tie as tie
+use Rattle.pool.proofs.copy.Statement.{statement}
+use Rattle.pool.proofs.copy.Tie as tie
 
 -- the first i words are copied
 record Turn (source target₀ target : List ℤ) (i : ℕ) : Type 0 where

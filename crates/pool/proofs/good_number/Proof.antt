@@ -3,8 +3,8 @@ use mir.Facts.{toZ-ofZ}
 use borrow.Author.Needs.{sfits-of}
 use Rattle.rules.specs.Numbers.{goodNumber}
 use borrow.Author.Needs.{needs}
-use Rattle.request.proofs.good_number.Statement.{statement}
-use Rattle.request.proofs.good_number.Tie as tie
+use Rattle.pool.proofs.good_number.Statement.{statement}
+use Rattle.pool.proofs.good_number.Tie as tie
 
 returns : tie.Need-returns
 unfolding goodNumber

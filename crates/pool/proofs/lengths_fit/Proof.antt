@@ -1,8 +1,8 @@
 use mathlib.Core.Path.{sym, _∙_}
 use Rattle.rules_laws.proofs.Bools.{not-true, not-false}
 use borrow.Author.Needs.{needs}
-use Rattle.batch.proofs.lengths_fit.Statement.{statement}
-use Rattle.batch.proofs.lengths_fit.Tie as tie
+use Rattle.pool.proofs.lengths_fit.Statement.{statement}
+use Rattle.pool.proofs.lengths_fit.Tie as tie
 
 returns : tie.Need-returns
 returns c = let e = sym (c .before .valid-length .ensures) ∙ not-true _ (c .if1 .taken) in rw e

@@ -1,0 +1,38 @@
+-- What the writer and the reader promise: everything that comes back is what the definitions give, for any input.
+use mathlib.Core.Path.{_≡_}
+use mathlib.Core.Bool.{true, false}
+use mathlib.Core.List.{List}
+use Prim.Native.Nat.{ℕ}
+use lib.ListN.{length}
+use lib.Seq.{sets}
+use lib.Dec.{ltb}
+use lib.IntN.{ℤ, pos}
+use Rattle.rules.specs.declared.Record.{Record}
+use Rattle.rules.specs.declared.FileFault.the-variants.{ShortBuffer}
+use Rattle.rules.specs.Layout.{read}
+use Rattle.rules.specs.File.{fileNumber, fileBytes, recordsCarried, WriteLeft, writeFile, readFile}
+
+-- of a write into a lent buffer: the number, the buffer and the length of the file
+pub record Writes (pool : List ℤ) (buffer : List ℕ) (n : ℤ) (file : List ℕ) (long : ℕ) : Type 0 where
+  pub number : n ≡ writeFile pool buffer .number
+  pub file : file ≡ writeFile pool buffer .file
+  pub length : long ≡ writeFile pool buffer .length
+
+-- of a write of a sound pool's records: refused only where they are too many for the buffer
+unfoldable pub filled : List Record → List ℕ → WriteLeft
+filled rs buffer =
+    elim (ltb (length buffer) (length (fileBytes rs))) [
+      | true ↦ record { number = fileNumber ShortBuffer; file = buffer; length = 0 }
+      | false ↦ record { number = pos 0; file = sets buffer 0 (fileBytes rs); length = length (fileBytes rs) }
+    ]
+
+pub record Fills (pool : List ℤ) (buffer : List ℕ) (n : ℤ) (file : List ℕ) (long : ℕ) : Type 0 where
+  pub number : n ≡ filled (recordsCarried (read pool)) buffer .number
+  pub file : file ≡ filled (recordsCarried (read pool)) buffer .file
+  pub length : long ≡ filled (recordsCarried (read pool)) buffer .length
+
+-- of a read into a lent pool: the number, the pool and the workspace
+pub record Reads (pool work : List ℤ) (file : List ℕ) (n : ℤ) (pool' work' : List ℤ) : Type 0 where
+  pub number : n ≡ readFile pool work file .number
+  pub pool : pool' ≡ readFile pool work file .pool
+  pub workspace : work' ≡ readFile pool work file .workspace

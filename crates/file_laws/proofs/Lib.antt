@@ -1,0 +1,8 @@
+-- In the order of what follows from what.
+pub mod Due
+pub mod Bytes
+pub mod All
+pub mod Written
+pub mod Distinct
+pub mod Steps
+pub mod Loads

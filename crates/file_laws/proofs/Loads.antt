@@ -1,0 +1,166 @@
+-- What an accepted load leaves, for every lawful choice: a whole pool that holds the records of the file and those of before; and these
+-- records ascend and are each as a leaf entry is to be.
+use mathlib.Core.Path.{_≡_, refl, sym, ap, subst}
+use mathlib.Core.Bool.{Bool, true, false}
+use mathlib.Core.List.{List, [], _∷_}
+use mathlib.Core.Option.{Option, none, some}
+use Prim.Native.Nat.{ℕ, zero, suc, _+_}
+use native.Mathlib.Omega.{arith}
+use lib.ListN.{length}
+use Rattle.rules.specs.declared.Record.{Record}
+use Rattle.rules.specs.declared.FileFault.{FileFault}
+use Rattle.rules.specs.Lists.{those}
+use Rattle.rules.specs.Pool.{Pool, stored, blankPool}
+use Rattle.rules.specs.Search.{before, ordered}
+use Rattle.rules.specs.Insert.{Choice, Change, Done, NoneFree, insertRecord}
+use Rattle.rules.specs.Lawful.{Lawful}
+use Rattle.rules.specs.File.{Due, frameDue, goodHead, countIn, recordIn, recordsFrom, fileRecords, Load, Loaded, Fails, follows, recordFault, endOf, loadRecords, loadFile}
+use Rattle.rules_laws.proofs.Places.{Each, each-among, each-of}
+use Rattle.rules_laws.proofs.Parts.{those-none, count-cons}
+use Rattle.sound_laws.specs.Tree.{Whole}
+use Rattle.search_laws.proofs.Order.{before-on}
+use Rattle.insert_laws.proofs.Whole.{insert-whole, insert-stored}
+use Rattle.in_force_laws.specs.Shows.{HoldsRecords}
+use Rattle.in_force_laws.proofs.Call.{blank-holds}
+use Rattle.file_laws.specs.Ascending.{Ascending, GoodRecord, Carriable}
+use Rattle.file_laws.proofs.Distinct.{ascending-once, ascending-ordered}
+use Rattle.file_laws.proofs.Steps as S
+use Rattle.file_laws.proofs.Steps.{Passes}
+
+-- what holds of the pool, where the load is accepted
+abbrev pub IfLoaded : (Pool → Type 0) → Load → Type 0
+IfLoaded P (Loaded q) = P q
+IfLoaded P (Fails f) = Unit {0}
+
+-- n records have gone into p, after the one given, and it is q now
+pub record Took (p : Pool) (last : Option Record) (n : ℕ) (bs : List ℕ) (q : Pool) : Type 0 where
+  pub whole : Whole q
+  pub stored-are : (f : Record → Bool) → length (those f (stored q)) ≡ length (those f (stored p)) + length (those f (recordsFrom n bs))
+  pub carriable : Carriable (recordsFrom n bs)
+  pub after : Each (λ r. follows last r ≡ true) (recordsFrom n bs)
+
+nothing-took : (p : Pool) → Whole p → (last : Option Record) (bs : List ℕ) → Took p last zero bs p
+unfolding recordsFrom
+nothing-took p w last bs =
+    record {
+      whole = w;
+      stored-are = λ f. omega (arith, ap length (those-none f));
+      carriable = record { ascending = tt; good = tt };
+      after = tt;
+    }
+
+-- what follows a record that follows the last follows the last too
+follows-on : (last : Option Record) (r x : Record) → follows last r ≡ true → follows (some r) x ≡ true → follows last x ≡ true
+unfolding follows
+follows-on none r x a b = refl
+follows-on (some l) r x a b = before-on l r x a b
+
+module _ (c : Choice) (lawful : Lawful c) where
+  -- one more in front of the others
+  one-more : (p q s : Pool) (last : Option Record) (r : Record) (n : ℕ) (bs : List ℕ) → Whole p → Passes last r → insertRecord c p r ≡ Done q
+      → (d : Due) → frameDue 17 5 bs ≡ some d → recordIn (d .words) ≡ r → Took q (some r) n (d .after) s → Took p last (suc n) bs s
+  unfolding follows
+  one-more p q s last r n bs w h i d e is t =
+      let rest = recordsFrom n (d .after) in
+      let all : recordsFrom (suc n) bs ≡ r ∷ rest = subst (λ (x : Record). recordsFrom (suc n) bs ≡ x ∷ rest) is (S.records-more n bs d e) in
+      record {
+        whole = t .whole;
+        stored-are = λ f.
+            omega (
+              arith,
+              t .stored-are f,
+              insert-stored c lawful p w r (h .rect) (h .number) q i f,
+              count-cons f r rest,
+              ap (λ (l : List Record). length (those f l)) all,
+            );
+        carriable = record {
+          ascending = subst Ascending (sym all) (t .after, t .carriable .ascending);
+          good = subst (Each GoodRecord) (sym all) ((h .rect, h .number), t .carriable .good);
+        };
+        after = subst (Each (λ x. follows last x ≡ true)) (sym all)
+            (h .after, each-among (λ x. follows last x ≡ true) rest (λ x m. follows-on last r x (h .after) (each-of (λ y. follows (some r) y ≡ true) (t .after) m)));
+      }
+
+  took-end : (p : Pool) → Whole p → (last : Option Record) (bs : List ℕ) → IfLoaded (Took p last zero bs) (endOf p (frameDue 18 0 bs))
+  took-end p w last bs = go (frameDue 18 0 bs) refl
+    where
+      after : (d : Due) → frameDue 18 0 bs ≡ some d → (l : List ℕ) → d .after ≡ l → IfLoaded (Took p last zero bs) (endOf p (frameDue 18 0 bs))
+      after d e [] f = subst (IfLoaded (Took p last zero bs)) (sym (S.end-here p bs d e f)) (nothing-took p w last bs)
+      after d e (b ∷ rest) f = subst (IfLoaded (Took p last zero bs)) (sym (S.end-more p bs d b rest e f)) tt
+
+      go : (o : Option Due) → frameDue 18 0 bs ≡ o → IfLoaded (Took p last zero bs) (endOf p (frameDue 18 0 bs))
+      go none e = subst (IfLoaded (Took p last zero bs)) (sym (S.end-none p bs e)) tt
+      go (some d) e = after d e (d .after) refl
+
+  later : (s : Pool → Type 0) (t : Pool → Type 0) → ((q : Pool) → s q → t q) → (l : Load) → IfLoaded s l → IfLoaded t l
+  later s t f (Loaded q) h = f q h
+  later s t f (Fails x) h = tt
+
+  pub load-takes : (n : ℕ) (last : Option Record) (p : Pool) (bs : List ℕ) → Whole p → IfLoaded (Took p last n bs) (loadRecords c n last p bs)
+  load-takes zero last p bs w = unfold loadRecords in took-end p w last bs
+  load-takes (suc n) last p bs w = go (frameDue 17 5 bs) refl (λ q d. load-takes n (some (recordIn (d .words))) q (d .after))
+    where
+      put : (d : Due) → frameDue 17 5 bs ≡ some d → recordFault last (recordIn (d .words)) ≡ none
+          → ((q : Pool) → Whole q → IfLoaded (Took q (some (recordIn (d .words))) n (d .after)) (loadRecords c n (some (recordIn (d .words))) q (d .after)))
+          → (o : Change) → insertRecord c p (recordIn (d .words)) ≡ o → IfLoaded (Took p last (suc n) bs) (loadRecords c (suc n) last p bs)
+      put d e h rec NoneFree i = subst (IfLoaded (Took p last (suc n) bs)) (sym (S.load-full c n last p bs d e h i)) tt
+      put d e h rec (Done q) i =
+          let r = recordIn (d .words) in
+          let g = S.fault-passes last r h in
+          let wq = insert-whole c lawful p w r (g .rect) (g .number) q i in
+          subst (IfLoaded (Took p last (suc n) bs)) (sym (S.load-next c n last p bs d e h q i))
+          (later (Took q (some r) n (d .after)) (Took p last (suc n) bs) (λ s t. one-more p q s last r n bs w g i d e refl t)
+          (loadRecords c n (some r) q (d .after)) (rec q wq))
+
+      fault : (d : Due) → frameDue 17 5 bs ≡ some d
+          → ((q : Pool) → Whole q → IfLoaded (Took q (some (recordIn (d .words))) n (d .after)) (loadRecords c n (some (recordIn (d .words))) q (d .after)))
+          → (o : Option FileFault) → recordFault last (recordIn (d .words)) ≡ o → IfLoaded (Took p last (suc n) bs) (loadRecords c (suc n) last p bs)
+      fault d e rec (some f) h = subst (IfLoaded (Took p last (suc n) bs)) (sym (S.load-fault c n last p bs d e f h)) tt
+      fault d e rec none h = put d e h rec (insertRecord c p (recordIn (d .words))) refl
+
+      go : (o : Option Due) → frameDue 17 5 bs ≡ o
+          → ((q : Pool) (d : Due) → Whole q → IfLoaded (Took q (some (recordIn (d .words))) n (d .after)) (loadRecords c n (some (recordIn (d .words))) q (d .after)))
+          → IfLoaded (Took p last (suc n) bs) (loadRecords c (suc n) last p bs)
+      go none e rec = subst (IfLoaded (Took p last (suc n) bs)) (sym (S.load-none c n last p bs e)) tt
+      go (some d) e rec = fault d e (λ q w2. rec q d w2) (recordFault last (recordIn (d .words))) refl
+
+  -- ---- a file
+
+  -- a blank pool that has taken a file: it holds the file's records, and these are in found order
+  pub record Holds (bs : List ℕ) (q : Pool) : Type 0 where
+    pub records : HoldsRecords q (fileRecords bs)
+    pub carriable : Carriable (fileRecords bs)
+    pub order : ordered (stored q) ≡ fileRecords bs
+
+  file-holds : (m : ℕ) (bs : List ℕ) (d : Due) → frameDue 16 2 bs ≡ some d
+      → (q : Pool) → Took (blankPool m) none (countIn (d .words)) (d .after) q → Holds bs q
+  file-holds m bs d e q t =
+      let all = S.file-records bs d e in
+      let rs = recordsFrom (countIn (d .words)) (d .after) in
+      let empty = blank-holds m .alike .each in
+      let like : HoldsRecords q rs =
+      record {
+        whole = t .whole;
+        alike = record { each = λ f. omega (arith, t .stored-are f, empty f, ap length (those-none f)) };
+        once = ascending-once rs (t .carriable .ascending);
+      } in
+      record {
+        records = subst (HoldsRecords q) (sym all) like;
+        carriable = subst Carriable (sym all) (t .carriable);
+        order = subst (λ (l : List Record). ordered (stored q) ≡ l) (sym all) (ascending-ordered (stored q) rs (t .carriable .ascending) (like .alike));
+      }
+
+  pub file-loads : (m : ℕ) (bs : List ℕ) → IfLoaded (Holds bs) (loadFile c (blankPool m) bs)
+  file-loads m bs = go (frameDue 16 2 bs) refl
+    where
+      head : (d : Due) → frameDue 16 2 bs ≡ some d → (b : Bool) → goodHead (d .words) ≡ b → IfLoaded (Holds bs) (loadFile c (blankPool m) bs)
+      head d e false h = subst (IfLoaded (Holds bs)) (sym (S.head-bad c (blankPool m) bs d e h)) tt
+      head d e true h =
+          let n = countIn (d .words) in
+          subst (IfLoaded (Holds bs)) (sym (S.head-good c (blankPool m) bs d e h))
+          (later (Took (blankPool m) none n (d .after)) (Holds bs) (file-holds m bs d e) (loadRecords c n none (blankPool m) (d .after))
+          (load-takes n none (blankPool m) (d .after) (blank-holds m .whole)))
+
+      go : (o : Option Due) → frameDue 16 2 bs ≡ o → IfLoaded (Holds bs) (loadFile c (blankPool m) bs)
+      go none e = subst (IfLoaded (Holds bs)) (sym (S.head-none c (blankPool m) bs e)) tt
+      go (some d) e = head d e (goodHead (d .words)) refl
