@@ -32,7 +32,7 @@ use Rattle.in_force_laws.proofs.Faults.{no-row}
 use Rattle.found_items.specs.Items.{itemsFrom, Pointing}
 use Rattle.request.specs.declared.Served.{Served}
 use Rattle.request.specs.Serving.{Ready, Serves}
-use Rattle.request.proofs.Sounds.{sound-fit}
+use Rattle.in_force_laws.proofs.Sounds.{sound-fit}
 use Rattle.request.proofs.Cases.{asks-something}
 use Rattle.batch.specs.declared.Progress.{Progress}
 use Rattle.batch.specs.declared.Stepped.{Stepped}

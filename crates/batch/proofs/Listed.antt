@@ -26,7 +26,7 @@ use Rattle.search_laws.proofs.Order.{alike-length, ordered-alike}
 use Rattle.pool.proofs.Parts.{right-size}
 use Rattle.in_force_laws.proofs.Faults.{no-row}
 use Rattle.in_force_laws.proofs.Change.{request-cases}
-use Rattle.request.proofs.Sounds.{sound-tree, found-few}
+use Rattle.in_force_laws.proofs.Sounds.{sound-tree, found-few}
 
 -- there are places for what a turn lists, and two words for each in as many words
 pub record Placed (room long : ℕ) (t : Turn) : Type 0 where

@@ -43,7 +43,7 @@ use Rattle.in_force_laws.proofs.Search.{holds-high}
 use Rattle.in_force_laws.proofs.Batch.{noAnswer, answers-kept, answers-as-many, listed-end}
 use Rattle.in_force_laws.proofs.Filled.{part-filled}
 use Rattle.in_force_laws.proofs.Call.{callBy-refused, callBy-served, no-fault, left-answers, left-found, left-beyond, answers-long, call-part, call-shows}
-use Rattle.request.proofs.Sounds.{sound-fit, sound-tree}
+use Rattle.in_force_laws.proofs.Sounds.{sound-fit, sound-tree}
 use Rattle.request.proofs.Cases.{asks-something}
 use Rattle.demands.specs.Steps.{Step, Call, poolAfter, History, inForceAfter}
 use Rattle.map.specs.Asking.{Allowed}

@@ -1,10 +1,11 @@
 -- Where the code finds the frames of a file, and what it does at each: every frame before record k has its one size.
 use mathlib.Core.Path.{_≡_}
-use mathlib.Core.Bool.{Bool, true, false}
+use mathlib.Core.Bool.{Bool, true, false, cond, _&&_}
 use mathlib.Core.List.{List}
 use mathlib.Core.Option.{Option, none, some}
 use Prim.Native.Nat.{ℕ, zero, suc, _+_, _*_}
-use lib.ListN.{drop}
+use lib.ListN.{length, drop}
+use lib.Dec.{eqb}
 use lib.IntN.{ℤ, pos}
 use Rattle.rules.specs.declared.Record.{Record}
 use Rattle.rules.specs.declared.FileFault.{FileFault}
@@ -13,7 +14,7 @@ use Rattle.rules.specs.Pool.{Pool}
 use Rattle.rules.specs.Layout.{read}
 use Rattle.rules.specs.Insert.{ours, Change, Done, NoneFree, insertRecord}
 use Rattle.rules.specs.Frames.{wordValues}
-use Rattle.rules.specs.File.{fileNumber, frameDue, recordIn, recordFault, Load, Loaded, Fails, endOf}
+use Rattle.rules.specs.File.{fileNumber, frameDue, recordIn, recordFault, Load, Loaded, Fails}
 use Rattle.pool.specs.Slots.{Fit}
 use Rattle.insert.specs.Left.{HoldsPool}
 use Rattle.file.specs.declared.Taken.{Taken}
@@ -58,9 +59,9 @@ abbrev pub Took : Load → Taken → List ℤ → Type 0
 Took (Loaded q) t w = (t .number ≡ pos 0) × HoldsPool q (t .free) w
 Took (Fails f) t w = t .number ≡ fileNumber f
 
--- the last frame
+-- what refuses the last frame, or 0: it is the one due, and nothing comes after its four bytes
 unfoldable pub endFault : List ℕ → ℤ
-endFault bs = elim (endOf (read []) (frameDue 18 0 bs)) [ Loaded p ↦ pos 0 | Fails f ↦ fileNumber f ]
+endFault bs = cond (isDue 18 0 bs && eqb (length bs) 4) (pos 0) (fileNumber BadFrame)
 
 -- a file that goes in leaves the pool in the words; of one that is refused nothing is said but its number
 abbrev pub Loads : Load → ℤ → List ℤ → Type 0

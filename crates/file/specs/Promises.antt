@@ -13,9 +13,9 @@ use Rattle.rules.specs.Layout.{read}
 use Rattle.rules.specs.File.{fileNumber, fileBytes, recordsCarried, WriteLeft, writeFile, readFile}
 
 -- of a write into a lent buffer: the number, the buffer and the length of the file
-pub record Writes (pool : List ℤ) (buffer : List ℕ) (n : ℤ) (file : List ℕ) (long : ℕ) : Type 0 where
+pub record Writes (pool : List ℤ) (buffer : List ℕ) (n : ℤ) (bytes : List ℕ) (long : ℕ) : Type 0 where
   pub number : n ≡ writeFile pool buffer .number
-  pub file : file ≡ writeFile pool buffer .file
+  pub file : bytes ≡ writeFile pool buffer .file
   pub length : long ≡ writeFile pool buffer .length
 
 -- of a write of a sound pool's records: refused only where they are too many for the buffer
@@ -26,13 +26,13 @@ filled rs buffer =
       | false ↦ record { number = pos 0; file = sets buffer 0 (fileBytes rs); length = length (fileBytes rs) }
     ]
 
-pub record Fills (pool : List ℤ) (buffer : List ℕ) (n : ℤ) (file : List ℕ) (long : ℕ) : Type 0 where
+pub record Fills (pool : List ℤ) (buffer : List ℕ) (n : ℤ) (bytes : List ℕ) (long : ℕ) : Type 0 where
   pub number : n ≡ filled (recordsCarried (read pool)) buffer .number
-  pub file : file ≡ filled (recordsCarried (read pool)) buffer .file
+  pub file : bytes ≡ filled (recordsCarried (read pool)) buffer .file
   pub length : long ≡ filled (recordsCarried (read pool)) buffer .length
 
--- of a read into a lent pool: the number, the pool and the workspace
-pub record Reads (pool work : List ℤ) (file : List ℕ) (n : ℤ) (pool' work' : List ℤ) : Type 0 where
-  pub number : n ≡ readFile pool work file .number
-  pub pool : pool' ≡ readFile pool work file .pool
-  pub workspace : work' ≡ readFile pool work file .workspace
+-- of a read into a lent pool w, with a workspace u: the number, and the pool and the workspace that are left
+pub record Reads (w u : List ℤ) (file : List ℕ) (n : ℤ) (v x : List ℤ) : Type 0 where
+  pub number : n ≡ readFile w u file .number
+  pub pool : v ≡ readFile w u file .pool
+  pub workspace : x ≡ readFile w u file .workspace

@@ -4,7 +4,7 @@ use mathlib.Core.Path.{_≡_, refl, sym, ap, _∙_, subst}
 use mathlib.Core.Bool.{Bool, true, false, not, cond}
 use mathlib.Core.List.{List, [], _∷_, List·Memᴰ·head, List·Memᴰ·tail, List·Memᴰ·cases-cons}
 use mathlib.Core.Logic.{⊎-elim}
-use Prim.Native.Nat.{ℕ, _≤_}
+use Prim.Native.Nat.{_≤_}
 use native.Mathlib.Omega.{arith}
 use lib.ListN.{length}
 use Rattle.rules.specs.declared.Record.{Record}
@@ -12,7 +12,6 @@ use Rattle.rules.specs.Lists.{those}
 use Rattle.rules.specs.Geometry.{samePair}
 use Rattle.rules.specs.Search.{before, ordered}
 use Rattle.rules.specs.File.{distinct}
-use Rattle.rules_laws.proofs.Bools.{not-true}
 use Rattle.rules_laws.proofs.Orders.{never-both, not-itself}
 use Rattle.rules_laws.proofs.Places.{Among, Each, each-of, each-among}
 use Rattle.rules_laws.proofs.Parts.{those-yes, those-no, those-none, those-every, those-nothing, among-those, counted, count-cons}

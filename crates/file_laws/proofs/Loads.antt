@@ -11,7 +11,7 @@ use Rattle.rules.specs.declared.Record.{Record}
 use Rattle.rules.specs.declared.FileFault.{FileFault}
 use Rattle.rules.specs.Lists.{those}
 use Rattle.rules.specs.Pool.{Pool, stored, blankPool}
-use Rattle.rules.specs.Search.{before, ordered}
+use Rattle.rules.specs.Search.{ordered}
 use Rattle.rules.specs.Insert.{Choice, Change, Done, NoneFree, insertRecord}
 use Rattle.rules.specs.Lawful.{Lawful}
 use Rattle.rules.specs.File.{Due, frameDue, goodHead, countIn, recordIn, recordsFrom, fileRecords, Load, Loaded, Fails, follows, recordFault, endOf, loadRecords, loadFile}

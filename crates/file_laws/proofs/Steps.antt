@@ -1,5 +1,5 @@
 -- A load one frame at a time, for any choice: what becomes of it by what the frame that is due turns out to be.
-use mathlib.Core.Path.{_≡_, refl}
+use mathlib.Core.Path.{_≡_}
 use mathlib.Core.Bool.{true, false}
 use mathlib.Core.List.{List, [], _∷_}
 use mathlib.Core.Option.{Option, none, some}
@@ -11,10 +11,10 @@ use Rattle.rules.specs.Numbers.{goodNumber}
 use Rattle.rules.specs.Geometry.{valid}
 use Rattle.rules.specs.Pool.{Pool}
 use Rattle.rules.specs.Insert.{Choice, Done, NoneFree, insertRecord}
-use Rattle.rules.specs.Answers.{row, firstRow}
-use Rattle.rules.specs.File.{Due, frameDue, goodHead, countIn, recordIn, recordsFrom, fileRecords, Load, Loaded, Fails, follows, recordFault, endOf, loadRecords, loadFile}
+use Rattle.rules.specs.Answers.{firstRow}
+use Rattle.rules.specs.File.{Due, frameDue, goodHead, countIn, recordIn, recordsFrom, fileRecords, Loaded, Fails, follows, recordFault, endOf, loadRecords, loadFile}
 use Rattle.rules_laws.proofs.Bools.{not-false}
-use Rattle.in_force_laws.proofs.Faults.{no-row, row-passed}
+use Rattle.in_force_laws.proofs.Faults.{no-row}
 
 -- ---- the last frame
 

@@ -8,4 +8,5 @@ pub mod Batch
 pub mod Filled
 pub mod Pointers
 pub mod Written
+pub mod Sounds
 pub mod Call

@@ -2,26 +2,19 @@
 -- put back the words are what they were. A slot has eight entries at most, so the number is one that a word holds.
 use mathlib.Core.Path.{_≡_, refl, sym, ap, subst, subst⁻¹, _∙_}
 use mathlib.Core.Bool.{true}
-use mathlib.Core.List.{List, [], map}
-use Prim.Native.Nat.{ℕ, _+_, _*_, _≤_}
+use mathlib.Core.List.{List, []}
+use Prim.Native.Nat.{ℕ, _+_, _≤_}
 use native.Mathlib.Omega.{arith}
-use lib.ListN.{length, length-map}
 use lib.IntN.{ℤ}
 use Rattle.rules.specs.declared.Record.{Record}
 use Rattle.rules.specs.declared.Pointer.the-variants.{Number}
-use Rattle.rules.specs.declared.Entry.{Entry}
-use Rattle.rules.specs.Lists.{those, joined}
 use Rattle.rules.specs.Numbers.{goodNumber}
 use Rattle.rules.specs.Geometry.{valid}
-use Rattle.rules.specs.Pool.{Node, Pool, entry, recordOf, leafEntry, isLeaf, stored, putRecords}
+use Rattle.rules.specs.Pool.{Pool, entry, leafEntry, putRecords}
 use Rattle.rules.specs.Insert.{Change, Done, NoneFree, ours, insertAt, insertRecord}
-use Rattle.rules.specs.Layout.{validLength, slotCount, words, read}
-use Rattle.rules_laws.proofs.Places.{each-of}
-use Rattle.rules_laws.proofs.Parts.{among-those, those-fewer}
-use Rattle.rules_laws.proofs.Joins.{joined-length}
-use Rattle.rules_laws.proofs.Sums.{total-most}
+use Rattle.rules.specs.Layout.{validLength, words, read}
 use Rattle.pool.specs.Slots.{Fit}
-use Rattle.pool.proofs.Written.{Fine, read-fine, read-slots}
+use Rattle.pool.proofs.Few.{stored-few}
 use Rattle.pool.proofs.Parts.{few-slots}
 use Rattle.free_slots.specs.declared.FreeSlots.{FreeSlots}
 use Rattle.free_slots.specs.Known.{Known}
@@ -38,23 +31,6 @@ use Rattle.insert.specs.Left.{Leaves, Upright}
 use Rattle.nodes.proofs.Slots.{most-slots}
 
 -- ---- how many records there can be
-
--- 8 for each slot at most
-pub stored-few : (w : List ℤ) → length (stored (read w)) ≤ 8 * slotCount w
-unfolding stored
-stored-few w =
-    omega (
-      arith,
-      length-map (joined (map entries (those isLeaf (read w .slots)))) recordOf,
-      joined-length entries (those isLeaf (read w .slots)),
-      total-most (λ n. length (entries n)) 8 (those isLeaf (read w .slots))
-          (λ n m. each-of Fine (read-fine w) (among-those isLeaf n (read w .slots) .0 m .0) .few),
-      those-fewer isLeaf (read w .slots),
-      read-slots w,
-    )
-  where
-    entries : Node → List Entry
-    entries n = n .entries
 
 pub records-few : (w : List ℤ) → validLength w ≡ true → Whole (read w) → read w .records ≤ 32768
 records-few w r h = omega (arith, h .counted, stored-few w, few-slots w r)

@@ -11,3 +11,4 @@ pub mod Blanks
 pub mod Bits
 pub mod Stand
 pub mod Tidied
+pub mod Few

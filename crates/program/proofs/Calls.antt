@@ -26,7 +26,7 @@ use Rattle.found_items.specs.Items.{itemAt, itemsFrom}
 use Rattle.found_items.proofs.Words.{items-none, items-one, items-length, items-append}
 use Rattle.request.specs.declared.Served.{Served}
 use Rattle.request.specs.Serving.{Serves}
-use Rattle.request.proofs.Sounds.{sound-fit}
+use Rattle.in_force_laws.proofs.Sounds.{sound-fit}
 use Rattle.frames.specs.Writing.{Wrote}
 use Rattle.frames.specs.Said.{replyShown}
 use Rattle.frames.proofs.Texts.{sets-append, sets-beyond, wrote-as}

@@ -1,6 +1,5 @@
 -- Laws about one request.
 pub mod Rows
-pub mod Sounds
 pub mod Cases
 pub mod Turns
 pub mod Leaves

@@ -27,7 +27,7 @@ use Rattle.free_slots.specs.declared.FreeSlots.{FreeSlots}
 use Rattle.found_items.specs.Items.{itemsFrom, Pointing}
 use Rattle.request.specs.declared.Served.{Served}
 use Rattle.request.specs.Serving.{Ready, Serves, Changes, replied}
-use Rattle.request.proofs.Sounds.{found-few}
+use Rattle.in_force_laws.proofs.Sounds.{found-few}
 use Rattle.request.proofs.Rows.{search-3, search-8, search-0}
 use Rattle.request.proofs.Turns.{ready-whole, stays}
 

@@ -43,7 +43,7 @@ use Rattle.insert_laws.proofs.Whole.{insert-whole}
 use Rattle.delete_laws.proofs.Delete.{delete-whole, delete-fits, pool-left}
 use Rattle.delete_laws.proofs.Update.{update-whole, update-fits}
 use Rattle.request.proofs.Rows.{insert-0, delete-0, update-0}
-use Rattle.request.proofs.Sounds.{sound-fit, sound-tree, fit-sound}
+use Rattle.in_force_laws.proofs.Sounds.{sound-fit, sound-tree, fit-sound}
 
 -- ---- ready
 

@@ -17,7 +17,7 @@ use Rattle.rules.specs.Search.{foundFromRoot}
 use Rattle.rules_laws.proofs.Bools.{and-both, both-and}
 use Rattle.rules_laws.proofs.Orders.{never-both}
 use Rattle.rules_laws.proofs.Parts.{those-fewer}
-use Rattle.insert.proofs.Records.{stored-few}
+use Rattle.pool.proofs.Few.{stored-few}
 use Rattle.sound_laws.specs.Tree.{Whole}
 use Rattle.sound_laws.proofs.Same.{same-is}
 use Rattle.sound_laws.proofs.Sound.{sound-whole, whole-sound}
