@@ -1,19 +1,16 @@
 -- Whether the frame that is due is there, by its bytes, and the record in it.
 use mathlib.Core.Path.{_≡_, refl, sym, ap, ap₂, subst, _∙_}
-use mathlib.Core.Bool.{Bool, true, false, cond, _&&_}
+use mathlib.Core.Bool.{Bool, true, false, cond}
 use mathlib.Core.List.{List}
 use mathlib.Core.Option.{Option, none, some}
 use Prim.Native.Nat.{ℕ, zero, suc, _+_, _*_, _-_, _≤_, _<_}
 use native.Mathlib.Omega.{arith}
-use lib.ListN.{length, take, drop, length-drop}
+use lib.ListN.{length, take, drop}
 use lib.Seq.{drop-drop}
-use lib.Dec.{leb, eqb}
+use lib.Dec.{eqb}
 use lib.IntN.{ℤ, pos}
-use borrow.Author.Tests.{le-leb, eq-eqb, eqb-true}
+use borrow.Author.Tests.{le-leb, eq-eqb}
 use Rattle.rules.specs.declared.Record.{Record}
-use Rattle.rules.specs.declared.FileFault.{FileFault}
-use Rattle.rules.specs.declared.FileFault.the-variants.{BadLength, NotSound, BadRectangle, BadNumber, NoSlot, ShortBuffer, BadFrame, NotAfter}
-use Rattle.rules.specs.Lists.{same}
 use Rattle.rules.specs.Numbers.{goodNumber}
 use Rattle.rules.specs.Geometry.{valid}
 use Rattle.rules.specs.Pool.{number}
@@ -25,8 +22,7 @@ use Rattle.rules.specs.File.{fileNumber, Due, frameDue, recordIn, follows, reco
 use Rattle.rules_laws.proofs.Orders.{never-both}
 use Rattle.frames.specs.Places.{wordFrom, rectOfBytes}
 use Rattle.frames.proofs.Words.{words-at}
-use Rattle.file_laws.proofs.Due.{Stands, dueIn, due-places, due-short, due-length, due-stands}
-use Rattle.file_laws.proofs.Steps.{Passes, fault-passes}
+use Rattle.file_laws.proofs.Due.{dueIn, due-places, due-short, due-length, due-stands}
 use Rattle.file.specs.Loading.{isDue, placeOf, recordAt, lastAt, numberOf, frameFault, faultAt}
 
 -- ---- is it there

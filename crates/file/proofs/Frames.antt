@@ -1,5 +1,5 @@
 -- A frame is written piece by piece: its length and kind, and then each of its words after what stands there already.
-use mathlib.Core.Path.{_≡_, refl, sym, ap, _∙_}
+use mathlib.Core.Path.{_≡_, sym, ap, _∙_}
 use mathlib.Core.List.{List, [], _∷_, _++_, map, append-assoc, append-nil}
 use Prim.Native.Nat.{ℕ, _+_, _*_}
 use native.Mathlib.Omega.{arith}
@@ -8,7 +8,7 @@ use lib.IntN.{ℤ, pos}
 use Rattle.rules.specs.declared.Record.{Record}
 use Rattle.rules.specs.Lists.{joined}
 use Rattle.rules.specs.Layout.{edition}
-use Rattle.rules.specs.File.{pairBytes, wordBytes, frameBytes, headFrame, recordFrame, endFrame}
+use Rattle.rules.specs.File.{pairBytes, wordBytes, frameBytes, headFrame, recordFrame, endFrame, fileBytes}
 use Rattle.rules_laws.proofs.Joins.{joined-none, joined-more}
 use Rattle.file.proofs.Sizes.{pair-long}
 
@@ -49,3 +49,8 @@ record-text r =
 pub end-text : start 18 0 ≡ endFrame
 unfolding endFrame frameBytes
 end-text = sym (words-end (start 18 0))
+
+-- the three parts of a file
+pub file-text : (rs : List Record) {n : ℕ} → n ≡ length rs → headFrame n ++ joined (map recordFrame rs) ++ start 18 0 ≡ fileBytes rs
+unfolding fileBytes
+file-text rs e = λ i. headFrame (e i) ++ joined (map recordFrame rs) ++ end-text i

@@ -5,3 +5,6 @@ pub mod Sizes
 pub mod Frames
 pub mod Dues
 pub mod Takes
+pub mod Heads
+pub mod Writes
+pub mod Loaded

@@ -10,7 +10,7 @@ use Rattle.rules.specs.declared.Record.{Record}
 use Rattle.rules.specs.Lists.{joined}
 use Rattle.rules.specs.Pool.{stored}
 use Rattle.rules.specs.Layout.{rectSize, read}
-use Rattle.rules.specs.Search.{before, ordered}
+use Rattle.rules.specs.Search.{before}
 use Rattle.rules.specs.File.{distinct, recordsCarried, recordFrame}
 use Rattle.rules_laws.proofs.Joins.{joined-more, joined-none, joined-append}
 use Rattle.search_laws.specs.Order.{Sorted}
@@ -43,6 +43,14 @@ module _ (pool items : List ℤ) where
   pub new-no : (k n : ℕ) → isNew pool items k ≡ false → newFrom pool items k (suc n) ≡ newFrom pool items (suc k) n
   unfolding newFrom
   new-no k n h = rw h
+
+  pub new-few : (k n : ℕ) → length (newFrom pool items k n) ≤ n
+  new-few k zero = omega (arith, ap length (new-none k))
+  new-few k (suc n) = go (isNew pool items k) refl (new-few (suc k) n)
+    where
+      go : (b : Bool) → isNew pool items k ≡ b → length (newFrom pool items (suc k) n) ≤ n → length (newFrom pool items k (suc n)) ≤ suc n
+      go true e h = omega (arith, ap length (new-yes k n e))
+      go false e h = omega (arith, ap length (new-no k n e))
 
   -- one, and then the others
   pub new-parts : (k n : ℕ) → newFrom pool items k (suc n) ≡ newFrom pool items k 1 ++ newFrom pool items (suc k) n

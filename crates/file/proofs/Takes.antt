@@ -1,9 +1,9 @@
 -- A record of the file goes into the pool, and the load goes on after it; or it is refused, and so is the load.
 use mathlib.Core.Path.{_≡_, refl, sym, ap, subst, _∙_}
-use mathlib.Core.Bool.{Bool, true, false, cond, _&&_}
+use mathlib.Core.Bool.{Bool, true, false}
 use mathlib.Core.List.{List, [], _∷_}
 use mathlib.Core.Option.{Option, none, some}
-use Prim.Native.Nat.{ℕ, zero, suc, _+_, _*_, _≤_, _<_}
+use Prim.Native.Nat.{ℕ, zero, suc, _+_, _≤_, _<_}
 use native.Mathlib.Omega.{arith}
 use lib.ListN.{length, drop, length-drop}
 use lib.Seq.{drop-drop}
@@ -18,8 +18,7 @@ use Rattle.rules.specs.Pool.{Pool}
 use Rattle.rules.specs.Layout.{read}
 use Rattle.rules.specs.Insert.{ours, Change, Done, NoneFree, insertRecord}
 use Rattle.rules.specs.Frames.{wordValues}
-use Rattle.rules.specs.File.{fileNumber, Due, frameDue, recordIn, recordFault, Load, Loaded, Fails, endOf, loadRecords}
-use Rattle.rules_laws.proofs.Bools.{and-both}
+use Rattle.rules.specs.File.{fileNumber, frameDue, recordIn, recordFault, Load, Loaded, Fails, endOf, loadRecords}
 use Rattle.rules_laws.proofs.Orders.{never-both}
 use Rattle.rules_laws.proofs.Places.{nothing}
 use Rattle.rules_laws.proofs.Splits.{ours-lawful}
@@ -51,7 +50,7 @@ some-fault ShortBuffer = refl
 some-fault BadFrame = refl
 some-fault NotAfter = refl
 
-none-zero : same (pos 0) (pos 0) ≡ true
+pub none-zero : same (pos 0) (pos 0) ≡ true
 unfolding same
 none-zero = refl
 
@@ -186,6 +185,7 @@ module _ (bs : List ℕ) (k : ℕ) where
 
 -- how far a load has come: k records are in, and so many are left
 pub record Underway (first : List ℤ) (bs : List ℕ) (count : ℕ) (w : List ℤ) (k : ℕ) (free : FreeSlots) : Type 0 where
+  pub long : length w ≡ length first
   pub fit : Fit w
   pub whole : Whole (read w)
   pub known : Known (read w) free
@@ -197,7 +197,7 @@ pub record Underway (first : List ℤ) (bs : List ℕ) (count : ℕ) (w : List �
 pub starts : (w : List ℤ) (bs : List ℕ) (count : ℕ) (free : FreeSlots) → Fit w → Whole (read w) → Known (read w) free → 12 ≤ length bs
     → Underway w bs count w 0 free
 unfolding lastAt
-starts w bs count free f h n l = record { fit = f; whole = h; known = n; here = l; rest = count; left = omega arith; same = refl }
+starts w bs count free f h n l = record { long = refl; fit = f; whole = h; known = n; here = l; rest = count; left = omega arith; same = refl }
 
 module _ (first : List ℤ) (bs : List ℕ) (count : ℕ) (w : List ℤ) (k : ℕ) (free : FreeSlots) (u : Underway first bs count w k free) (more : k < count) where
   abbrev all : Load
@@ -210,8 +210,8 @@ module _ (first : List ℤ) (bs : List ℕ) (count : ℕ) (w : List ℤ) (k : �
 
   module _ (t : Taken) (v : List ℤ) (took : Took (tookAt (read w) bs k) t v) where
     -- where the record is in, the load goes on after it
-    pub next : same (t .number) (pos 0) ≡ true → Underway first bs count v (k + 1) (t .free)
-    next z = fault (frameFault bs k) refl
+    pub next : length v ≡ length w → same (t .number) (pos 0) ≡ true → Underway first bs count v (k + 1) (t .free)
+    next s z = fault (frameFault bs k) refl
       where
         put : frameFault bs k ≡ none → (o : Change) → insertRecord ours (read w) (recordAt bs k) ≡ o → Took (inserted o) t v
             → Underway first bs count v (k + 1) (t .free)
@@ -227,6 +227,7 @@ module _ (first : List ℤ) (bs : List ℕ) (count : ℕ) (w : List ℤ) (k : �
             let on : all ≡ loadRecords ours (n .0) (lastAt bs (suc k)) q (drop (placeOf (suc k)) bs) =
             u .same ∙ ap (λ (m : ℕ). loadRecords ours m (lastAt bs k) (read w) (drop (placeOf k) bs)) (n .1) ∙ goes-on bs k (n .0) (read w) h q i in
             rw e (record {
+              long = s ∙ u .long;
               fit = y .1 .fit;
               whole = subst Whole (sym (y .1 .is)) (insert-whole ours ours-lawful (read w) (u .whole) (recordAt bs k) (g .rect) (g .number) q i);
               known = subst (λ (a : Pool). Known a (t .free)) (sym (y .1 .is)) (y .1 .known);

@@ -17,20 +17,27 @@ loop-holds c = count-first (c .args .pool .now) (c .args .items .now) (c .args .
 is-new-requires : tie.Need-is-new-requires Inv-loop μ-loop
 is-new-requires c κs = (c .before .before .pre, c .loop-test .taken)
 
-one-if-requires : tie.Need-one-if-requires Inv-loop μ-loop
-one-if-requires c κs = search needs
-
 add-count : tie.Need-add-count Inv-loop μ-loop
-add-count c = omega (arith, c .before .before .before .loop .inv .few, c .before .before .loop-test .taken, c .before .before .before .before .pre .few, c .one-if .ensures .1)
+add-count c =
+    let start = c .before .before .before .before in
+    let loop = c .before .before .before .loop in
+    let loop-test = c .before .before .loop-test in
+    omega (arith, loop .inv .few, loop-test .taken, start .pre .few, c .one-if .ensures .1)
 
 add-k : tie.Need-add-k Inv-loop μ-loop
-add-k c = omega (arith, c .before .before .loop-test .taken, c .before .before .before .before .pre .few)
+add-k c =
+    let start = c .before .before .before .before in
+    let loop-test = c .before .before .loop-test in
+    omega (arith, loop-test .taken, start .pre .few)
 
 loop-less : tie.Need-loop-less Inv-loop μ-loop
 loop-less c = omega (arith, c .before .before .loop-test .taken)
 
 loop-again : tie.Need-loop-again Inv-loop μ-loop
-loop-again c = count-next _ (c .before .before .before .loop .inv) (c .before .before .loop-test .taken) (c .before .is-new .ensures) (c .one-if .ensures .0)
+loop-again c =
+    let loop = c .before .before .before .loop in
+    let loop-test = c .before .before .loop-test in
+    count-next _ (loop .inv) (loop-test .taken) (c .before .is-new .ensures) (c .one-if .ensures .0)
 
 returns : tie.Need-returns Inv-loop μ-loop
 returns c = count-all (c .before .loop .inv) (c .loop-test .left)
@@ -43,7 +50,7 @@ count-new-spec =
     μ-loop
     loop-holds
     is-new-requires
-    one-if-requires
+    (λ c κs. search needs)
     add-count
     add-k
     loop-less

@@ -6,28 +6,21 @@ use Rattle.file.proofs.is_after.Tie as tie
 returns : tie.Need-returns
 returns c = first-follows (c .before .before .args .file .now) (c .before .before .args .k) (c .if1 .taken)
 
-sub-record-at : tie.Need-sub-record-at
-sub-record-at c = search needs
-
-record-at-requires : tie.Need-record-at-requires
-record-at-requires c κs = search needs
-
-record-at-requires-2 : tie.Need-record-at-requires-2
-record-at-requires-2 c κs = search needs
-
-record-before-requires : tie.Need-record-before-requires
-record-before-requires c κs = search needs
-
 returns-2 : tie.Need-returns-2
-returns-2 c = later-follows (c .before .before .before .before .before .args .file .now) (c .before .before .before .before .before .args .k) (c .before .before .before .if1 .left) (c .before .before .record-at .ensures) (c .before .record-at2 .ensures) (c .record-before .ensures)
+returns-2 c =
+    let start = c .before .before .before .before .before in
+    let if1 = c .before .before .before .if1 in
+    let record-at = c .before .before .record-at in
+    later-follows (start .args .file .now) (start .args .k) (if1 .left) (record-at .ensures) (c .before .record-at2 .ensures)
+    (c .record-before .ensures)
 
 pub is-after-spec : {M : Type 1} → statement M
 is-after-spec =
     tie.close
     (tie.spec
     returns
-    sub-record-at
-    record-at-requires
-    record-at-requires-2
-    record-before-requires
+    (λ c. search needs)
+    (λ c κs. search needs)
+    (λ c κs. search needs)
+    (λ c κs. search needs)
     returns-2)

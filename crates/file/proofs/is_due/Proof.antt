@@ -10,35 +10,17 @@ use borrow.Author.Needs.{needs}
 use Rattle.file.proofs.is_due.Statement.{statement}
 use Rattle.file.proofs.is_due.Tie as tie
 
-mul-size : tie.Need-mul-size
-mul-size c = search needs
-
-add-size : tie.Need-add-size
-add-size c = search needs
-
-sub-if1 : tie.Need-sub-if1
-sub-if1 c = search needs
-
 returns : tie.Need-returns
-returns c = due-cut (c .before .before .args .kind) (c .before .before .args .words) (drop (c .before .before .args .at) (c .before .before .args .file .now)) (omega (arith, length-drop (c .before .before .args .at) (c .before .before .args .file .now), c .if1 .taken))
-
-pair-at-requires : tie.Need-pair-at-requires
-pair-at-requires c κs = search needs
-
-mul-if2 : tie.Need-mul-if2
-mul-if2 c = search needs
-
-add-if2 : tie.Need-add-if2
-add-if2 c = search needs
+returns c =
+    let start = c .before .before in
+    due-cut (start .args .kind) (start .args .words) (drop (start .args .at) (start .args .file .now))
+    (omega (arith, length-drop (start .args .at) (start .args .file .now), c .if1 .taken))
 
 returns-2 : tie.Need-returns-2
-returns-2 c = due-other (c .before .before .before .before .args .kind) (c .before .before .before .before .args .words) (drop (c .before .before .before .before .args .at) (c .before .before .before .before .args .file .now)) (λ e. c .if2 .taken (c .before .pair-at .ensures .0 ∙ e))
-
-add-pair-at : tie.Need-add-pair-at
-add-pair-at c = search needs
-
-pair-at-requires-2 : tie.Need-pair-at-requires-2
-pair-at-requires-2 c κs = search needs
+returns-2 c =
+    let start = c .before .before .before .before in
+    due-other (start .args .kind) (start .args .words) (drop (start .args .at) (start .args .file .now))
+    (λ e. c .if2 .taken (c .before .pair-at .ensures .0 ∙ e))
 
 returns-3 : tie.Need-returns-3
 returns-3 c = let start = c .before .before .before .before .before in
@@ -53,14 +35,14 @@ pub is-due-spec : {M : Type 1} → statement M
 is-due-spec =
     tie.close
     (tie.spec
-    mul-size
-    add-size
-    sub-if1
+    (λ c. search needs)
+    (λ c. search needs)
+    (λ c. search needs)
     returns
-    pair-at-requires
-    mul-if2
-    add-if2
+    (λ c κs. search needs)
+    (λ c. search needs)
+    (λ c. search needs)
     returns-2
-    add-pair-at
-    pair-at-requires-2
+    (λ c. search needs)
+    (λ c κs. search needs)
     returns-3)

@@ -1,75 +1,112 @@
+use mathlib.Core.Path.{sym, subst, _∙_}
+use mathlib.Core.Option.{none}
+use lib.ListN.{drop}
+use lib.IntN.{ℤ, natAbs}
+use Rattle.geometry.proofs.Rects.{back}
+use Rattle.rules.specs.Insert.{ours}
+use Rattle.rules.specs.File.{loadRecords}
+use Rattle.file.specs.Loading.{Loads}
+use native.Mathlib.Omega.{arith}
+use Rattle.rules.specs.Layout.{read}
+use Rattle.rules_laws.proofs.Bools.{not-true, not-false}
+use Rattle.frames.proofs.Words.{word-kept}
+use Rattle.file.proofs.Dues.{due-long}
+use Rattle.file.proofs.Heads.{head-missing, head-edition, head-count, head-loads, cast-fits, cast-few, cast-is}
 use borrow.Author.Needs.{needs}
 use Rattle.file.proofs.load_file.Statement.{statement}
 use Rattle.file.proofs.load_file.Tie as tie
-use Rattle.file.proofs.load_file.Reads as reads
-use Rattle.file.proofs.load_file.Lts as lts
-use Rattle.file.proofs.is_due.Reads as is-due-reads
-use Rattle.file.proofs.load_records.Reads as load-records-reads
-use Rattle.frames.proofs.word_at.Reads as word-at-reads
-use Rattle.geometry.proofs.le.Reads as le-reads
-use Rattle.geometry.proofs.same.Reads as same-reads
 
--- src/lib.rt:355:9
-is-due-requires : tie.Need-is-due-requires
-is-due-requires c κs = search needs
-
--- src/lib.rt:356:9
 returns : tie.Need-returns
-returns c = ?
+returns c =
+    let start = c .before .before .before in
+    head-missing (read (start .args .pool .now)) (start .args .file .now) _ (sym (c .before .is-due .ensures) ∙ not-true _ (c .if1 .taken))
 
--- src/lib.rt:358:9
 word-at-requires : tie.Need-word-at-requires
-word-at-requires c κs = ?
+word-at-requires c κs =
+    let start = c .before .before .before in
+    omega (arith, due-long 16 2 (start .args .file .now) (sym (c .before .is-due .ensures) ∙ not-false _ (c .if1 .left)))
 
--- src/lib.rt:359:9
 word-at-requires-2 : tie.Need-word-at-requires-2
-word-at-requires-2 c κs = ?
+word-at-requires-2 c κs =
+    let start = c .before .before .before .before in
+    let is-due = c .before .before .is-due in
+    omega (arith, due-long 16 2 (start .args .file .now) (sym (is-due .ensures) ∙ not-false _ (c .before .if1 .left)))
 
--- src/lib.rt:360:9
-same-requires : tie.Need-same-requires
-same-requires c κs = search needs
-
--- src/lib.rt:361:9
 returns-2 : tie.Need-returns-2
-returns-2 c = ?
+returns-2 c =
+    let start = c .before .before .before .before .before .before .before in
+    let is-due = c .before .before .before .before .before .is-due in
+    let if1 = c .before .before .before .before .if1 in
+    let word-at = c .before .before .before .word-at in
+    head-edition (read (start .args .pool .now)) (start .args .file .now) _ (sym (is-due .ensures) ∙ not-false _ (if1 .left))
+    (word-kept (word-at .ok) ∙ word-at .ensures) (sym (c .before .same .ensures) ∙ not-true _ (c .if2 .taken))
 
--- src/lib.rt:363:9
-le-requires : tie.Need-le-requires
-le-requires c κs = search needs
-
--- src/lib.rt:364:9
 returns-3 : tie.Need-returns-3
-returns-3 c = ?
+returns-3 c =
+    let start = c .before .before .before .before .before .before .before .before .before in
+    let is-due = c .before .before .before .before .before .before .before .is-due in
+    let if1 = c .before .before .before .before .before .before .if1 in
+    let word-at = c .before .before .before .before .before .word-at in
+    let word-at2 = c .before .before .before .before .word-at2 in
+    let same = c .before .before .before .same in
+    let if2 = c .before .before .if2 in
+    head-count (read (start .args .pool .now)) (start .args .file .now) _ (sym (is-due .ensures) ∙ not-false _ (if1 .left))
+    (word-kept (word-at .ok) ∙ word-at .ensures) (sym (same .ensures) ∙ not-false _ (if2 .left))
+    (word-kept (word-at2 .ok) ∙ word-at2 .ensures) (sym (c .before .le .ensures) ∙ not-true _ (c .if3 .taken))
 
--- src/lib.rt:366:30
 cast-load-records : tie.Need-cast-load-records
-cast-load-records c = ?
+cast-load-records c =
+    let word-at2 = c .before .before .before .before .before .word-at2 in
+    let le = c .before .before .le in
+    cast-fits _ (word-kept {z = word-at2 .result} (word-at2 .ok)) (word-at2 .ok) (sym (le .ensures) ∙ not-false _ (c .before .if3 .left))
 
--- src/lib.rt:366:5
 load-records-requires : tie.Need-load-records-requires
-load-records-requires c κs = ?
+load-records-requires c κs =
+    let start = c .before .before .before .before .before .before .before .before .before .before in
+    let is-due = c .before .before .before .before .before .before .before .before .is-due in
+    let if1 = c .before .before .before .before .before .before .before .if1 in
+    let word-at2 = c .before .before .before .before .before .word-at2 in
+    let le = c .before .before .le in (
+      (start .pre .0, start .pre .1),
+      (
+        omega (arith, due-long 16 2 (start .args .file .now) (sym (is-due .ensures) ∙ not-false _ (if1 .left))),
+        cast-few _ (word-kept {z = word-at2 .result} (word-at2 .ok)) (word-at2 .ok) (sym (le .ensures) ∙ not-false _ (c .before .if3 .left)),
+      ),
+    )
 
--- src/lib.rt:351:1
-same-length : tie.Need-same-length
-same-length c = search needs
-
--- src/lib.rt:351:1
 returns-4 : tie.Need-returns-4
-returns-4 c = ?
+returns-4 c =
+    let start = c .before .before .before .before .before .before .before .before .before .before .before .before in
+    let is-due = c .before .before .before .before .before .before .before .before .before .before .is-due in
+    let if1 = c .before .before .before .before .before .before .before .before .before .if1 in
+    let word-at = c .before .before .before .before .before .before .before .before .word-at in
+    let word-at2 = c .before .before .before .before .before .before .before .word-at2 in
+    let same = c .before .before .before .before .before .before .same in
+    let if2 = c .before .before .before .before .before .if2 in
+    let le = c .before .before .before .before .le in
+    let if3 = c .before .before .before .if3 in
+    let load-records = c .before .load-records in
+    let not-below = sym (le .ensures) ∙ not-false _ (if3 .left) in
+    head-loads (read (start .args .pool .now)) (start .args .file .now) _ (sym (is-due .ensures) ∙ not-false _ (if1 .left))
+    (word-kept (word-at .ok) ∙ word-at .ensures) (sym (same .ensures) ∙ not-false _ (if2 .left))
+    (word-kept (word-at2 .ok) ∙ word-at2 .ensures) not-below (cast-is _ not-below) _
+    (subst (λ (n : ℤ). Loads
+    (loadRecords ours (natAbs (back (word-at2 .result))) none (read (start .args .pool .now)) (drop 12 (start .args .file .now))) n
+    (load-records .last .0)) (sym (word-kept {z = load-records .result} (load-records .ok))) (load-records .ensures))
 
 pub load-file-spec : {M : Type 1} → statement M
 load-file-spec =
     tie.close
     (tie.spec
-    is-due-requires
+    (λ c κs. search needs)
     returns
     word-at-requires
     word-at-requires-2
-    same-requires
+    (λ c κs. search needs)
     returns-2
-    le-requires
+    (λ c κs. search needs)
     returns-3
     cast-load-records
     load-records-requires
-    same-length
+    (λ c. search needs)
     returns-4)

@@ -1,5 +1,16 @@
-use Prim.Native.Nat.{_-_}
+use mathlib.Core.Path.{_≡_, sym, ap, subst, _∙_}
+use mathlib.Core.Option.{none}
+use Prim.Native.Nat.{ℕ, _-_}
 use native.Mathlib.Omega.{arith}
+use lib.ListN.{drop}
+use lib.IntN.{ℤ, pos}
+use Rattle.rules.specs.Lists.{same}
+use Rattle.rules.specs.Layout.{read}
+use Rattle.rules.specs.Insert.{ours}
+use Rattle.rules.specs.File.{loadRecords}
+use Rattle.rules_laws.proofs.Bools.{not-true, not-false}
+use Rattle.frames.proofs.Words.{word-kept}
+use Rattle.file.specs.Loading.{placeOf, endFault, Loads}
 use borrow.Author.Needs.{needs}
 use Rattle.file.proofs.Takes.{Underway, starts, next, stopped, ended}
 use Rattle.file.proofs.load_records.Statement.{statement}
@@ -15,43 +26,83 @@ free-slots-requires : tie.Need-free-slots-requires Inv-loop μ-loop
 free-slots-requires c κs = c .before .before .pre .0 .0 .right
 
 loop-holds : tie.Need-loop-holds Inv-loop μ-loop
-loop-holds c = starts (c .before .before .before .args .pool .now) (c .before .before .before .args .file .now) (c .before .before .before .args .count) _ (c .before .before .before .pre .0 .0) (c .before .before .before .pre .0 .1) (c .free-slots .ensures) (c .before .before .before .pre .1 .0)
+loop-holds c =
+    let start = c .before .before .before in
+    starts (start .args .pool .now) (start .args .file .now) (start .args .count) _ (start .pre .0 .0) (start .pre .0 .1)
+    (c .free-slots .ensures) (start .pre .1 .0)
 
 take-record-requires : tie.Need-take-record-requires Inv-loop μ-loop
-take-record-requires c κs = ((c .before .before .loop .inv .fit, c .before .before .loop .inv .whole, c .before .before .loop .inv .known), (c .before .before .loop .inv .here, omega (arith, c .before .loop-test .taken, c .before .before .before .before .before .before .pre .1 .1)))
-
-same-requires : tie.Need-same-requires Inv-loop μ-loop
-same-requires c κs = search needs
+take-record-requires c κs =
+    let start = c .before .before .before .before .before .before in
+    let loop = c .before .before .loop in
+    ((loop .inv .fit, loop .inv .whole, loop .inv .known), (loop .inv .here, omega (arith, c .before .loop-test .taken, start .pre .1 .1)))
 
 same-length : tie.Need-same-length Inv-loop μ-loop
-same-length c = ?
+same-length c =
+    let loop = c .before .before .before .before .before .before .before .loop in
+    let take-record = c .before .before .before .before .take-record in
+    take-record .kept .0 ∙ loop .inv .long
 
 returns : tie.Need-returns Inv-loop μ-loop
-returns c = ?
+returns c =
+    let start = c .before .before .before .before .before .before .before .before .before .before .before in
+    let loop = c .before .before .before .before .before .before .before .loop in
+    let loop-test = c .before .before .before .before .before .before .loop-test in
+    let take-record = c .before .before .before .before .take-record in
+    let struct-told = c .before .before .struct-told in
+    let k = word-kept {z = take-record .result .number} (struct-told .given .0 .1) in
+    subst (λ (n : ℤ). Loads (loadRecords ours (start .args .count) none (read (start .args .pool .now)) (drop 12 (start .args .file .now)))
+    n (take-record .last .0)) (sym k)
+    (stopped (start .args .pool .now) (start .args .file .now) (start .args .count) (loop .pool) (loop .k) _ (loop .inv) (loop-test .taken)
+    (take-record .result) (take-record .last .0) (take-record .ensures)
+    (ap (λ (n : ℤ). same n (pos 0)) (sym k) ∙ sym (c .before .same .ensures) ∙ not-true _ (c .if1 .taken)) (take-record .last .0))
 
 add-k : tie.Need-add-k Inv-loop μ-loop
-add-k c = omega (arith, c .before .before .before .before .before .before .before .loop-test .taken, c .before .before .before .before .before .before .before .before .before .before .before .before .pre .1 .1)
+add-k c =
+    let start = c .before .before .before .before .before .before .before .before .before .before .before .before in
+    let loop-test = c .before .before .before .before .before .before .before .loop-test in
+    omega (arith, loop-test .taken, start .pre .1 .1)
 
 loop-less : tie.Need-loop-less Inv-loop μ-loop
-loop-less c = omega (arith, c .before .before .before .before .before .before .before .loop-test .taken)
+loop-less c =
+    let loop-test = c .before .before .before .before .before .before .before .loop-test in
+    omega (arith, loop-test .taken)
 
 loop-again : tie.Need-loop-again Inv-loop μ-loop
-loop-again c = ?
+loop-again c =
+    let start = c .before .before .before .before .before .before .before .before .before .before .before .before in
+    let loop = c .before .before .before .before .before .before .before .before .loop in
+    let loop-test = c .before .before .before .before .before .before .before .loop-test in
+    let take-record = c .before .before .before .before .before .take-record in
+    let struct-told = c .before .before .before .struct-told in
+    let same-call = c .before .before .same in
+    let k = word-kept {z = take-record .result .number} (struct-told .given .0 .1) in
+    next (start .args .pool .now) (start .args .file .now) (start .args .count) (loop .pool) (loop .k) _ (loop .inv) (loop-test .taken)
+    (take-record .result) (take-record .last .0) (take-record .ensures) (take-record .kept .0)
+    (ap (λ (n : ℤ). same n (pos 0)) (sym k) ∙ sym (same-call .ensures) ∙ not-false _ (c .before .if1 .left))
 
 mul-end-fault : tie.Need-mul-end-fault Inv-loop μ-loop
-mul-end-fault c = omega (arith, c .before .before .before .before .before .pre .1 .1)
+mul-end-fault c =
+    let start = c .before .before .before .before .before in
+    omega (arith, start .pre .1 .1)
 
 add-end-fault : tie.Need-add-end-fault Inv-loop μ-loop
-add-end-fault c = omega (arith, c .before .before .before .before .before .pre .1 .1)
+add-end-fault c =
+    let start = c .before .before .before .before .before in
+    omega (arith, start .pre .1 .1)
 
 end-fault-requires : tie.Need-end-fault-requires Inv-loop μ-loop
-end-fault-requires c κs = ?
+end-fault-requires c κs = omega (arith, c .before .loop .inv .here, c .before .loop .inv .left, c .loop-test .left)
 
 same-length-2 : tie.Need-same-length-2 Inv-loop μ-loop
-same-length-2 c = ?
+same-length-2 c = c .before .before .loop .inv .long
 
 returns-2 : tie.Need-returns-2 Inv-loop μ-loop
-returns-2 c = ?
+returns-2 c = let start = c .before .before .before .before .before .before in
+    let loop = c .before .before .loop in
+    let at : start .args .count ≡ loop .k = omega (arith, loop .inv .left, c .before .loop-test .left) in
+    ended (start .args .pool .now) (start .args .file .now) (start .args .count) (loop .pool) (loop .k) _ (loop .inv) (c .before .loop-test .left)
+    (word-kept (c .end-fault .ok) ∙ c .end-fault .ensures ∙ ap (λ (n : ℕ). endFault (drop (placeOf n) (start .args .file .now))) at)
 
 pub load-records-spec : {M : Type 1} → statement M
 load-records-spec =
@@ -62,7 +113,7 @@ load-records-spec =
     free-slots-requires
     loop-holds
     take-record-requires
-    same-requires
+    (λ c κs. search needs)
     same-length
     returns
     add-k

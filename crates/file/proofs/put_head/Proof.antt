@@ -12,31 +12,45 @@ use borrow.Author.Needs.{needs}
 use Rattle.file.proofs.put_head.Statement.{statement}
 use Rattle.file.proofs.put_head.Tie as tie
 
-put-start-requires : tie.Need-put-start-requires
-put-start-requires c κs = search needs
-
 put-word-requires : tie.Need-put-word-requires
-put-word-requires c κs = omega (arith, c .before .before .before .before .before .before .pre .0, c .before .before .before .put-start .ensures .place, c .before .before .before .put-start .kept .0, start-long 16 2)
-
-cast-put-word : tie.Need-cast-put-word
-cast-put-word c = search needs
+put-word-requires c κs =
+    let start = c .before .before .before .before .before .before in
+    let put-start = c .before .before .before .put-start in
+    omega (arith, start .pre .0, put-start .ensures .place, put-start .kept .0, start-long 16 2)
 
 put-word-requires-2 : tie.Need-put-word-requires-2
-put-word-requires-2 c κs = omega (arith, c .before .before .before .before .before .before .before .before .before .before .pre .0, c .before .before .before .before .before .before .before .put-start .ensures .place, c .before .before .before .before .before .before .before .put-start .kept .0, start-long 16 2, word-next _ (c .before .before .before .put-word .ensures), c .before .before .before .put-word .kept .0)
-
-same-length : tie.Need-same-length
-same-length c = search needs
+put-word-requires-2 c κs =
+    let start = c .before .before .before .before .before .before .before .before .before .before in
+    let put-start = c .before .before .before .before .before .before .before .put-start in
+    let put-word = c .before .before .before .put-word in
+    omega (
+      arith,
+      start .pre .0,
+      put-start .ensures .place,
+      put-start .kept .0,
+      start-long 16 2,
+      word-next _ (put-word .ensures),
+      put-word .kept .0,
+    )
 
 returns : tie.Need-returns
-returns c = wrote-as (ap (λ (z : ℤ). start 16 2 ++ wordBytes (pos 1) ++ wordBytes z) (toZ-pos w32 {n = c .before .before .before .before .before .before .before .before .before .before .before .before .before .args .count} (omega (arith, c .before .before .before .before .before .before .before .before .before .before .before .before .before .pre .1))) ∙ head-text (c .before .before .before .before .before .before .before .before .before .before .before .before .before .args .count)) (wrote-then (wrote-then (c .before .before .before .before .before .before .before .before .before .before .put-start .ensures) (c .before .before .before .before .before .before .put-word .ensures)) (c .before .before .put-word2 .ensures))
+returns c =
+    let at-put-word = c .before .before .before .before .before .before in
+    let start-call = at-put-word .before .before .before .before .before .before .before in
+    let put-start = at-put-word .before .before .before .before .put-start in
+    let put-word = at-put-word .put-word in
+    let put-word2 = c .before .before .put-word2 in
+    wrote-as (ap (λ (z : ℤ). start 16 2 ++ wordBytes (pos 1) ++ wordBytes z)
+    (toZ-pos w32 {n = start-call .args .count} (omega (arith, start-call .pre .1)))
+    ∙ head-text (start-call .args .count)) (wrote-then (wrote-then (put-start .ensures) (put-word .ensures)) (put-word2 .ensures))
 
 pub put-head-spec : {M : Type 1} → statement M
 put-head-spec =
     tie.close
     (tie.spec
-    put-start-requires
+    (λ c κs. search needs)
     put-word-requires
-    cast-put-word
+    (λ c. search needs)
     put-word-requires-2
-    same-length
+    (λ c. search needs)
     returns)

@@ -11,27 +11,45 @@ use borrow.Author.Needs.{needs}
 use Rattle.file.proofs.put_new.Statement.{statement}
 use Rattle.file.proofs.put_new.Tie as tie
 
-is-new-requires : tie.Need-is-new-requires
-is-new-requires c κs = search needs
-
 returns : tie.Need-returns
-returns c = wrote-as (sym (old-text (c .before .before .before .args .pool .now) (c .before .before .before .args .items .now) (c .before .before .before .args .k) (sym (c .before .is-new .ensures) ∙ not-true _ (c .if1 .taken)))) (nothing-wrote (c .before .before .before .args .file .now) (c .before .before .before .args .at))
+returns c =
+    let start = c .before .before .before in
+    wrote-as (sym (old-text (start .args .pool .now) (start .args .items .now) (start .args .k)
+    (sym (c .before .is-new .ensures) ∙ not-true _ (c .if1 .taken)))) (nothing-wrote (start .args .file .now) (start .args .at))
 
 item-requires : tie.Need-item-requires
-item-requires c κs = (item-words (c .before .before .before .args .pool .now) (c .before .before .before .args .items .now) (c .before .before .before .args .n) (c .before .before .before .args .k) (c .before .before .before .pre .0) (c .before .before .before .pre .1 .0), item-spot (c .before .before .before .args .pool .now) (c .before .before .before .args .items .now) (c .before .before .before .args .n) (c .before .before .before .args .k) (c .before .before .before .pre .0) (c .before .before .before .pre .1 .0))
+item-requires c κs =
+    let start = c .before .before .before in (
+      item-words (start .args .pool .now) (start .args .items .now) (start .args .n) (start .args .k) (start .pre .0) (start .pre .1 .0),
+      item-spot (start .args .pool .now) (start .args .items .now) (start .args .n) (start .args .k) (start .pre .0) (start .pre .1 .0),
+    )
 
 put-record-requires : tie.Need-put-record-requires
-put-record-requires c κs = let text = new-text (c .before .before .before .before .before .args .pool .now) (c .before .before .before .before .before .args .items .now) (c .before .before .before .before .before .args .k) (sym (c .before .before .before .is-new .ensures) ∙ not-false _ (c .before .before .if1 .left)) in
-    omega (arith, c .before .before .before .before .before .pre .1 .1, ap length text, record-long (itemAt (c .before .before .before .before .before .args .pool .now) (c .before .before .before .before .before .args .items .now) (c .before .before .before .before .before .args .k)))
-
-same-length : tie.Need-same-length
-same-length c = search needs
+put-record-requires c κs =
+    let start = c .before .before .before .before .before in
+    let is-new = c .before .before .before .is-new in
+    let if1 = c .before .before .if1 in
+    let text =
+    new-text (start .args .pool .now) (start .args .items .now) (start .args .k) (sym (is-new .ensures) ∙ not-false _ (if1 .left)) in
+    omega (
+      arith,
+      start .pre .1 .1,
+      ap length text,
+      record-long (itemAt (start .args .pool .now) (start .args .items .now) (start .args .k)),
+    )
 
 returns-2 : tie.Need-returns-2
-returns-2 c = let text = new-text (c .before .before .before .before .before .before .before .before .args .pool .now) (c .before .before .before .before .before .before .before .before .args .items .now) (c .before .before .before .before .before .before .before .before .args .k) (sym (c .before .before .before .before .before .before .is-new .ensures) ∙ not-false _ (c .before .before .before .before .before .if1 .left)) in
-    wrote-as (ap recordFrame (c .before .before .before .before .item .ensures) ∙ sym text) (c .before .before .put-record .ensures)
+returns-2 c =
+    let start = c .before .before .before .before .before .before .before .before in
+    let is-new = c .before .before .before .before .before .before .is-new in
+    let if1 = c .before .before .before .before .before .if1 in
+    let item = c .before .before .before .before .item in
+    let put-record = c .before .before .put-record in
+    let text =
+    new-text (start .args .pool .now) (start .args .items .now) (start .args .k) (sym (is-new .ensures) ∙ not-false _ (if1 .left)) in
+    wrote-as (ap recordFrame (item .ensures) ∙ sym text) (put-record .ensures)
 
 pub put-new-spec : {M : Type 1} → statement M
 put-new-spec =
     tie.close
-    (tie.spec is-new-requires returns item-requires put-record-requires same-length returns-2)
+    (tie.spec (λ c κs. search needs) returns item-requires put-record-requires (λ c. search needs) returns-2)

@@ -12,19 +12,34 @@ abbrev μ-loop : tie.MeasureT-loop
 μ-loop pool items n file₀ at next₀ k₀ file next k = n - k
 
 loop-holds : tie.Need-loop-holds Inv-loop μ-loop
-loop-holds c = put-first (c .before .args .pool .now) (c .before .args .items .now) (c .before .args .n) (c .before .args .file .now) (c .before .args .at)
+loop-holds c =
+    let start = c .before in
+    put-first (start .args .pool .now) (start .args .items .now) (start .args .n) (start .args .file .now) (start .args .at)
 
 put-new-requires : tie.Need-put-new-requires Inv-loop μ-loop
-put-new-requires c κs = (c .before .before .before .before .pre .0, (c .before .loop-test .taken, put-room (c .before .before .loop .inv) (c .before .loop-test .taken) (c .before .before .before .before .pre .1)))
+put-new-requires c κs =
+    let start = c .before .before .before .before in
+    let loop = c .before .before .loop in
+    let loop-test = c .before .loop-test in
+    (start .pre .0, (loop-test .taken, put-room (loop .inv) (loop-test .taken) (start .pre .1)))
 
 add-k : tie.Need-add-k Inv-loop μ-loop
-add-k c = omega (arith, c .before .before .before .before .loop-test .taken, c .before .before .before .before .before .before .before .pre .0 .few)
+add-k c =
+    let start = c .before .before .before .before .before .before .before in
+    let loop-test = c .before .before .before .before .loop-test in
+    omega (arith, loop-test .taken, start .pre .0 .few)
 
 loop-less : tie.Need-loop-less Inv-loop μ-loop
-loop-less c = omega (arith, c .before .before .before .before .loop-test .taken)
+loop-less c =
+    let loop-test = c .before .before .before .before .loop-test in
+    omega (arith, loop-test .taken)
 
 loop-again : tie.Need-loop-again Inv-loop μ-loop
-loop-again c = put-next (c .before .before .before .before .before .loop .inv) (c .before .before .before .before .loop-test .taken) (c .before .before .put-new .ensures)
+loop-again c =
+    let loop = c .before .before .before .before .before .loop in
+    let loop-test = c .before .before .before .before .loop-test in
+    let put-new = c .before .before .put-new in
+    put-next (loop .inv) (loop-test .taken) (put-new .ensures)
 
 same-length : tie.Need-same-length Inv-loop μ-loop
 same-length c = wrote-length (c .before .loop .inv .wrote)

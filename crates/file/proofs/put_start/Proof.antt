@@ -6,25 +6,19 @@ use borrow.Author.Needs.{needs}
 use Rattle.file.proofs.put_start.Statement.{statement}
 use Rattle.file.proofs.put_start.Tie as tie
 
-mul-put-pair : tie.Need-mul-put-pair
-mul-put-pair c = search needs
-
-add-put-pair : tie.Need-add-put-pair
-add-put-pair c = search needs
-
-put-pair-requires : tie.Need-put-pair-requires
-put-pair-requires c κs = search needs
-
 put-pair-requires-2 : tie.Need-put-pair-requires-2
-put-pair-requires-2 c κs = omega (arith, c .before .before .before .before .before .before .pre .0, c .before .before .before .put-pair .ensures .place, c .before .before .before .put-pair .kept .0, pair-long (2 + 4 * c .before .before .before .before .before .before .args .words))
-
-same-length : tie.Need-same-length
-same-length c = search needs
+put-pair-requires-2 c κs =
+    let start = c .before .before .before .before .before .before in
+    let put-pair = c .before .before .before .put-pair in
+    omega (arith, start .pre .0, put-pair .ensures .place, put-pair .kept .0, pair-long (2 + 4 * start .args .words))
 
 returns : tie.Need-returns
-returns c = wrote-then (c .before .before .before .before .before .before .put-pair .ensures) (c .before .before .put-pair2 .ensures)
+returns c =
+    let put-pair = c .before .before .before .before .before .before .put-pair in
+    let put-pair2 = c .before .before .put-pair2 in
+    wrote-then (put-pair .ensures) (put-pair2 .ensures)
 
 pub put-start-spec : {M : Type 1} → statement M
 put-start-spec =
     tie.close
-    (tie.spec mul-put-pair add-put-pair put-pair-requires put-pair-requires-2 same-length returns)
+    (tie.spec (λ c. search needs) (λ c. search needs) (λ c κs. search needs) put-pair-requires-2 (λ c. search needs) returns)

@@ -1,85 +1,101 @@
+use mathlib.Core.Path.{sym, subst, _∙_}
+use lib.IntN.{ℤ}
+use Rattle.rules.specs.Layout.{read}
+use Rattle.rules.specs.Insert.{ours}
+use Rattle.rules.specs.File.{loadFile}
+use Rattle.frames.proofs.Words.{word-kept}
+use Rattle.file.specs.Loading.{Loads}
+use Rattle.file.proofs.Loaded.{reads-1, as-long, blank-fit, blank-tree, reads-in, reads-out}
 use borrow.Author.Needs.{needs}
 use Rattle.file.proofs.read.Statement.{statement}
 use Rattle.file.proofs.read.Tie as tie
-use Rattle.file.proofs.read.Reads as reads
-use Rattle.file.proofs.read.Lts as lts
-use Rattle.file.proofs.load_file.Reads as load-file-reads
-use Rattle.geometry.proofs.same.Reads as same-reads
-use Rattle.pool.proofs.blank.blank.Reads as blank-reads
-use Rattle.pool.proofs.copy.Reads as copy-reads
-use Rattle.pool.proofs.lengths_fit.Reads as lengths-fit-reads
 
--- src/lib.rt:374:9
-lengths-fit-requires : tie.Need-lengths-fit-requires
-lengths-fit-requires c κs = search needs
-
--- src/lib.rt:375:9
-same-length : tie.Need-same-length
-same-length c = search needs
-
--- src/lib.rt:375:9
 returns : tie.Need-returns
-returns c = ?
+returns c =
+    let start = c .before .before .before .before in
+    reads-1 (start .args .pool .now) (start .args .work .now) (start .args .file .now)
+    (sym (c .before .lengths-fit .ensures) ∙ c .if1 .taken)
 
--- src/lib.rt:377:5
-blank-requires : tie.Need-blank-requires
-blank-requires c κs = search needs
-
--- src/lib.rt:378:9
 load-file-requires : tie.Need-load-file-requires
-load-file-requires c κs = ?
+load-file-requires c κs =
+    let start = c .before .before .before .before .before .before .before .before in
+    let lengths-fit = c .before .before .before .before .before .lengths-fit in
+    let if1 = c .before .before .before .before .if1 in
+    let blank = c .before .before .blank in
+    let h = sym (lengths-fit .ensures) ∙ if1 .left in (
+      blank-fit (start .args .pool .now) (start .args .work .now) (start .args .file .now) h (blank .ensures .1) (blank .kept .0),
+      blank-tree (start .args .pool .now) (start .args .work .now) (start .args .file .now) h (blank .ensures .1),
+    )
 
--- src/lib.rt:379:8
-same-requires : tie.Need-same-requires
-same-requires c κs = search needs
-
--- src/lib.rt:380:9
 copy-requires : tie.Need-copy-requires
-copy-requires c κs = ?
+copy-requires c κs =
+    let at-blank = c .before .before .before .before .before .before .before .before in
+    let start = at-blank .before .before .before .before .before .before in
+    let lengths-fit = at-blank .before .before .before .lengths-fit in
+    let if1 = at-blank .before .before .if1 in
+    let blank = at-blank .blank in
+    let load-file = c .before .before .before .before .before .load-file in
+    load-file .kept .0
+    ∙ blank .kept .0
+    ∙ as-long (start .args .pool .now) (start .args .work .now) (start .args .file .now) (sym (lengths-fit .ensures) ∙ if1 .left)
 
--- src/lib.rt:382:9
 copy-requires-2 : tie.Need-copy-requires-2
-copy-requires-2 c κs = ?
+copy-requires-2 c κs =
+    let at-blank = c .before .before .before .before .before .before .before .before in
+    let start = at-blank .before .before .before .before .before .before in
+    let lengths-fit = at-blank .before .before .before .lengths-fit in
+    let if1 = at-blank .before .before .if1 in
+    let blank = at-blank .blank in
+    let load-file = c .before .before .before .before .before .load-file in
+    sym (load-file .kept .0
+    ∙ blank .kept .0
+    ∙ as-long (start .args .pool .now) (start .args .work .now) (start .args .file .now) (sym (lengths-fit .ensures) ∙ if1 .left))
 
--- src/lib.rt:371:1
-same-length-2 : tie.Need-same-length-2
-same-length-2 c = search needs
-
--- src/lib.rt:371:1
-same-length-3 : tie.Need-same-length-3
-same-length-3 c = search needs
-
--- src/lib.rt:371:1
 returns-2 : tie.Need-returns-2
-returns-2 c = ?
+returns-2 c =
+    let at-load-file = c .before .before .before .before .before .before .before in
+    let start = at-load-file .before .before .before .before .before .before .before .before .before in
+    let lengths-fit = at-load-file .before .before .before .before .before .before .lengths-fit in
+    let if1 = at-load-file .before .before .before .before .before .if1 in
+    let blank = at-load-file .before .before .before .blank in
+    let load-file = at-load-file .load-file in
+    let same = c .before .before .before .before .before .same in
+    let if2 = c .before .before .before .before .if2 in
+    let h = sym (lengths-fit .ensures) ∙ if1 .left in
+    reads-in (start .args .pool .now) (start .args .work .now) (start .args .file .now) h (blank .ensures .1) _ _
+    (subst (λ (n : ℤ). Loads (loadFile ours (read (blank .last .0)) (start .args .file .now)) n (load-file .last .0))
+    (sym (word-kept (load-file .ok))) (load-file .ensures)) (sym (same .ensures) ∙ if2 .taken) (c .before .copy .ensures)
 
--- src/lib.rt:371:1
-same-length-4 : tie.Need-same-length-4
-same-length-4 c = search needs
-
--- src/lib.rt:371:1
-same-length-5 : tie.Need-same-length-5
-same-length-5 c = search needs
-
--- src/lib.rt:371:1
 returns-3 : tie.Need-returns-3
-returns-3 c = ?
+returns-3 c =
+    let at-load-file = c .before .before .before .before .before .before .before in
+    let start = at-load-file .before .before .before .before .before .before .before .before .before in
+    let lengths-fit = at-load-file .before .before .before .before .before .before .lengths-fit in
+    let if1 = at-load-file .before .before .before .before .before .if1 in
+    let blank = at-load-file .before .before .before .blank in
+    let load-file = at-load-file .load-file in
+    let same = c .before .before .before .before .before .same in
+    let if2 = c .before .before .before .before .if2 in
+    let h = sym (lengths-fit .ensures) ∙ if1 .left in
+    reads-out (start .args .pool .now) (start .args .work .now) (start .args .file .now) h (blank .ensures .1) _ _
+    (subst (λ (n : ℤ). Loads (loadFile ours (read (blank .last .0)) (start .args .file .now)) n (load-file .last .0))
+    (sym (word-kept (load-file .ok))) (load-file .ensures)) (sym (same .ensures) ∙ if2 .left) (c .before .copy2 .ensures)
 
 pub read-spec : {M : Type 1} → statement M
 read-spec =
     tie.close
     (tie.spec
-    lengths-fit-requires
-    same-length
+    (λ c κs. search needs)
+    (λ c. search needs)
     returns
-    blank-requires
+    (λ c κs. search needs)
     load-file-requires
-    same-requires
+    (λ c κs. search needs)
     copy-requires
     copy-requires-2
-    same-length-2
-    same-length-3
+    (λ c. search needs)
+    (λ c. search needs)
     returns-2
-    same-length-4
-    same-length-5
+    (λ c. search needs)
+    (λ c. search needs)
     returns-3)

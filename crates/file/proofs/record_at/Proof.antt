@@ -5,28 +5,13 @@ use borrow.Author.Needs.{needs}
 use Rattle.file.proofs.record_at.Statement.{statement}
 use Rattle.file.proofs.record_at.Tie as tie
 
-mul-at : tie.Need-mul-at
-mul-at c = search needs
-
-add-at : tie.Need-add-at
-add-at c = search needs
-
-add-word-at : tie.Need-add-word-at
-add-word-at c = search needs
-
-word-at-requires : tie.Need-word-at-requires
-word-at-requires c κs = search needs
-
-add-rect-at : tie.Need-add-rect-at
-add-rect-at c = search needs
-
-rect-at-requires : tie.Need-rect-at-requires
-rect-at-requires c κs = search needs
-
 returns : tie.Need-returns
-returns c = record-made (c .before .before .before .args .file .now) (c .before .before .before .args .k) (word-kept (c .before .word-at .ok) ∙ c .before .word-at .ensures) (c .rect-at .ensures)
+returns c =
+    let start = c .before .before .before in
+    let word-at = c .before .word-at in
+    record-made (start .args .file .now) (start .args .k) (word-kept (word-at .ok) ∙ word-at .ensures) (c .rect-at .ensures)
 
 pub record-at-spec : {M : Type 1} → statement M
 record-at-spec =
     tie.close
-    (tie.spec mul-at add-at add-word-at word-at-requires add-rect-at rect-at-requires returns)
+    (tie.spec (λ c. search needs) (λ c. search needs) (λ c. search needs) (λ c κs. search needs) (λ c. search needs) (λ c κs. search needs) returns)

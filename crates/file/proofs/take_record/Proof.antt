@@ -15,59 +15,82 @@ use borrow.Author.Needs.{needs}
 use Rattle.file.proofs.take_record.Statement.{statement}
 use Rattle.file.proofs.take_record.Tie as tie
 
-fault-at-requires : tie.Need-fault-at-requires
-fault-at-requires c κs = search needs
-
-same-requires : tie.Need-same-requires
-same-requires c κs = search needs
-
 returns : tie.Need-returns
-returns c = took-refused (read (c .before .before .before .before .args .pool .now)) (c .before .before .before .before .args .file .now) (c .before .before .before .before .args .k) (word-kept (c .before .before .fault-at .ok) ∙ c .before .before .fault-at .ensures) (sym (c .before .same .ensures) ∙ not-true _ (c .if1 .taken)) _ refl _
+returns c =
+    let start = c .before .before .before .before in
+    let fault-at = c .before .before .fault-at in
+    took-refused (read (start .args .pool .now)) (start .args .file .now) (start .args .k) (word-kept (fault-at .ok) ∙ fault-at .ensures)
+    (sym (c .before .same .ensures) ∙ not-true _ (c .if1 .taken)) _ refl _
 
 record-at-requires : tie.Need-record-at-requires
-record-at-requires c κs = (omega (arith, due-long 17 5 (drop (placeOf (c .before .before .before .before .args .k)) (c .before .before .before .before .args .file .now)) (due-then (c .before .before .before .before .args .file .now) (c .before .before .before .before .args .k) (no-fault (c .before .before .before .before .args .file .now) (c .before .before .before .before .args .k) (word-kept (c .before .before .fault-at .ok) ∙ c .before .before .fault-at .ensures) (sym (c .before .same .ensures) ∙ not-false _ (c .if1 .left)))), length-drop (placeOf (c .before .before .before .before .args .k)) (c .before .before .before .before .args .file .now)), c .before .before .before .before .pre .1 .1)
+record-at-requires c κs =
+    let start = c .before .before .before .before in
+    let fault-at = c .before .before .fault-at in (
+      omega (
+        arith,
+        due-long 17 5 (drop (placeOf (start .args .k)) (start .args .file .now))
+            (due-then (start .args .file .now) (start .args .k)
+            (no-fault (start .args .file .now) (start .args .k) (word-kept (fault-at .ok) ∙ fault-at .ensures)
+            (sym (c .before .same .ensures) ∙ not-false _ (c .if1 .left)))),
+        length-drop (placeOf (start .args .k)) (start .args .file .now),
+      ),
+      start .pre .1 .1,
+    )
 
 insert-record-requires : tie.Need-insert-record-requires
-insert-record-requires c κs = let start = c .before .before .before .before .before .before in
-    let g = subst (λ (r : Record). Passes (lastAt (start .args .file .now) (start .args .k)) r) (sym (c .before .record-at .ensures)) (then-passes (c .before .before .before .before .before .before .args .file .now) (c .before .before .before .before .before .before .args .k) (no-fault (c .before .before .before .before .before .before .args .file .now) (c .before .before .before .before .before .before .args .k) (word-kept (c .before .before .before .before .fault-at .ok) ∙ c .before .before .before .before .fault-at .ensures) (sym (c .before .before .before .same .ensures) ∙ not-false _ (c .before .before .if1 .left)))) in
+insert-record-requires c κs =
+    let start = c .before .before .before .before .before .before in
+    let fault-at = c .before .before .before .before .fault-at in
+    let same = c .before .before .before .same in
+    let if1 = c .before .before .if1 in
+    let g = subst (λ (r : Record). Passes (lastAt (start .args .file .now) (start .args .k)) r) (sym (c .before .record-at .ensures))
+    (then-passes (start .args .file .now) (start .args .k)
+    (no-fault (start .args .file .now) (start .args .k) (word-kept (fault-at .ok) ∙ fault-at .ensures)
+    (sym (same .ensures) ∙ not-false _ (if1 .left)))) in
     (start .pre .0 .0, (start .pre .0 .1, ((g .rect, g .number), start .pre .0 .2)))
 
-enum-known-o : tie.Need-enum-known-o
-enum-known-o c = search needs
-
-enum-told : tie.Need-enum-told
-enum-told c = search needs
-
-same-length : tie.Need-same-length
-same-length c = search needs
-
 returns-2 : tie.Need-returns-2
-returns-2 c = let start = c .before .before .before .before .before .before .before .before .before .before .before in
-    let i = c .before .before .before .before .insert-record in
-    took-made (read (start .args .pool .now)) (c .before .before .before .before .before .before .before .before .before .before .before .args .file .now) (c .before .before .before .before .before .before .before .before .before .before .before .args .k) (no-fault (c .before .before .before .before .before .before .before .before .before .before .before .args .file .now) (c .before .before .before .before .before .before .before .before .before .before .before .args .k) (word-kept (c .before .before .before .before .before .before .before .before .before .fault-at .ok) ∙ c .before .before .before .before .before .before .before .before .before .fault-at .ensures) (sym (c .before .before .before .before .before .before .before .before .same .ensures) ∙ not-false _ (c .before .before .before .before .before .before .before .if1 .left))) (start .args .pool .now) (i .last .0) (i .result) _ (c .before .o .given .1)
-    (subst (λ (r : Record). Leaves (start .args .pool .now) (insertRecord ours (read (start .args .pool .now)) r) (i .result) (i .last .0)) (c .before .before .before .before .before .before .record-at .ensures) (i .ensures))
-
-same-length-2 : tie.Need-same-length-2
-same-length-2 c = search needs
+returns-2 c =
+    let start = c .before .before .before .before .before .before .before .before .before .before .before in
+    let fault-at = c .before .before .before .before .before .before .before .before .before .fault-at in
+    let same = c .before .before .before .before .before .before .before .before .same in
+    let if1 = c .before .before .before .before .before .before .before .if1 in
+    let record-at = c .before .before .before .before .before .before .record-at in
+    let insert-record = c .before .before .before .before .insert-record in
+    took-made (read (start .args .pool .now)) (start .args .file .now) (start .args .k)
+    (no-fault (start .args .file .now) (start .args .k) (word-kept (fault-at .ok) ∙ fault-at .ensures)
+    (sym (same .ensures) ∙ not-false _ (if1 .left))) (start .args .pool .now) (insert-record .last .0) (insert-record .result) _
+    (c .before .o .given .1)
+    (subst (λ (r : Record). Leaves (start .args .pool .now) (insertRecord ours (read (start .args .pool .now)) r) (insert-record .result)
+    (insert-record .last .0)) (record-at .ensures) (insert-record .ensures))
 
 returns-3 : tie.Need-returns-3
-returns-3 c = let start = c .before .before .before .before .before .before .before .before .before .before in
-    let i = c .before .before .before .insert-record in
-    took-full (read (start .args .pool .now)) (c .before .before .before .before .before .before .before .before .before .before .args .file .now) (c .before .before .before .before .before .before .before .before .before .before .args .k) (no-fault (c .before .before .before .before .before .before .before .before .before .before .args .file .now) (c .before .before .before .before .before .before .before .before .before .before .args .k) (word-kept (c .before .before .before .before .before .before .before .before .fault-at .ok) ∙ c .before .before .before .before .before .before .before .before .fault-at .ensures) (sym (c .before .before .before .before .before .before .before .same .ensures) ∙ not-false _ (c .before .before .before .before .before .before .if1 .left))) (start .args .pool .now) (i .last .0) (i .result) _ (c .enum-told .given .1)
-    (subst (λ (r : Record). Leaves (start .args .pool .now) (insertRecord ours (read (start .args .pool .now)) r) (i .result) (i .last .0)) (c .before .before .before .before .before .record-at .ensures) (i .ensures))
+returns-3 c =
+    let start = c .before .before .before .before .before .before .before .before .before .before in
+    let fault-at = c .before .before .before .before .before .before .before .before .fault-at in
+    let same = c .before .before .before .before .before .before .before .same in
+    let if1 = c .before .before .before .before .before .before .if1 in
+    let record-at = c .before .before .before .before .before .record-at in
+    let insert-record = c .before .before .before .insert-record in
+    took-full (read (start .args .pool .now)) (start .args .file .now) (start .args .k)
+    (no-fault (start .args .file .now) (start .args .k) (word-kept (fault-at .ok) ∙ fault-at .ensures)
+    (sym (same .ensures) ∙ not-false _ (if1 .left))) (start .args .pool .now) (insert-record .last .0) (insert-record .result) _
+    (c .enum-told .given .1)
+    (subst (λ (r : Record). Leaves (start .args .pool .now) (insertRecord ours (read (start .args .pool .now)) r) (insert-record .result)
+    (insert-record .last .0)) (record-at .ensures) (insert-record .ensures))
 
 pub take-record-spec : {M : Type 1} → statement M
 take-record-spec =
     tie.close
     (tie.spec
-    fault-at-requires
-    same-requires
+    (λ c κs. search needs)
+    (λ c κs. search needs)
     returns
     record-at-requires
     insert-record-requires
-    enum-known-o
-    enum-told
-    same-length
+    (λ c. search needs)
+    (λ c. search needs)
+    (λ c. search needs)
     returns-2
-    same-length-2
+    (λ c. search needs)
     returns-3)

@@ -1,48 +1,62 @@
+use mathlib.Core.Path.{sym, subst, _∙_}
+use lib.IntN.{ℤ}
+use Rattle.rules_laws.proofs.Bools.{not-true, not-false}
+use Rattle.frames.proofs.Words.{word-kept}
+use Rattle.in_force_laws.proofs.Sounds.{sound-tree}
+use Rattle.file.specs.Promises.{Writes}
+use Rattle.file.proofs.Writes.{writes-1, writes-2, writes-filled}
 use borrow.Author.Needs.{needs}
 use Rattle.file.proofs.write.Statement.{statement}
 use Rattle.file.proofs.write.Tie as tie
-use Rattle.file.proofs.write.Reads as reads
-use Rattle.file.proofs.write.Lts as lts
-use Rattle.file.proofs.fill.Reads as fill-reads
-use Rattle.pool.proofs.valid_length.Reads as valid-length-reads
-use Rattle.sound.proofs.sound.Reads as sound-reads
 
--- src/lib.rt:208:9
-valid-length-requires : tie.Need-valid-length-requires
-valid-length-requires c κs = search needs
-
--- src/lib.rt:209:9
 returns : tie.Need-returns
-returns c = ?
+returns c =
+    let start = c .before .before .before in
+    writes-1 (start .args .pool .now) (start .args .file .now) (sym (c .before .valid-length .ensures) ∙ not-true _ (c .if1 .taken))
 
--- src/lib.rt:211:9
 sound-requires : tie.Need-sound-requires
-sound-requires c κs = ?
+sound-requires c κs = sym (c .before .valid-length .ensures) ∙ not-false _ (c .if1 .left)
 
--- src/lib.rt:212:9
 returns-2 : tie.Need-returns-2
-returns-2 c = ?
+returns-2 c =
+    let start = c .before .before .before .before .before in
+    let valid-length = c .before .before .before .valid-length in
+    let if1 = c .before .before .if1 in
+    writes-2 (start .args .pool .now) (start .args .file .now) (sym (valid-length .ensures) ∙ not-false _ (if1 .left))
+    (sym (c .before .sound .ensures) ∙ not-true _ (c .if2 .taken))
 
--- src/lib.rt:214:5
 fill-requires : tie.Need-fill-requires
-fill-requires c κs = ?
+fill-requires c κs =
+    let start = c .before .before .before .before .before .before .before in
+    let valid-length = c .before .before .before .before .before .valid-length in
+    let if1 = c .before .before .before .before .if1 in
+    let sound = c .before .before .before .sound in
+    let if2 = c .before .before .if2 in (
+      sym (valid-length .ensures) ∙ not-false _ (if1 .left),
+      sound-tree (start .args .pool .now) (sym (sound .ensures) ∙ not-false _ (if2 .left)),
+    )
 
--- src/lib.rt:204:1
-same-length : tie.Need-same-length
-same-length c = search needs
-
--- src/lib.rt:204:1
 returns-3 : tie.Need-returns-3
-returns-3 c = ?
+returns-3 c =
+    let start = c .before .before .before .before .before .before .before .before .before .before in
+    let valid-length = c .before .before .before .before .before .before .before .before .valid-length in
+    let if1 = c .before .before .before .before .before .before .before .if1 in
+    let sound = c .before .before .before .before .before .before .sound in
+    let if2 = c .before .before .before .before .before .if2 in
+    let fill = c .before .before .fill in
+    subst (λ (n : ℤ). Writes (start .args .pool .now) (start .args .file .now) n (fill .last .1 .0) (fill .last .1 .1 .0))
+    (sym (word-kept (fill .ok)))
+    (writes-filled (start .args .pool .now) (start .args .file .now) (sym (valid-length .ensures) ∙ not-false _ (if1 .left))
+    (sym (sound .ensures) ∙ not-false _ (if2 .left)) (fill .ensures))
 
 pub write-spec : {M : Type 1} → statement M
 write-spec =
     tie.close
     (tie.spec
-    valid-length-requires
+    (λ c κs. search needs)
     returns
     sound-requires
     returns-2
     fill-requires
-    same-length
+    (λ c. search needs)
     returns-3)

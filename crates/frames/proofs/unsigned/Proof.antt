@@ -21,21 +21,17 @@ unfolding unsigned
 lift-high (pos k) e h = omega arith
 lift-high (negsuc k) e h = absurd (omega arith)
 
--- src/lib.rt:117:9
-lifted-requires : tie.Need-lifted-requires
-lifted-requires c κs = search needs
-
--- src/lib.rt:119:9
-add-result : tie.Need-add-result
-add-result c = search needs
-
--- src/lib.rt:114:1
 returns : tie.Need-returns
-returns c = lift-low (c .before .before .args .z) (c .before .before .fits .z .sfits) (c .before .lifted .ensures .0 ∙ ap lift (word-kept {z = c .before .before .args .z} (c .before .before .fits .z .sfits))) (c .if1 .taken)
+returns c =
+    let start = c .before .before in
+    lift-low (start .args .z) (start .fits .z .sfits)
+    (c .before .lifted .ensures .0 ∙ ap lift (word-kept {z = start .args .z} (start .fits .z .sfits))) (c .if1 .taken)
 
--- src/lib.rt:114:1
 returns-2 : tie.Need-returns-2
-returns-2 c = lift-high (c .before .before .args .z) (c .before .lifted .ensures .0 ∙ ap lift (word-kept {z = c .before .before .args .z} (c .before .before .fits .z .sfits))) (c .if1 .left)
+returns-2 c =
+    let start = c .before .before in
+    lift-high (start .args .z) (c .before .lifted .ensures .0 ∙ ap lift (word-kept {z = start .args .z} (start .fits .z .sfits)))
+    (c .if1 .left)
 
 pub unsigned-spec : {M : Type 1} → statement M
-unsigned-spec = tie.close (tie.spec lifted-requires add-result returns returns-2)
+unsigned-spec = tie.close (tie.spec (λ c κs. search needs) (λ c. search needs) returns returns-2)

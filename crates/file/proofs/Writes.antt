@@ -1,0 +1,86 @@
+-- What a write comes to, by the rows of its table.
+use mathlib.Core.Path.{_≡_, refl, sym, ap, subst, _∙_}
+use mathlib.Core.Bool.{Bool, true, false}
+use mathlib.Core.List.{List}
+use Prim.Native.Nat.{ℕ, _+_, _*_, _≤_, _<_}
+use native.Mathlib.Omega.{arith}
+use lib.ListN.{length}
+use lib.Seq.{sets}
+use lib.Dec.{ltb}
+use lib.IntN.{ℤ, pos}
+use borrow.Author.Tests.{lt-ltb, le-ltb}
+use Rattle.rules.specs.declared.Record.{Record}
+use Rattle.rules.specs.Layout.{validLength, read}
+use Rattle.rules.specs.Sound.{sound}
+use Rattle.rules.specs.Answers.{firstRow}
+use Rattle.rules.specs.File.{fileNumber, fileBytes, recordsCarried, WriteLeft, writeFault, writeFile}
+use Rattle.file.specs.Promises.{filled, Fills, Writes}
+use Rattle.file.proofs.Sizes.{file-long}
+
+-- ---- of a sound pool
+
+module _ (pool : List ℤ) (buffer : List ℕ) (rs : List Record) (is : rs ≡ recordsCarried (read pool)) where
+  abbrev carried : List Record
+  carried = recordsCarried (read pool)
+
+  fills : {n : ℤ} {file : List ℕ} {long : ℕ} → filled rs buffer ≡ record { number = n; file = file; length = long } → Fills pool buffer n file long
+  fills {n} {file} {long} e =
+      let f : record { number = n; file = file; length = long } ≡ filled carried buffer = sym (subst (λ (x : List Record). filled x buffer ≡ record { number = n; file = file; length = long }) is e) in
+      record { number = ap (λ (x : WriteLeft). x .number) f; file = ap (λ (x : WriteLeft). x .file) f; length = ap (λ (x : WriteLeft). x .length) f }
+
+  short-is : length buffer < length (fileBytes rs) → filled rs buffer ≡ record { number = pos 8; file = buffer; length = 0 }
+  unfolding filled fileNumber
+  short-is h = rw (filled, lt-ltb (length buffer) (length (fileBytes rs)) h)
+
+  all-is : length (fileBytes rs) ≤ length buffer
+      → filled rs buffer ≡ record { number = pos 0; file = sets buffer 0 (fileBytes rs); length = length (fileBytes rs) }
+  unfolding filled
+  all-is h = rw (filled, le-ltb (length buffer) (length (fileBytes rs)) h)
+
+  pub fills-short : {count : ℕ} → count ≡ length rs → length buffer < 12 + 24 * count + 4 → Fills pool buffer (pos 8) buffer 0
+  fills-short {count} c h = fills (short-is (omega (arith, h, c, file-long rs)))
+
+  pub fills-all : {count : ℕ} → count ≡ length rs → 12 + 24 * count + 4 ≤ length buffer → {file : List ℕ} → file ≡ sets buffer 0 (fileBytes rs)
+      → Fills pool buffer (pos 0) file (12 + 24 * count + 4)
+  fills-all {count} c h {file} f =
+      let size : length (fileBytes rs) ≡ 12 + 24 * count + 4 = omega (arith, c, file-long rs) in
+      fills (all-is (omega (arith, h, size)) ∙ (λ i. record { number = pos 0; file = sym f i; length = size i }))
+
+-- ---- of any words
+
+module _ (pool : List ℤ) (buffer : List ℕ) where
+  left : {n : ℤ} {file : List ℕ} {long : ℕ} → writeFile pool buffer ≡ record { number = n; file = file; length = long } → Writes pool buffer n file long
+  left e =
+      let f = sym e in
+      record { number = ap (λ (x : WriteLeft). x .number) f; file = ap (λ (x : WriteLeft). x .file) f; length = ap (λ (x : WriteLeft). x .length) f }
+
+  refused-1 : validLength pool ≡ false → writeFile pool buffer ≡ record { number = pos 1; file = buffer; length = 0 }
+  unfolding writeFile writeFault firstRow fileNumber
+  refused-1 h = rw (writeFile, h)
+
+  refused-2 : validLength pool ≡ true → sound pool ≡ false → writeFile pool buffer ≡ record { number = pos 2; file = buffer; length = 0 }
+  unfolding writeFile writeFault firstRow fileNumber
+  refused-2 h s = rw (writeFile, h, s)
+
+  -- 8 is the last row
+  sound-filled : validLength pool ≡ true → sound pool ≡ true → (b : Bool) → ltb (length buffer) (length (fileBytes (recordsCarried (read pool)))) ≡ b
+      → filled (recordsCarried (read pool)) buffer ≡ writeFile pool buffer
+  unfolding filled writeFile writeFault firstRow
+  sound-filled h s true e = rw (filled, writeFile, h, s, e)
+  sound-filled h s false e = rw (filled, writeFile, h, s, e)
+
+  pub writes-1 : validLength pool ≡ false → Writes pool buffer (pos 1) buffer 0
+  writes-1 h = left (refused-1 h)
+
+  pub writes-2 : validLength pool ≡ true → sound pool ≡ false → Writes pool buffer (pos 2) buffer 0
+  writes-2 h s = left (refused-2 h s)
+
+  pub writes-filled : validLength pool ≡ true → sound pool ≡ true → {n : ℤ} {file : List ℕ} {long : ℕ} → Fills pool buffer n file long
+      → Writes pool buffer n file long
+  writes-filled h s f =
+      let same = sound-filled h s (ltb (length buffer) (length (fileBytes (recordsCarried (read pool))))) refl in
+      record {
+        number = f .number ∙ ap (λ (x : WriteLeft). x .number) same;
+        file = f .file ∙ ap (λ (x : WriteLeft). x .file) same;
+        length = f .length ∙ ap (λ (x : WriteLeft). x .length) same;
+      }
