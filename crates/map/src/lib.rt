@@ -4,6 +4,7 @@ ghost use lib.IntN.{pos};
 ghost use Rattle.rules.specs.Layout as L;
 ghost use Rattle.rules.specs.Call as C;
 ghost use Rattle.batch.specs.Asking.{lent, nothingAsked};
+ghost use Rattle.file.specs.Promises.{Writes, Reads};
 ghost use Rattle.map.specs.Asking.{left, Allowed, Converts, ofBox, ofPoint, ofDisc};
 use rules::Answer;
 use rules::Query;
@@ -51,6 +52,22 @@ pub extern "C" fn dustmap_call(
     // "On return 0 the workspace equals the pool."
     pool::copy(pool, work);
     0
+}
+
+// The file of the map, at the front of a lent buffer, and how many bytes it has. Beside a refusal the buffer stays and the length is 0.
+#[no_mangle]
+pub extern "C" fn dustmap_write(pool: &[i32], file: &mut [u8], length: &mut u64) -> i32
+    ensures { λ n. ⌜ Writes (now (pool .entry)) (now (file .entry)) n (now (file .exit)) (now (length .exit)) ⌝ }
+{
+    file::write(pool, file, length)
+}
+
+// The map of a file. Beside a refusal past 1 the pool stays, and the workspace is made equal to it.
+#[no_mangle]
+pub extern "C" fn dustmap_read(pool: &mut [i32], work: &mut [i32], file: &[u8]) -> i32
+    ensures { λ n. ⌜ Reads (now (pool .entry)) (now (work .entry)) (now (file .entry)) n (now (pool .exit)) (now (work .exit)) ⌝ }
+{
+    file::read(pool, work, file)
 }
 
 // What is written of a window, and its number: the rectangle beside 0; beside 12, nothing.
