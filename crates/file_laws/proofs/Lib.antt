@@ -6,4 +6,6 @@ pub mod Written
 pub mod Site
 pub mod Distinct
 pub mod Steps
+pub mod Rule
 pub mod Loads
+pub mod Same

@@ -26,11 +26,7 @@ use Rattle.file_laws.specs.Ascending.{Ascending, GoodRecord, Carriable}
 use Rattle.file_laws.proofs.Distinct.{ascending-once, ascending-ordered}
 use Rattle.file_laws.proofs.Steps as S
 use Rattle.file_laws.proofs.Steps.{Passes}
-
--- what holds of the pool, where the load is accepted
-abbrev pub IfLoaded : (Pool → Type 0) → Load → Type 0
-IfLoaded P (Loaded q) = P q
-IfLoaded P (Fails f) = Unit {0}
+use Rattle.file_laws.proofs.Rule.{IfLoaded, then-loaded, load-by}
 
 -- n records have gone into p, after the one given, and it is q now
 pub record Took (p : Pool) (last : Option Record) (n : ℕ) (bs : List ℕ) (q : Pool) : Type 0 where
@@ -81,48 +77,12 @@ module _ (c : Choice) (lawful : Lawful c) where
             (h .after, each-among (λ x. follows last x ≡ true) rest (λ x m. follows-on last r x (h .after) (each-of (λ y. follows (some r) y ≡ true) (t .after) m)));
       }
 
-  took-end : (p : Pool) → Whole p → (last : Option Record) (bs : List ℕ) → IfLoaded (Took p last zero bs) (endOf p (frameDue 18 0 bs))
-  took-end p w last bs = go (frameDue 18 0 bs) refl
-    where
-      after : (d : Due) → frameDue 18 0 bs ≡ some d → (l : List ℕ) → d .after ≡ l → IfLoaded (Took p last zero bs) (endOf p (frameDue 18 0 bs))
-      after d e [] f = subst (IfLoaded (Took p last zero bs)) (sym (S.end-here p bs d e f)) (nothing-took p w last bs)
-      after d e (b ∷ rest) f = subst (IfLoaded (Took p last zero bs)) (sym (S.end-more p bs d b rest e f)) tt
-
-      go : (o : Option Due) → frameDue 18 0 bs ≡ o → IfLoaded (Took p last zero bs) (endOf p (frameDue 18 0 bs))
-      go none e = subst (IfLoaded (Took p last zero bs)) (sym (S.end-none p bs e)) tt
-      go (some d) e = after d e (d .after) refl
-
-  later : (s : Pool → Type 0) (t : Pool → Type 0) → ((q : Pool) → s q → t q) → (l : Load) → IfLoaded s l → IfLoaded t l
-  later s t f (Loaded q) h = f q h
-  later s t f (Fails x) h = tt
-
   pub load-takes : (n : ℕ) (last : Option Record) (p : Pool) (bs : List ℕ) → Whole p → IfLoaded (Took p last n bs) (loadRecords c n last p bs)
-  load-takes zero last p bs w = unfold loadRecords in took-end p w last bs
-  load-takes (suc n) last p bs w = go (frameDue 17 5 bs) refl (λ q d. load-takes n (some (recordIn (d .words))) q (d .after))
-    where
-      put : (d : Due) → frameDue 17 5 bs ≡ some d → recordFault last (recordIn (d .words)) ≡ none
-          → ((q : Pool) → Whole q → IfLoaded (Took q (some (recordIn (d .words))) n (d .after)) (loadRecords c n (some (recordIn (d .words))) q (d .after)))
-          → (o : Change) → insertRecord c p (recordIn (d .words)) ≡ o → IfLoaded (Took p last (suc n) bs) (loadRecords c (suc n) last p bs)
-      put d e h rec NoneFree i = subst (IfLoaded (Took p last (suc n) bs)) (sym (S.load-full c n last p bs d e h i)) tt
-      put d e h rec (Done q) i =
-          let r = recordIn (d .words) in
-          let g = S.fault-passes last r h in
-          let wq = insert-whole c lawful p w r (g .rect) (g .number) q i in
-          subst (IfLoaded (Took p last (suc n) bs)) (sym (S.load-next c n last p bs d e h q i))
-          (later (Took q (some r) n (d .after)) (Took p last (suc n) bs) (λ s t. one-more p q s last r n bs w g i d e refl t)
-          (loadRecords c n (some r) q (d .after)) (rec q wq))
-
-      fault : (d : Due) → frameDue 17 5 bs ≡ some d
-          → ((q : Pool) → Whole q → IfLoaded (Took q (some (recordIn (d .words))) n (d .after)) (loadRecords c n (some (recordIn (d .words))) q (d .after)))
-          → (o : Option FileFault) → recordFault last (recordIn (d .words)) ≡ o → IfLoaded (Took p last (suc n) bs) (loadRecords c (suc n) last p bs)
-      fault d e rec (some f) h = subst (IfLoaded (Took p last (suc n) bs)) (sym (S.load-fault c n last p bs d e f h)) tt
-      fault d e rec none h = put d e h rec (insertRecord c p (recordIn (d .words))) refl
-
-      go : (o : Option Due) → frameDue 17 5 bs ≡ o
-          → ((q : Pool) (d : Due) → Whole q → IfLoaded (Took q (some (recordIn (d .words))) n (d .after)) (loadRecords c n (some (recordIn (d .words))) q (d .after)))
-          → IfLoaded (Took p last (suc n) bs) (loadRecords c (suc n) last p bs)
-      go none e rec = subst (IfLoaded (Took p last (suc n) bs)) (sym (S.load-none c n last p bs e)) tt
-      go (some d) e rec = fault d e (λ q w2. rec q d w2) (recordFault last (recordIn (d .words))) refl
+  load-takes n last p bs w =
+      then-loaded (λ q. Whole p → Took p last n bs q) (Took p last n bs) (λ q f. f w) (loadRecords c n last p bs)
+      (load-by c (λ n last p bs q. Whole p → Took p last n bs q) (λ last p bs d e f w. nothing-took p w last bs)
+      (λ n last p bs d q s e g i t w. one-more p q s last (recordIn (d .words)) n bs w g i d e refl
+      (t (insert-whole c lawful p w (recordIn (d .words)) (g .rect) (g .number) q i))) n last p bs)
 
   -- ---- a file
 
@@ -158,7 +118,7 @@ module _ (c : Choice) (lawful : Lawful c) where
       head d e true h =
           let n = countIn (d .words) in
           subst (IfLoaded (Holds bs)) (sym (S.head-good c (blankPool m) bs d e h))
-          (later (Took (blankPool m) none n (d .after)) (Holds bs) (file-holds m bs d e) (loadRecords c n none (blankPool m) (d .after))
+          (then-loaded (Took (blankPool m) none n (d .after)) (Holds bs) (file-holds m bs d e) (loadRecords c n none (blankPool m) (d .after))
           (load-takes n none (blankPool m) (d .after) (blank-holds m .whole)))
 
       go : (o : Option Due) → frameDue 16 2 bs ≡ o → IfLoaded (Holds bs) (loadFile c (blankPool m) bs)
