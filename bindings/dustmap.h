@@ -4,8 +4,8 @@
  * the pool is all that one call leaves to the next.
  *
  * The lists may hold any words: every input has an answer. The caller has to see to what C cannot check: each pointer is
- * valid for its length, even where that is 0, and `rect[4]` for four words; no list that is written overlaps another; and nothing
- * else writes to a list, or reads one that is written, during a call.
+ * valid for its length, even where that is 0, `rect[4]` for four words and `length` for one number; nothing that is written
+ * overlaps another list; and nothing else writes to a list, or reads one that is written, during a call.
  */
 #ifndef DUSTMAP_H
 #define DUSTMAP_H
@@ -44,7 +44,7 @@ struct dustmap_request {
 /* What comes back, from a call or in an answer, in the order of checks. */
 /* Written by `tools/numbers` from bindings/numbers.txt: do not edit by hand. */
 enum dustmap_number {
-    /* Accepted: as defined. What to do: nothing; the change is made, or the search is answered. */
+    /* Accepted: as defined. What to do: nothing; the change is made, the search is answered, or the file is written or read. */
     DUSTMAP_ACCEPTED = 0,
     /* Call refused: more than 1,024 requests, or answer list of another length than the request list. What to do: hand over at
      * most 1,024 requests in one call, and an answer list with one place for each; where there are more, make several calls. */
@@ -62,22 +62,30 @@ enum dustmap_number {
      * 1,000,000,000 in size. What to do: give finite numbers in millimetres, no low above its high and no radius below 0; the
      * rectangle that comes of them, with a disc's one millimetre more, has to lie from -1,000,000,000 to 1,000,000,000. */
     DUSTMAP_BAD_SURVEY = 12,
-    /* Request refused: window, old or new rectangle: a coordinate out of range, or low above high. What to do: give low x, low y,
-     * high x, high y, in this order, in whole millimetres from -1,000,000,000 to 1,000,000,000, no low above its high. */
+    /* Call refused: a wrong frame, edition or count, or bytes after kind 18. What to do: get the whole file again from the office
+     * that wrote it; this one is cut, has been changed, is of another edition, or is no map's file. The pool is as it was. */
+    DUSTMAP_BAD_FRAME = 10,
+    /* Request or call refused: window, old or new rectangle: a coordinate out of range, or low above high. What to do: give low
+     * x, low y, high x, high y, in this order, in whole millimetres from -1,000,000,000 to 1,000,000,000, no low above high. */
     DUSTMAP_BAD_RECTANGLE = 3,
-    /* Request refused: record number below 1. What to do: give a record number from 1 to 2,147,483,647. */
+    /* Request or call refused: record number below 1. What to do: give a record number from 1 to 2,147,483,647. */
     DUSTMAP_BAD_NUMBER = 4,
+    /* Call refused: a record not after its predecessor. What to do: put the file's records in order of number, low x, low y, high
+     * x, high y, each pair once, as a written file has them. The pool is as it was. */
+    DUSTMAP_NOT_AFTER = 11,
     /* Request refused: delete or update: old pair not held. What to do: give the record number with the rectangle exactly as it
      * is held; a search of that place lists what is there. */
     DUSTMAP_NOT_HELD = 5,
     /* Request refused: insert: pair held; update: new pair held and not the old pair. What to do: insert: nothing, if this pair
      * is meant; it is in force already. Update: both pairs are in force; delete the old one if it is to go. */
     DUSTMAP_HELD = 6,
-    /* Request refused: the rules call for a slot at a moment when none is free. What to do: delete what is no longer needed and
-     * ask again, or blank a pool with more slots (4,096 at most) and insert every record there. */
+    /* Request or call refused: the rules call for a slot at a moment when none is free. What to do: delete what is no longer
+     * needed and ask again, or blank a pool with more slots (4,096 at most) and insert every record there; N slots are enough for
+     * every file of up to 2N + 1 records. */
     DUSTMAP_NO_SLOT = 7,
-    /* Request refused: search: more found than places left in the found list. What to do: ask again with a longer found list (the
-     * answer says how many records this search finds), or with a smaller window; for a search enclosing, with a larger one. */
+    /* Request or call refused: search: more found than places left in the found list; file: its buffer is short. What to do: ask
+     * again with a longer found list (the answer says how many records this search finds), or with a smaller window; for a search
+     * enclosing, with a larger one; for a file, with a longer buffer (16 + 192N bytes are enough for N slots). */
     DUSTMAP_NO_ROOM = 8
 };
 /* End of what `tools/numbers` writes. */
@@ -99,6 +107,9 @@ struct dustmap_found {
 
 /* The words of a pool of so many slots. */
 #define DUSTMAP_WORDS(slots) ((size_t)8 + (size_t)42 * (size_t)(slots))
+
+/* Bytes that are always enough for the file of such a pool, which holds at most eight records for each slot. */
+#define DUSTMAP_FILE_BYTES(slots) ((size_t)16 + (size_t)24 * 8 * (size_t)(slots))
 
 /* Makes a pool blank and returns 0; or returns 1 for a wrong length, and then nothing is written. */
 int32_t dustmap_blank(int32_t *pool, size_t pool_len);
@@ -130,6 +141,37 @@ int32_t dustmap_point(double x, double y, int32_t rect[4]);
 /* A disc: the centre less and plus the radius in doubles, rounded outward, then one millimetre further. The window holds the exact
  * box of the disc and is less than 3 mm beyond it on each side. */
 int32_t dustmap_disc(double x, double y, double radius, int32_t rect[4]);
+
+/* The last two carry a map between offices, as one file of its records. A file is frames such as `dustmap` reads: two bytes length of
+ * what follows, two bytes kind, then words of 32 bits, all little-endian. Kind 16 comes first (edition 1, record count), then kind 17
+ * for each record (number, low x, low y, high x, high y) in the order in which searches list them, and kind 18, with no words, comes
+ * last. So a file of R records has 16 + 24R bytes.
+ *
+ * The writer fills the front of `file`, sets `length` to the bytes of the file, and returns 0; bytes beyond stay. A pair that the
+ * pool holds twice is written once. Or it returns, checked in this order, 1 for a wrong length of the pool, 2 for a pool that is not
+ * sound, or 8 for a `file` that is too short: then `length` is 0, and `file` is as it was. DUSTMAP_FILE_BYTES is always enough.
+ *
+ * It keeps 512 KiB on the stack while it works, where the other calls keep little: see to it in threads with small stacks. */
+int32_t dustmap_write(const int32_t *pool, size_t pool_len, uint8_t *file, size_t file_len, uint64_t *length);
+
+/* The reader blanks the pool, inserts the records of the file in their order, and returns 0; the workspace then equals the pool. What
+ * the pool held before is not looked at: it may be any words. The file has to be whole and to have no byte more.
+ *
+ * It returns 1 for a wrong length of the pool, or another length of the workspace, and then nothing is written. Otherwise the first
+ * frame at fault decides, and in it what is named first here:
+ *
+ *     10  it is not the frame that is due: cut, missing, of another kind or length, of another edition, or with a count below 0;
+ *         a frame of kind 17 beyond the count, or of kind 18 before it; bytes after kind 18
+ *      3  the record's rectangle has a coordinate out of range, or low above high
+ *      4  its number is below 1
+ *     11  it does not come after the record before it, in the order in which searches list them; one equal to it does not either
+ *      7  its insert calls for a slot, and none is free
+ *
+ * Then the pool is as it was, and the workspace is made equal to it.
+ *
+ * A pool of N slots takes every file of up to 2N + 1 records, and none of more than 8N. Where a read of a written file is accepted,
+ * writing again gives the same bytes. */
+int32_t dustmap_read(int32_t *pool, size_t pool_len, int32_t *work, size_t work_len, const uint8_t *file, size_t file_len);
 
 #if defined(__STDC_VERSION__) && __STDC_VERSION__ >= 201112L
 _Static_assert(sizeof(struct dustmap_rect) == 16, "a rectangle is four words");

@@ -9,7 +9,7 @@
 
 enum { BRIDGE_LISTS = 5, BRIDGE_DOUBLES = 4 };
 
-enum bridge_function { BRIDGE_BLANK, BRIDGE_CHECK, BRIDGE_CALL, BRIDGE_BOX, BRIDGE_POINT, BRIDGE_DISC };
+enum bridge_function { BRIDGE_BLANK, BRIDGE_CHECK, BRIDGE_CALL, BRIDGE_BOX, BRIDGE_POINT, BRIDGE_DISC, BRIDGE_WRITE, BRIDGE_READ };
 
 struct bridge_call {
     uint64_t function;

@@ -49,7 +49,7 @@ static enum bridge_function function; /* of the call that is being made */
 
 static _Noreturn void fail(const char *what, int error)
 {
-    static const char *const names[] = {"blank", "check", "call", "box", "point", "disc"};
+    static const char *const names[] = {"blank", "check", "call", "box", "point", "disc", "write", "read"};
     fprintf(stderr, "dustmap_%s, through the bridge: %s%s%s\n", names[function], what, error ? ": " : "", error ? strerror(error) : "");
     abort();
 }
@@ -300,4 +300,24 @@ int32_t dustmap_point(double x, double y, int32_t rect[4])
 int32_t dustmap_disc(double x, double y, double radius, int32_t rect[4])
 {
     return surveyed(BRIDGE_DISC, (double[BRIDGE_DOUBLES]){x, y, radius}, rect);
+}
+
+int32_t dustmap_write(const int32_t *pool, size_t pool_len, uint8_t *bytes, size_t n_bytes, uint64_t *length)
+{
+    struct list lists[BRIDGE_LISTS] = {
+        READ(int32_t, pool, pool_len),
+        WRITTEN(uint8_t, bytes, n_bytes),
+        WRITTEN(uint64_t, length, 1),
+    };
+    return make((struct bridge_call){.function = BRIDGE_WRITE}, lists);
+}
+
+int32_t dustmap_read(int32_t *pool, size_t pool_len, int32_t *work, size_t work_len, const uint8_t *bytes, size_t n_bytes)
+{
+    struct list lists[BRIDGE_LISTS] = {
+        WRITTEN(int32_t, pool, pool_len),
+        WRITTEN(int32_t, work, work_len),
+        READ(uint8_t, bytes, n_bytes),
+    };
+    return make((struct bridge_call){.function = BRIDGE_READ}, lists);
 }

@@ -35,6 +35,10 @@ static int32_t made(const struct bridge_call *call)
         return dustmap_point(d[0], d[1], list[0]);
     case BRIDGE_DISC:
         return dustmap_disc(d[0], d[1], d[2], list[0]);
+    case BRIDGE_WRITE:
+        return dustmap_write(list[0], n[0], list[1], n[1], list[2]);
+    case BRIDGE_READ:
+        return dustmap_read(list[0], n[0], list[1], n[1], list[2], n[2]);
     }
     fprintf(stderr, "dustmap bridge: no function %llu\n", (unsigned long long)call->function);
     exit(1);

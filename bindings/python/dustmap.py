@@ -18,6 +18,12 @@ Rectangles are low x, low y, high x, high y in whole millimetres, and touching c
     m.search_inside((0, 0, 50, 50))
     m.search_enclosing((2, 2, 3, 3))
 
+All the records go to another office as the bytes of one file, which a map there reads:
+
+    file = m.write()
+    there = Map(slots=64)
+    there.read(file)
+
 What the map refuses is raised as `Refused`, with the number and its words; in a batch each request has its own answer, and a refused one does not
 stop the others. What cannot be asked at all, as a float for a whole number or a number beyond 32 bits, is a TypeError or a ValueError before
 anything is done.
@@ -47,6 +53,9 @@ MOST_SLOTS = 4_096
 MOST_REQUESTS = 1_024
 # Coordinates are from minus this to this.
 FARTHEST = 1_000_000_000
+# The bytes of a file's first and last frame together, and of the frame of a record.
+FILE_ENDS = 16
+RECORD_BYTES = 24
 
 INSERT, DELETE, UPDATE, SEARCH, SEARCH_INSIDE, SEARCH_ENCLOSING = 1, 2, 3, 4, 5, 6
 KINDS = {
@@ -81,8 +90,10 @@ BAD_LENGTH = 1
 NOT_SOUND = 2
 NO_REQUEST = -1
 BAD_SURVEY = 12
+BAD_FRAME = 10
 BAD_RECTANGLE = 3
 BAD_NUMBER = 4
+NOT_AFTER = 11
 NOT_HELD = 5
 HELD = 6
 NO_SLOT = 7
@@ -95,7 +106,7 @@ NUMBERS: dict[int, Meaning] = {
         "accepted",
         "as defined",
         "accepted",
-        "nothing; the change is made, or the search is answered",
+        "nothing; the change is made, the search is answered, or the file is written or read",
     ),
     BAD_LISTS: Meaning(
         BAD_LISTS,
@@ -132,19 +143,33 @@ NUMBERS: dict[int, Meaning] = {
         "a NaN, an infinity, low above high, a negative radius, or a centre, radius or finished coordinate beyond 1,000,000,000 in size",
         "give finite numbers in millimetres, no low above its high and no radius below 0; the rectangle that comes of them, with a disc's one millimetre more, has to lie from -1,000,000,000 to 1,000,000,000",
     ),
+    BAD_FRAME: Meaning(
+        BAD_FRAME,
+        "bad frame",
+        "call refused",
+        "a wrong frame, edition or count, or bytes after kind 18",
+        "get the whole file again from the office that wrote it; this one is cut, has been changed, is of another edition, or is no map's file. The pool is as it was",
+    ),
     BAD_RECTANGLE: Meaning(
         BAD_RECTANGLE,
         "bad rectangle",
-        "request refused",
+        "request or call refused",
         "window, old or new rectangle: a coordinate out of range, or low above high",
-        "give low x, low y, high x, high y, in this order, in whole millimetres from -1,000,000,000 to 1,000,000,000, no low above its high",
+        "give low x, low y, high x, high y, in this order, in whole millimetres from -1,000,000,000 to 1,000,000,000, no low above high",
     ),
     BAD_NUMBER: Meaning(
         BAD_NUMBER,
         "bad number",
-        "request refused",
+        "request or call refused",
         "record number below 1",
         "give a record number from 1 to 2,147,483,647",
+    ),
+    NOT_AFTER: Meaning(
+        NOT_AFTER,
+        "not after",
+        "call refused",
+        "a record not after its predecessor",
+        "put the file's records in order of number, low x, low y, high x, high y, each pair once, as a written file has them. The pool is as it was",
     ),
     NOT_HELD: Meaning(
         NOT_HELD,
@@ -163,16 +188,16 @@ NUMBERS: dict[int, Meaning] = {
     NO_SLOT: Meaning(
         NO_SLOT,
         "no slot",
-        "request refused",
+        "request or call refused",
         "the rules call for a slot at a moment when none is free",
-        "delete what is no longer needed and ask again, or blank a pool with more slots (4,096 at most) and insert every record there",
+        "delete what is no longer needed and ask again, or blank a pool with more slots (4,096 at most) and insert every record there; N slots are enough for every file of up to 2N + 1 records",
     ),
     NO_ROOM: Meaning(
         NO_ROOM,
         "no room",
-        "request refused",
-        "search: more found than places left in the found list",
-        "ask again with a longer found list (the answer says how many records this search finds), or with a smaller window; for a search enclosing, with a larger one",
+        "request or call refused",
+        "search: more found than places left in the found list; file: its buffer is short",
+        "ask again with a longer found list (the answer says how many records this search finds), or with a smaller window; for a search enclosing, with a larger one; for a file, with a longer buffer (16 + 192N bytes are enough for N slots)",
     ),
 }
 # End of what `tools/numbers` writes.
@@ -404,8 +429,9 @@ def library_path() -> Path:
     return Path(named).resolve() if named else Path(__file__).resolve().parents[2] / "target" / "sharedlib" / "libdustmap.so"
 
 
-# The functions of dustmap.h with their parameters: a list is a pointer and a count, a rectangle of four words is a pointer.
-_LIST, _DOUBLE, _WORDS = [ctypes.c_void_p, ctypes.c_size_t], [ctypes.c_double], [ctypes.c_void_p]
+# The functions of dustmap.h with their parameters: a list is a pointer and a count; a rectangle of four words is a pointer, and so is a number that is
+# written.
+_LIST, _DOUBLE, _WORDS, _NUMBER = [ctypes.c_void_p, ctypes.c_size_t], [ctypes.c_double], [ctypes.c_void_p], [ctypes.POINTER(ctypes.c_uint64)]
 _FUNCTIONS = {
     "dustmap_blank": _LIST,
     "dustmap_check": _LIST,
@@ -413,6 +439,8 @@ _FUNCTIONS = {
     "dustmap_box": _DOUBLE * 4 + _WORDS,
     "dustmap_point": _DOUBLE * 2 + _WORDS,
     "dustmap_disc": _DOUBLE * 3 + _WORDS,
+    "dustmap_write": _LIST * 2 + _NUMBER,
+    "dustmap_read": _LIST * 3,
 }
 
 
@@ -572,13 +600,37 @@ class Map:
         """The pool as it was before."""
         ctypes.memmove(self._pool, before, len(before))
 
+    def write(self) -> bytes:
+        """The file that carries the map's records to another office, for `read` to take there: each pair once, in found order.
+
+        It takes 512 KiB of the stack of the thread that calls it.
+        """
+        # a node has up to eight records
+        file = (ctypes.c_uint8 * (FILE_ENDS + RECORD_BYTES * 8 * self.slots))()
+        length = ctypes.c_uint64()
+        with self._lock:
+            self._accept(self._library.dustmap_write(*_parts(self._pool, 1), *_parts(file, 1), ctypes.byref(length)))
+        return memoryview(file)[: length.value].tobytes()
+
+    def read(self, file: Union[bytes, bytearray, memoryview]) -> None:
+        """Puts the records of a file in the place of all that is on the map. The map keeps the slots that it has.
+
+        N slots take every file of up to 2N + 1 records, and none of more than 8N. Refused 10, 3, 4, 11 or 7 where a frame of the file is at
+        fault, for the first one that is; the map is then as it was before.
+        """
+        if not isinstance(file, (bytes, bytearray, memoryview)):
+            raise TypeError(f"file: {type(file).__name__} is not the bytes of a file")
+        data = bytes(file)
+        with self._lock:
+            self._accept(self._library.dustmap_read(*_parts(self._pool, 1), *_parts(self._work, 1), *_parts(data, 1)))
+
     def words(self) -> list[int]:
         """A copy of the pool, word by word."""
         with self._lock:
             return list(self._pool)
 
     def to_bytes(self) -> bytes:
-        """A copy of the pool as bytes, four to a word, little-endian: what to keep in a file, for `Map.of` to take."""
+        """A copy of the pool as bytes, four to a word, little-endian: what to keep on a disk, for `Map.of` to take."""
         return struct.pack(f"<{len(self._pool)}i", *self.words())
 
     def __reduce__(self) -> tuple[Any, ...]:

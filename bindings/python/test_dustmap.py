@@ -6,6 +6,7 @@ from __future__ import annotations
 import array
 import copy
 import ctypes
+import io
 import math
 import os
 import pickle
@@ -31,9 +32,10 @@ from dustmap import Answer, LibraryMissing, Map, Record, Rect, Refused, Request 
 ZONE = (0, 0, 10, 10)
 MOST = 1_000_000_000
 # the functions of dustmap.h
-FUNCTIONS = {"dustmap_blank", "dustmap_check", "dustmap_call", "dustmap_box", "dustmap_point", "dustmap_disc"}
+FUNCTIONS = {f"dustmap_{name}" for name in ("blank", "check", "call", "box", "point", "disc", "write", "read")}
 
-# Document 01's table and document 02's refusal of doubles, copied from them and not from bindings/numbers.txt, so that a slip there is seen.
+# Document 01's table and document 02's refusals, copied from them and not from bindings/numbers.txt, so that a slip there is seen. What refuses a
+# request in document 01's table refuses the call where a file is written or read.
 DOCUMENT = {
     0: ("accepted", "as defined"),
     9: ("more than 1,024 requests, or answer list of another length than the request list", "call refused"),
@@ -43,12 +45,14 @@ DOCUMENT = {
         "a NaN, an infinity, low above high, a negative radius, or a centre, radius or finished coordinate beyond 1,000,000,000 in size",
         "call refused",
     ),
-    3: ("window, old or new rectangle: a coordinate out of range, or low above high", "request refused"),
-    4: ("record number below 1", "request refused"),
+    10: ("a wrong frame, edition or count, or bytes after kind 18", "call refused"),
+    3: ("window, old or new rectangle: a coordinate out of range, or low above high", "request or call refused"),
+    4: ("record number below 1", "request or call refused"),
+    11: ("a record not after its predecessor", "call refused"),
     5: ("delete or update: old pair not held", "request refused"),
     6: ("insert: pair held; update: new pair held and not the old pair", "request refused"),
-    7: ("the rules call for a slot at a moment when none is free", "request refused"),
-    8: ("search: more found than places left in the found list", "request refused"),
+    7: ("the rules call for a slot at a moment when none is free", "request or call refused"),
+    8: ("search: more found than places left in the found list; file: its buffer is short", "request or call refused"),
 }
 
 
@@ -113,7 +117,7 @@ class Case(unittest.TestCase):
 
 
 class Examples(Case):
-    """Document 01's own, what dispatch does with doubles, and what a planner does with the modes of a search."""
+    """Document 01's own, what dispatch does with doubles, what a planner does with the modes of a search, and how a map is carried."""
 
     def test_as_a_user_writes_it(self) -> None:
         m = Map(slots=128)
@@ -126,7 +130,7 @@ class Examples(Case):
         self.assertFalse(m.search((11, 0, 20, 10)), "nothing found is an empty sequence")
 
     def test_the_scripts(self) -> None:
-        for name in ("document", "survey", "modes"):
+        for name in ("document", "survey", "modes", "carry"):
             script = ROOT / "bindings" / "python" / f"{name}.py"
             run = subprocess.run([sys.executable, "-B", script], stdout=subprocess.PIPE, check=True, text=True)
             self.assertEqual(run.stdout, (ROOT / "examples" / f"{name}.lines").read_text())
@@ -247,7 +251,7 @@ class Refusals(Case):
 
     def test_the_words_are_those_of_the_documents(self) -> None:
         self.assertEqual({n: (m.when, m.effect) for n, m in dustmap.NUMBERS.items() if n != -1}, DOCUMENT)
-        self.assertEqual(list(dustmap.NUMBERS), [0, 9, 1, 2, -1, 12, 3, 4, 5, 6, 7, 8], "the order of checks")
+        self.assertEqual(list(dustmap.NUMBERS), [0, 9, 1, 2, -1, 12, 10, 3, 4, 11, 5, 6, 7, 8], "the order of checks")
         for number, meaning in dustmap.NUMBERS.items():
             self.assertEqual(meaning.number, number)
             self.assertEqual(getattr(dustmap, meaning.name.upper().replace(" ", "_")), number)
@@ -347,6 +351,169 @@ class Refusals(Case):
     def test_a_refusal_can_be_sent_on(self) -> None:
         refusal = self.refused(5, lambda: Map().delete(8, ZONE))
         self.assertEqual(str(pickle.loads(pickle.dumps(refusal))), str(refusal))
+
+
+def file_of(records: list[tuple[int, ...]], edition: int = 1, count: Optional[int] = None) -> bytes:
+    """A file as document 02 has it, packed here; with another edition or count where that is said."""
+    head = struct.pack("<HHii", 10, 16, edition, len(records) if count is None else count)
+    return head + b"".join(struct.pack("<HH5i", 22, 17, *record) for record in records) + struct.pack("<HH", 2, 18)
+
+
+class Files(Case):
+    """A map that is carried between offices."""
+
+    def pit(self) -> Map:
+        """Records that were not inserted in the order of the file, one number with two rectangles, one rectangle with two numbers."""
+        m = Map(12)
+        for number, rect in ((9, ZONE), (2, (5, 5, 6, 6)), (7, ZONE), (2, (-5, 0, 9, 0)), (7, (0, 0, 10, 9)), (2**31 - 1, (-MOST, -MOST, MOST, MOST))):
+            m.insert(number, rect)
+        return m
+
+    def refused_file(self, number: int, file: bytes, slots: int = 12) -> None:
+        """That the file is refused with that number, and leaves the map as it was."""
+        m = self.pit() if slots == 12 else Map(slots)
+        before = m.words()
+        self.assertIsNone(self.refused(number, lambda: m.read(file)).request)
+        self.assertEqual(m.words(), before, "a refused read leaves the pool")
+        self.assertEqual(list(m._work), before, "and its workspace equal to it")
+
+    def test_the_bytes(self) -> None:
+        records = [(2, -5, 0, 9, 0), (2, 5, 5, 6, 6), (7, 0, 0, 10, 9), (7, *ZONE), (9, *ZONE), (2**31 - 1, -MOST, -MOST, MOST, MOST)]
+        self.assertEqual(self.pit().write(), file_of(records))
+        self.assertEqual(Map(1).write(), bytes.fromhex("0a0010000100000000000000" + "02001200"))
+        self.assertEqual((ROOT / "examples" / "carry.map").read_bytes()[:12], struct.pack("<HHii", 10, 16, 1, 9))
+
+    def test_there_and_back(self) -> None:
+        for m in (self.pit(), Map(3), row_of(500, 300)):
+            file, before = m.write(), m.words()
+            for slots in {m.slots, len(m) // 2 or 1, 700}:  # N slots take every file of up to 2N + 1 records
+                there = row_of(5, slots)
+                there.read(file)
+                self.assertEqual((there.records(), there.slots), (m.records(), slots), "what was there before is gone")
+                self.assertEqual(there.words(), Map.of(there.words()).words(), "it is sound")
+                self.assertEqual(list(there._work), there.words())
+                self.assertEqual(there.write(), file, "writing again gives the same bytes")
+            self.assertEqual(m.words(), before, "a write changes nothing")
+
+    def test_a_read_inserts_in_file_order(self) -> None:
+        file, there, one_by_one = row_of(200, 100).write(), Map(100), Map(100)
+        there.read(file)
+        for record in there.records():
+            one_by_one.insert(*record)
+        self.assertEqual(there.words(), one_by_one.words())
+
+    def test_a_pair_held_twice_is_written_once(self) -> None:
+        words = self.pit().words()
+        words[10 + 5 : 10 + 10] = words[10:15]  # the second entry of the leaf as the first
+        m = Map.of(words)
+        records = sorted({(r.number, *r.rect) for r in m.records()})
+        self.assertEqual((len(m), len(records)), (6, 5))
+        self.assertEqual(m.write(), file_of(records))
+
+    def test_other_kinds_of_bytes(self) -> None:
+        file = self.pit().write()
+        for given in (bytearray(file), memoryview(file), memoryview(array.array("i", file))):
+            there = Map(12)
+            there.read(given)
+            self.assertEqual(there.write(), file)
+        for wrong in (None, "office.map", list(file), 7, io.BytesIO(file), ROOT):
+            self.assertRaisesRegex(TypeError, "is not the bytes of a file", Map(12).read, wrong)
+
+    def test_10_cut_at_every_byte(self) -> None:
+        file = self.pit().write()
+        for length in range(len(file)):
+            self.refused_file(10, file[:length])
+
+    def test_10_bad_frame(self) -> None:
+        one, two = (1, *ZONE), (2, *ZONE)
+        good = file_of([one, two])
+        Map(12).read(good)
+        wrong = {
+            "a byte after": good + b"\0",
+            "a second file after": good + good,
+            "edition 0": file_of([one, two], edition=0),
+            "edition 2": file_of([one, two], edition=2),
+            "a count below 0": file_of([], count=-1),
+            "a count too small": file_of([one, two], count=1),
+            "a count too large": file_of([one, two], count=3),
+            "the largest count": file_of([one, two], count=2**31 - 1),
+            "no head": good[12:],
+            "two heads": good[:12] + good,
+            "an insert in the place of a record": good.replace(b"\x16\0\x11\0", b"\x16\0\x01\0", 1),
+            "frames of dustmap": struct.pack("<HH5i", 22, 1, *one),
+            "a length too large by one": good[:12] + b"\x17" + good[13:],
+            "an end with a word": good[:-4] + struct.pack("<HHi", 6, 18, 0),
+            "bytes the other way round": struct.pack(">HHii", 10, 16, 1, 0) + struct.pack(">HH", 2, 18),
+        }
+        for what, file in wrong.items():
+            with self.subTest(what):
+                self.refused_file(10, file)
+
+    def test_3_4_and_11_of_a_record(self) -> None:
+        good = (7, *ZONE)
+        wrong = [
+            (3, (0, 1, 0, 0, 0)),
+            (3, (8, 0, 1, 0, 0)),
+            (3, (8, 0, 0, MOST + 1, 0)),
+            (3, (8, -MOST - 1, 0, 0, 0)),
+            (4, (0, *ZONE)),
+            (4, (-(2**31), *ZONE)),
+            (11, good),
+            (11, (6, *ZONE)),
+            (11, (7, 0, 0, 10, 9)),
+            (11, (7, -1, 0, 10, 10)),
+        ]
+        for number, record in wrong:
+            with self.subTest(record):
+                self.refused_file(number, file_of([good, record, (9, *ZONE)]))
+        for number, record in wrong[:6]:
+            self.refused_file(number, file_of([record]))
+
+    def test_7_no_slot(self) -> None:
+        for slots in (1, 2, 5):
+            most = 2 * slots + 1
+            Map(slots).read(row_of(most, slots).write())
+            self.refused_file(7, row_of(8 * slots + 1, 100).write(), slots)
+        self.refused_file(7, row_of(9, 12).write(), slots=1)
+
+    def test_the_first_frame_at_fault_decides(self) -> None:
+        good, bad = [(k, *ZONE) for k in range(1, 10)], (1, 1, 0, 0, 0)
+        self.refused_file(7, file_of([*good, bad]), slots=1)
+        self.refused_file(7, file_of(good)[:-1], slots=1)
+        self.refused_file(3, file_of([*good[:8], bad, good[8]]), slots=1)
+        self.refused_file(3, file_of([good[0], bad])[:-1])
+        self.refused_file(11, file_of([good[0], good[0]], count=3))
+        self.refused_file(10, file_of([bad], edition=2))
+
+    def test_what_is_lent(self) -> None:
+        """The calls themselves, with lists of wrong lengths, a pool that is not sound, and a buffer that is a byte short."""
+        library, file = dustmap._library(str(dustmap.library_path())), self.pit().write()
+        sound, unsound = self.pit().words(), [3] * len(self.pit().words())
+        cases = [(1, sound[1:], len(file)), (1, unsound[1:], 0), (1, [], 0), (2, unsound, 0), (8, sound, len(file) - 1), (8, sound, 0)]
+        cases += [(0, sound, len(file)), (0, sound, len(file) + 9)]
+        for number, pool, room in cases:
+            buffer, length = (ctypes.c_uint8 * room)(*[0x55] * room), ctypes.c_uint64(77)
+            words = (ctypes.c_int32 * len(pool))(*pool)
+            self.assertEqual(library.dustmap_write(words, len(pool), buffer, room, ctypes.byref(length)), number)
+            written = len(file) if number == 0 else 0
+            self.assertEqual(length.value, written)
+            self.assertEqual(bytes(buffer), file[:written] + b"\x55" * (room - written), "bytes after the file stay")
+            self.assertEqual(list(words), pool)
+        for pool, room in ((sound, len(sound) - 42), (sound, len(sound) + 1), (unsound[1:], len(unsound) - 1), ([], 0)):
+            words, work = (ctypes.c_int32 * len(pool))(*pool), (ctypes.c_int32 * room)(*[5] * room)
+            self.assertEqual(library.dustmap_read(words, len(pool), work, room, file, len(file)), 1)
+            self.assertEqual((list(words), list(work)), (pool, [5] * room), "refused 1, nothing is written")
+        words, work = (ctypes.c_int32 * len(unsound))(*unsound), (ctypes.c_int32 * len(unsound))()
+        self.assertEqual(library.dustmap_read(words, len(unsound), work, len(unsound), file, len(file) - 1), 10)
+        self.assertEqual((list(words), list(work)), (unsound, unsound), "any words may be in the pool")
+        self.assertEqual(library.dustmap_read(words, len(unsound), work, len(unsound), file, len(file)), 0)
+        self.assertEqual(list(words), list(work))
+        self.assertEqual(Map.of(list(words)).write(), file)
+
+    def test_the_largest(self) -> None:
+        m, there = row_of(8193, dustmap.MOST_SLOTS), Map(dustmap.MOST_SLOTS)
+        there.read(m.write())
+        self.assertEqual(there.write(), file_of([(k + 1, 10 * k, 0, 10 * k + 5, 5) for k in range(8193)]))
 
 
 NO_NUMBERS = (math.nan, math.inf, -math.inf)
@@ -736,7 +903,15 @@ class Histories(Case):
             met.add((requests[-1].kind, answers[-1].number))
             met |= {(requests[-1].kind, 0, int(record.rect == requests[-1].first)) for record in answers[-1].records}
         self.in_batches(slots, requests, answers, m.words())
+        self.carried(m, model)
         return met
+
+    def carried(self, m: Map, model: Model) -> None:
+        """The file has the pairs of the model; a map with half as many slots as they are reads it, and writes the same."""
+        file, there = m.write(), Map(len(model.pairs) // 2 or 1)
+        self.assertEqual(file, file_of([(p.number, *p.rect) for p in sorted(model.pairs)]))
+        there.read(file)
+        self.assertEqual((there.records(), there.write()), (m.records(), file))
 
     def one(self, m: Map, model: Model, request: Request) -> Answer:
         """One request of both, compared; its answer."""

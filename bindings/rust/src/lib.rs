@@ -1,7 +1,8 @@
 //! The proved map, for Rust: the functions of `bindings/dustmap.h` as safe ones.
 //!
 //! The numbers that come back are those of the header; `numbers` has a name and the words for each. A rectangle that a surveyor or
-//! dispatch gives in doubles is made by `Rect::from_box`, `Rect::from_point` and `Rect::from_disc`.
+//! dispatch gives in doubles is made by `Rect::from_box`, `Rect::from_point` and `Rect::from_disc`. `write` and `read` carry a map
+//! between offices, as one file of its records.
 
 pub mod numbers;
 
@@ -147,6 +148,12 @@ pub const fn words(slots: usize) -> usize {
     HEAD_WORDS + SLOT_WORDS * slots
 }
 
+/// Bytes that are always enough for the file of a pool of so many slots, which holds at most eight records for each: 12 for the
+/// first frame, 24 for each record, 4 for the last frame.
+pub const fn file_bytes(slots: usize) -> usize {
+    12 + 24 * 8 * slots + 4
+}
+
 /// A blank pool of so many slots, 1 to 4,096; none for any other number.
 pub fn blank_pool(slots: usize) -> Option<Vec<i32>> {
     if !(1..=MOST_SLOTS).contains(&slots) {
@@ -159,7 +166,7 @@ pub fn blank_pool(slots: usize) -> Option<Vec<i32>> {
 mod exported {
     use super::{Answer, Found, Request};
 
-    // A slice is passed as two parameters, a pointer and a count; four words as one pointer.
+    // A slice is passed as two parameters, a pointer and a count; four words, or a number to be written, as one pointer.
     extern "C" {
         pub fn dustmap_blank(pool: *mut i32, pool_len: usize) -> i32;
         pub fn dustmap_check(pool: *const i32, pool_len: usize) -> i32;
@@ -184,6 +191,21 @@ mod exported {
         ) -> i32;
         pub fn dustmap_point(x: f64, y: f64, rect: *mut [i32; 4]) -> i32;
         pub fn dustmap_disc(x: f64, y: f64, radius: f64, rect: *mut [i32; 4]) -> i32;
+        pub fn dustmap_write(
+            pool: *const i32,
+            pool_len: usize,
+            file: *mut u8,
+            file_len: usize,
+            length: *mut u64,
+        ) -> i32;
+        pub fn dustmap_read(
+            pool: *mut i32,
+            pool_len: usize,
+            work: *mut i32,
+            work_len: usize,
+            file: *const u8,
+            file_len: usize,
+        ) -> i32;
     }
 }
 
@@ -223,6 +245,52 @@ pub fn call(
             found.as_mut_ptr(),
             found.len(),
         )
+    }
+}
+
+/// Writes the records of a pool, in found order and each pair once, to the front of the list of bytes, and gives the length of the
+/// file; bytes beyond stay. `file_bytes` are always enough. It keeps 512 KiB on the stack while it works.
+///
+/// The error is a number, checked in this order, and then no byte is written: 1 for a wrong length of the pool, 2 for a pool that is
+/// not sound, 8 for too few bytes.
+pub fn write(pool: &[i32], file: &mut [u8]) -> Result<usize, i32> {
+    let mut length = 0;
+    // SAFETY: as above, for two lists and one number of our own.
+    let number = unsafe {
+        exported::dustmap_write(
+            pool.as_ptr(),
+            pool.len(),
+            file.as_mut_ptr(),
+            file.len(),
+            &mut length,
+        )
+    };
+    match number {
+        numbers::ACCEPTED => Ok(length as usize),
+        refusal => Err(refusal),
+    }
+}
+
+/// Blanks the pool and inserts the records of a file in their order; the workspace then equals the pool. Of the pool's words before
+/// that none is looked at. A pool of N slots takes every file of up to 2N + 1 records, and none of more than 8N.
+///
+/// The error is a number: 1 for a wrong length of the pool or the workspace, and nothing is written; otherwise what is wrong with
+/// the first frame at fault, 10, 3, 4, 11 or 7, and then the pool is as it was and the workspace equal to it.
+pub fn read(pool: &mut [i32], work: &mut [i32], file: &[u8]) -> Result<(), i32> {
+    // SAFETY: as above, for three lists.
+    let number = unsafe {
+        exported::dustmap_read(
+            pool.as_mut_ptr(),
+            pool.len(),
+            work.as_mut_ptr(),
+            work.len(),
+            file.as_ptr(),
+            file.len(),
+        )
+    };
+    match number {
+        numbers::ACCEPTED => Ok(()),
+        refusal => Err(refusal),
     }
 }
 

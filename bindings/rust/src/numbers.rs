@@ -36,27 +36,31 @@ pub const NOT_SOUND: i32 = 2;
 pub const NO_REQUEST: i32 = -1;
 /// Call refused: a NaN, an infinity, low above high, a negative radius, or a centre, radius or finished coordinate beyond 1,000,000,000 in size.
 pub const BAD_SURVEY: i32 = 12;
-/// Request refused: window, old or new rectangle: a coordinate out of range, or low above high.
+/// Call refused: a wrong frame, edition or count, or bytes after kind 18.
+pub const BAD_FRAME: i32 = 10;
+/// Request or call refused: window, old or new rectangle: a coordinate out of range, or low above high.
 pub const BAD_RECTANGLE: i32 = 3;
-/// Request refused: record number below 1.
+/// Request or call refused: record number below 1.
 pub const BAD_NUMBER: i32 = 4;
+/// Call refused: a record not after its predecessor.
+pub const NOT_AFTER: i32 = 11;
 /// Request refused: delete or update: old pair not held.
 pub const NOT_HELD: i32 = 5;
 /// Request refused: insert: pair held; update: new pair held and not the old pair.
 pub const HELD: i32 = 6;
-/// Request refused: the rules call for a slot at a moment when none is free.
+/// Request or call refused: the rules call for a slot at a moment when none is free.
 pub const NO_SLOT: i32 = 7;
-/// Request refused: search: more found than places left in the found list.
+/// Request or call refused: search: more found than places left in the found list; file: its buffer is short.
 pub const NO_ROOM: i32 = 8;
 
 /// Every number with its words, in the order of checks.
-pub const NUMBERS: [Meaning; 12] = [
+pub const NUMBERS: [Meaning; 14] = [
     Meaning {
         number: ACCEPTED,
         name: "accepted",
         effect: "as defined",
         when: "accepted",
-        what_to_do: "nothing; the change is made, or the search is answered",
+        what_to_do: "nothing; the change is made, the search is answered, or the file is written or read",
     },
     Meaning {
         number: BAD_LISTS,
@@ -94,18 +98,32 @@ pub const NUMBERS: [Meaning; 12] = [
         what_to_do: "give finite numbers in millimetres, no low above its high and no radius below 0; the rectangle that comes of them, with a disc's one millimetre more, has to lie from -1,000,000,000 to 1,000,000,000",
     },
     Meaning {
+        number: BAD_FRAME,
+        name: "bad frame",
+        effect: "call refused",
+        when: "a wrong frame, edition or count, or bytes after kind 18",
+        what_to_do: "get the whole file again from the office that wrote it; this one is cut, has been changed, is of another edition, or is no map's file. The pool is as it was",
+    },
+    Meaning {
         number: BAD_RECTANGLE,
         name: "bad rectangle",
-        effect: "request refused",
+        effect: "request or call refused",
         when: "window, old or new rectangle: a coordinate out of range, or low above high",
-        what_to_do: "give low x, low y, high x, high y, in this order, in whole millimetres from -1,000,000,000 to 1,000,000,000, no low above its high",
+        what_to_do: "give low x, low y, high x, high y, in this order, in whole millimetres from -1,000,000,000 to 1,000,000,000, no low above high",
     },
     Meaning {
         number: BAD_NUMBER,
         name: "bad number",
-        effect: "request refused",
+        effect: "request or call refused",
         when: "record number below 1",
         what_to_do: "give a record number from 1 to 2,147,483,647",
+    },
+    Meaning {
+        number: NOT_AFTER,
+        name: "not after",
+        effect: "call refused",
+        when: "a record not after its predecessor",
+        what_to_do: "put the file's records in order of number, low x, low y, high x, high y, each pair once, as a written file has them. The pool is as it was",
     },
     Meaning {
         number: NOT_HELD,
@@ -124,16 +142,16 @@ pub const NUMBERS: [Meaning; 12] = [
     Meaning {
         number: NO_SLOT,
         name: "no slot",
-        effect: "request refused",
+        effect: "request or call refused",
         when: "the rules call for a slot at a moment when none is free",
-        what_to_do: "delete what is no longer needed and ask again, or blank a pool with more slots (4,096 at most) and insert every record there",
+        what_to_do: "delete what is no longer needed and ask again, or blank a pool with more slots (4,096 at most) and insert every record there; N slots are enough for every file of up to 2N + 1 records",
     },
     Meaning {
         number: NO_ROOM,
         name: "no room",
-        effect: "request refused",
-        when: "search: more found than places left in the found list",
-        what_to_do: "ask again with a longer found list (the answer says how many records this search finds), or with a smaller window; for a search enclosing, with a larger one",
+        effect: "request or call refused",
+        when: "search: more found than places left in the found list; file: its buffer is short",
+        what_to_do: "ask again with a longer found list (the answer says how many records this search finds), or with a smaller window; for a search enclosing, with a larger one; for a file, with a longer buffer (16 + 192N bytes are enough for N slots)",
     },
 ];
 // End of what `tools/numbers` writes.

@@ -9,3 +9,5 @@ pub mod Steps
 pub mod Rule
 pub mod Loads
 pub mod Same
+pub mod Numbers
+pub mod Enough
