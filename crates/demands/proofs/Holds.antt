@@ -1,5 +1,5 @@
--- The pool that a history leaves holds the pairs in force. By induction on its steps: blanking leaves none, a refused call leaves what was
--- there, and each request of a served call does to the pool what it does to the plain list.
+-- The pool that a history leaves holds the pairs in force. By induction on its steps: blanking leaves none, a refused call or file leaves what was
+-- there, each request of a served call does to the pool what it does to the plain list, and an accepted file leaves its records.
 use mathlib.Core.Path.{_≡_, refl, sym, ap, subst, _∙_}
 use mathlib.Core.Logic.{_≢_}
 use mathlib.Core.Bool.{Bool, true, false}
@@ -15,11 +15,16 @@ use Rattle.rules.specs.Layout.{Blanked, validLength, slotCount, words, read, bl
 use Rattle.rules.specs.Insert.{ours}
 use Rattle.rules.specs.Answers.{verdictNumber}
 use Rattle.rules.specs.Call.{Lent, Left, callFault, refused, served, callBy, call}
+use Rattle.rules.specs.File.{fileNumber, fileRecords, Loaded, loadFile, ReadLeft, readFile}
 use Rattle.rules_laws.proofs.Orders.{never-both}
 use Rattle.sound_laws.proofs.Same.{same-is}
 use Rattle.in_force_laws.specs.Force.{forceAfter}
 use Rattle.in_force_laws.specs.Shows.{HoldsRecords}
-use Rattle.demands.specs.Steps.{Blanks, Step, Blank, Call, poolAfter, History, inForceAfter}
+use Rattle.demands.specs.Steps.{Blanks, Step, Blank, Call, Read, poolAfter, History, inForceAfter}
+use Rattle.file.specs.Promises.{Reads}
+use Rattle.file_laws.proofs.Rule.{IfLoaded}
+use Rattle.file_laws.proofs.Loads.{Holds, file-loads}
+use Rattle.file_laws.proofs.Cases.{some-fault, none-zero, read-cases}
 use Rattle.map.specs.Asking.{Allowed}
 use Rattle.rules_laws.proofs.Splits.{ours-lawful}
 use Rattle.sound_laws.proofs.Blank.{blank-whole}
@@ -129,9 +134,34 @@ module _ (l : Lent) (o : Left) (k : Allowed l o) (steps : List Step) (now : Hold
       go true h = let z = same-is (o .number) (pos 0) .0 h in rw (call-gives l o steps z) (served-step z)
       go false h = rw (call-keeps l o steps h) (refused-step (λ z. never-both (same-is (o .number) (pos 0) .1 z) h))
 
+module _ (w u : List ℤ) (file : List ℕ) (o : ReadLeft) (k : Reads w u file (o .number) (o .pool) (o .workspace)) (steps : List Step)
+    (now : HoldsRecords (read w) (inForceAfter steps)) where
+  abbrev Then : ReadLeft → Type 0
+  Then r = HoldsRecords (read (r .pool)) (elim (same (r .number) (pos 0)) [ true ↦ fileRecords file | false ↦ inForceAfter steps ])
+
+  -- not read, for its length or for a fault
+  left-alone : (z : ℤ) (x : List ℤ) → same z (pos 0) ≡ false → Then (record { number = z; pool = w; workspace = x })
+  left-alone z x h = rw h now
+
+  taken : (q : Pool) → loadFile ours (blankPool (slotCount w - 1)) file ≡ Loaded q → Then (record { number = pos 0; pool = words q; workspace = words q })
+  taken q e =
+      let h = subst (IfLoaded (Holds ours ours-lawful (slotCount w - 1) file)) e (file-loads ours ours-lawful (slotCount w - 1) file) .records in
+      rw (none-zero, whole-reads q (h .whole)) h
+
+  read-step : HoldsRecords (read (o .pool)) (inForceAfter (Read u file o ∷ steps))
+  unfolding inForceAfter
+  read-step =
+      subst (λ (v : List ℤ). HoldsRecords (read v) (elim (same (o .number) (pos 0)) [ true ↦ fileRecords file | false ↦ inForceAfter steps ])) (sym (k .pool))
+      (subst (λ (z : ℤ). HoldsRecords (read (readFile w u file .pool)) (elim (same z (pos 0)) [ true ↦ fileRecords file | false ↦ inForceAfter steps ])) (sym (k .number))
+      (read-cases w u file Then (left-alone (pos 1) u one-no) (λ f. left-alone (fileNumber f) w (some-fault f)) taken))
+    where
+      one-no : same (pos 1) (pos 0) ≡ false
+      one-no = unfold same in refl
+
 pub history-holds : (n : ℕ) (steps : List Step) → History n steps → HoldsRecords (read (poolAfter n steps)) (inForceAfter steps)
 unfolding poolAfter
 history-holds n [] h = unfold inForceAfter in blank-pool n
 history-holds n (Blank b ∷ steps) h = blank-step b (poolAfter n steps) (h .0) steps (history-holds n steps (h .1))
 history-holds n (Call l o ∷ steps) h =
     call-step l o (h .1) steps (subst (λ (w : List ℤ). HoldsRecords (read w) (inForceAfter steps)) (sym (h .0)) (history-holds n steps (h .2)))
+history-holds n (Read u file o ∷ steps) h = read-step (poolAfter n steps) u file o (h .0) steps (history-holds n steps (h .1))

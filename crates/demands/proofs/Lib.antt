@@ -6,3 +6,4 @@ pub mod Demands
 pub mod Sites
 pub mod Closed
 pub mod Surveys
+pub mod Files

@@ -2,3 +2,4 @@
 pub mod Steps
 pub mod Demands
 pub mod Surveys
+pub mod Files

@@ -22,7 +22,7 @@ use Rattle.pool.proofs.Written.{right-same}
 use Rattle.in_force_laws.proofs.Written.{whole-reads}
 use Rattle.file.specs.Loading.{Loads}
 use Rattle.file.specs.Promises.{Reads}
-use Rattle.file.proofs.Takes.{some-fault, none-zero}
+use Rattle.file_laws.proofs.Cases.{lengths-wrong, read-short, read-in, read-out, some-fault, none-zero}
 
 -- how many slots there are is a question of the length
 count-as : (u w : List ℤ) → length u ≡ length w → slotCount u ≡ slotCount w
@@ -30,23 +30,15 @@ unfolding slotCount
 count-as u w e = rw e
 
 module _ (w u : List ℤ) (bs : List ℕ) where
-  -- where 1 is given
-  abbrev lengths-wrong : Bool
-  lengths-wrong = not (validLength w) || not (eqb (length u) (length w))
-
   left : {n : ℤ} {v x : List ℤ} → readFile w u bs ≡ record { number = n; pool = v; workspace = x } → Reads w u bs n v x
   left e =
       let f = sym e in
       record { number = ap (λ (r : ReadLeft). r .number) f; pool = ap (λ (r : ReadLeft). r .pool) f; workspace = ap (λ (r : ReadLeft). r .workspace) f }
 
-  refused-1 : lengths-wrong ≡ true → readFile w u bs ≡ record { number = pos 1; pool = w; workspace = u }
-  unfolding readFile fileNumber
-  refused-1 h = rw (readFile, h)
+  pub reads-1 : lengths-wrong w u ≡ true → Reads w u bs (pos 1) w u
+  reads-1 h = left (read-short w u bs h)
 
-  pub reads-1 : lengths-wrong ≡ true → Reads w u bs (pos 1) w u
-  reads-1 h = left (refused-1 h)
-
-  module _ (h : lengths-wrong ≡ false) where
+  module _ (h : lengths-wrong w u ≡ false) where
     pub as-long : length u ≡ length w
     as-long = eqb-true (length u) (length w) (not-false _ (or-neither (not (validLength w)) _ h .1))
 
@@ -69,10 +61,6 @@ module _ (w u : List ℤ) (bs : List ℕ) where
     pub blank-tree : {v : List ℤ} → v ≡ blank u .pool → Whole (read v)
     blank-tree e = subst Whole (sym (blank-pool e)) (blank-whole (slotCount w - 1))
 
-    goes-by : (l : Load) → loadFile ours blanked bs ≡ l → readFile w u bs ≡ afterLoad w l
-    unfolding readFile
-    goes-by l e = rw (readFile, h) (ap (afterLoad w) e)
-
     module _ {v : List ℤ} (e : v ≡ blank u .pool) (n : ℤ) (x : List ℤ) (d : Loads (loadFile ours (read v) bs) n x) where
       loads : Loads (loadFile ours blanked bs) n x
       loads = subst (λ (p : Pool). Loads (loadFile ours p bs) n x) (blank-pool e) d
@@ -83,8 +71,7 @@ module _ (w u : List ℤ) (bs : List ℕ) where
           go : (l : Load) → loadFile ours blanked bs ≡ l → Loads l n x → Reads w u bs n y x
           go (Loaded q) g k =
               let i : x ≡ words q = sym (k .1 .same) ∙ ap words (k .2) in
-              let a : afterLoad w (Loaded q) ≡ record { number = pos 0; pool = words q; workspace = words q } = unfold afterLoad in refl in
-              left (goes-by (Loaded q) g ∙ a ∙ (λ j. record { number = sym (k .0) j; pool = sym (f ∙ i) j; workspace = sym i j }))
+              left (read-in w u bs h q g ∙ (λ j. record { number = sym (k .0) j; pool = sym (f ∙ i) j; workspace = sym i j }))
           go (Fails c) g k = never-both (subst (λ (a : ℤ). same a (pos 0) ≡ true) k z) (some-fault c)
 
       pub reads-out : same n (pos 0) ≡ false → {y : List ℤ} → y ≡ w → Reads w u bs n w y
@@ -93,5 +80,4 @@ module _ (w u : List ℤ) (bs : List ℕ) where
           go : (l : Load) → loadFile ours blanked bs ≡ l → Loads l n x → Reads w u bs n w y
           go (Loaded q) g k = never-both (ap (λ (a : ℤ). same a (pos 0)) (k .0) ∙ none-zero) z
           go (Fails c) g k =
-              let a : afterLoad w (Fails c) ≡ record { number = fileNumber c; pool = w; workspace = w } = unfold afterLoad in refl in
-              left (goes-by (Fails c) g ∙ a ∙ (λ j. record { number = sym k j; pool = w; workspace = sym f j }))
+              left (read-out w u bs h c g ∙ (λ j. record { number = sym k j; pool = w; workspace = sym f j }))

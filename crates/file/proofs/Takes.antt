@@ -31,28 +31,12 @@ use Rattle.insert.specs.Left.{HoldsPool, Leaves}
 use Rattle.insert.specs.declared.Outcome.{Outcome}
 use Rattle.insert.specs.declared.Outcome.the-variants.{Made, Refused}
 use Rattle.file_laws.proofs.Due.{dueIn}
+use Rattle.file_laws.proofs.Cases.{some-fault, none-zero}
 use Rattle.file_laws.proofs.Steps as S
 use Rattle.file_laws.proofs.Steps.{Passes}
 use Rattle.file.specs.declared.Taken.{Taken}
 use Rattle.file.specs.Loading.{isDue, placeOf, recordAt, lastAt, numberOf, frameFault, faultAt, inserted, tookAt, Took, endFault, Loads}
 use Rattle.file.proofs.Dues.{due-here, none-due, due-long}
-
--- ---- the number 0 is no refusal
-
-pub some-fault : (f : FileFault) → same (fileNumber f) (pos 0) ≡ false
-unfolding fileNumber same
-some-fault BadLength = refl
-some-fault NotSound = refl
-some-fault BadRectangle = refl
-some-fault BadNumber = refl
-some-fault NoSlot = refl
-some-fault ShortBuffer = refl
-some-fault BadFrame = refl
-some-fault NotAfter = refl
-
-pub none-zero : same (pos 0) (pos 0) ≡ true
-unfolding same
-none-zero = refl
 
 -- nothing refuses
 abbrev Quiet : Option FileFault → Type 0

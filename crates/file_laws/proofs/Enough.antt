@@ -33,6 +33,7 @@ use Rattle.file_laws.specs.Ascending.{Ascending, GoodRecord, Carriable}
 use Rattle.file_laws.proofs.Written.{due-written}
 use Rattle.file_laws.proofs.Numbers.{valid-words}
 use Rattle.file_laws.proofs.Steps as S
+use Rattle.file_laws.proofs.Loads.{same-slots}
 
 -- ---- the frames are those that are due
 
@@ -82,11 +83,7 @@ unfolding loadRecords
 load-last c last p bs = refl
 
 module _ (c : Choice) (lawful : Lawful c) where
-  -- an insert leaves as many slots, and one record more
-  same-slots : (p q : Pool) → Whole p → (r : Record) → GoodRecord r → insertRecord c p r ≡ Done q → length (p .slots) ≡ length (q .slots)
-  unfolding putRecords
-  same-slots p q w r g i = insert-put-record c lawful p w r (g .0) (g .1) q i .grew .long
-
+  -- an insert leaves one record more
   one-more : (p q : Pool) → Whole p → (r : Record) → GoodRecord r → insertRecord c p r ≡ Done q → length (stored q) ≡ length (stored p) + 1
   one-more p q w r g i =
       let more = insert-stored c lawful p w r (g .0) (g .1) q i (λ x. true) in
@@ -113,7 +110,7 @@ module _ (c : Choice) (lawful : Lawful c) where
       let pass = S.passes-fault last r (record { rect = g .0 .0; number = g .0 .1; after = f .0 }) in
       let w2 = insert-whole c lawful p w r (g .0 .0) (g .0 .1) q (i .1) in
       let rest = all-go-in rs (some r) q w2 (a .1) (g .1) (n .1) (unfold follows in a .0)
-      (omega (arith, h, same-slots p q w r (g .0) (i .1), one-more p q w r (g .0) (i .1))) in
+      (omega (arith, h, same-slots c lawful p q w r (g .0 .0) (g .0 .1) (i .1), one-more p q w r (g .0) (i .1))) in
       let back = record-back r in
       (
         rest .0,

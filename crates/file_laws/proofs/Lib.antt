@@ -9,5 +9,7 @@ pub mod Steps
 pub mod Rule
 pub mod Loads
 pub mod Same
+pub mod Cases
+pub mod Past
 pub mod Numbers
 pub mod Enough

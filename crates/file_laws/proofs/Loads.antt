@@ -1,6 +1,6 @@
 -- What an accepted load leaves, for every lawful choice: a whole pool that holds the records of the file and those of before; and these
 -- records ascend and are each as a leaf entry is to be.
-use mathlib.Core.Path.{_≡_, refl, sym, ap, subst}
+use mathlib.Core.Path.{_≡_, refl, sym, ap, subst, _∙_}
 use mathlib.Core.Bool.{Bool, true, false}
 use mathlib.Core.List.{List, [], _∷_}
 use mathlib.Core.Option.{Option, none, some}
@@ -10,7 +10,9 @@ use lib.ListN.{length}
 use Rattle.rules.specs.declared.Record.{Record}
 use Rattle.rules.specs.declared.FileFault.{FileFault}
 use Rattle.rules.specs.Lists.{those}
-use Rattle.rules.specs.Pool.{Pool, stored, blankPool}
+use Rattle.rules.specs.Numbers.{goodNumber}
+use Rattle.rules.specs.Geometry.{valid}
+use Rattle.rules.specs.Pool.{Pool, stored, putRecords, blankPool}
 use Rattle.rules.specs.Search.{ordered}
 use Rattle.rules.specs.Insert.{Choice, Change, Done, NoneFree, insertRecord}
 use Rattle.rules.specs.Lawful.{Lawful}
@@ -19,7 +21,7 @@ use Rattle.rules_laws.proofs.Places.{Each, each-among, each-of}
 use Rattle.rules_laws.proofs.Parts.{those-none, count-cons}
 use Rattle.sound_laws.specs.Tree.{Whole}
 use Rattle.search_laws.proofs.Order.{before-on}
-use Rattle.insert_laws.proofs.Whole.{insert-whole, insert-stored}
+use Rattle.insert_laws.proofs.Whole.{insert-whole, insert-stored, insert-put-record}
 use Rattle.in_force_laws.specs.Shows.{HoldsRecords}
 use Rattle.in_force_laws.proofs.Call.{blank-holds}
 use Rattle.file_laws.specs.Ascending.{Ascending, GoodRecord, Carriable}
@@ -31,6 +33,7 @@ use Rattle.file_laws.proofs.Rule.{IfLoaded, then-loaded, load-by}
 -- n records have gone into p, after the one given, and it is q now
 pub record Took (p : Pool) (last : Option Record) (n : ℕ) (bs : List ℕ) (q : Pool) : Type 0 where
   pub whole : Whole q
+  pub slots : length (p .slots) ≡ length (q .slots)
   pub stored-are : (f : Record → Bool) → length (those f (stored q)) ≡ length (those f (stored p)) + length (those f (recordsFrom n bs))
   pub carriable : Carriable (recordsFrom n bs)
   pub after : Each (λ r. follows last r ≡ true) (recordsFrom n bs)
@@ -40,6 +43,7 @@ unfolding recordsFrom
 nothing-took p w last bs =
     record {
       whole = w;
+      slots = refl;
       stored-are = λ f. omega (arith, ap length (those-none f));
       carriable = record { ascending = tt; good = tt };
       after = tt;
@@ -51,6 +55,12 @@ unfolding follows
 follows-on none r x a b = refl
 follows-on (some l) r x a b = before-on l r x a b
 
+-- an insert leaves as many slots
+pub same-slots : (c : Choice) → Lawful c → (p q : Pool) → Whole p → (r : Record) → valid (r .rect) ≡ true → goodNumber (r .number) ≡ true
+    → insertRecord c p r ≡ Done q → length (p .slots) ≡ length (q .slots)
+unfolding putRecords
+same-slots c lawful p q w r v n i = insert-put-record c lawful p w r v n q i .grew .long
+
 module _ (c : Choice) (lawful : Lawful c) where
   -- one more in front of the others
   one-more : (p q s : Pool) (last : Option Record) (r : Record) (n : ℕ) (bs : List ℕ) → Whole p → Passes last r → insertRecord c p r ≡ Done q
@@ -61,6 +71,7 @@ module _ (c : Choice) (lawful : Lawful c) where
       let all : recordsFrom (suc n) bs ≡ r ∷ rest = subst (λ (x : Record). recordsFrom (suc n) bs ≡ x ∷ rest) is (S.records-more n bs d e) in
       record {
         whole = t .whole;
+        slots = same-slots c lawful p q w r (h .rect) (h .number) i ∙ t .slots;
         stored-are = λ f.
             omega (
               arith,
@@ -87,13 +98,14 @@ module _ (c : Choice) (lawful : Lawful c) where
   -- ---- a file
 
   -- a blank pool that has taken a file: it holds the file's records, and these are in found order
-  pub record Holds (bs : List ℕ) (q : Pool) : Type 0 where
+  pub record Holds (m : ℕ) (bs : List ℕ) (q : Pool) : Type 0 where
+    pub slots : length (q .slots) ≡ length (blankPool m .slots)
     pub records : HoldsRecords q (fileRecords bs)
     pub carriable : Carriable (fileRecords bs)
     pub order : ordered (stored q) ≡ fileRecords bs
 
   file-holds : (m : ℕ) (bs : List ℕ) (d : Due) → frameDue 16 2 bs ≡ some d
-      → (q : Pool) → Took (blankPool m) none (countIn (d .words)) (d .after) q → Holds bs q
+      → (q : Pool) → Took (blankPool m) none (countIn (d .words)) (d .after) q → Holds m bs q
   file-holds m bs d e q t =
       let all = S.file-records bs d e in
       let rs = recordsFrom (countIn (d .words)) (d .after) in
@@ -105,22 +117,23 @@ module _ (c : Choice) (lawful : Lawful c) where
         once = ascending-once rs (t .carriable .ascending);
       } in
       record {
+        slots = sym (t .slots);
         records = subst (HoldsRecords q) (sym all) like;
         carriable = subst Carriable (sym all) (t .carriable);
         order = subst (λ (l : List Record). ordered (stored q) ≡ l) (sym all) (ascending-ordered (stored q) rs (t .carriable .ascending) (like .alike));
       }
 
-  pub file-loads : (m : ℕ) (bs : List ℕ) → IfLoaded (Holds bs) (loadFile c (blankPool m) bs)
+  pub file-loads : (m : ℕ) (bs : List ℕ) → IfLoaded (Holds m bs) (loadFile c (blankPool m) bs)
   file-loads m bs = go (frameDue 16 2 bs) refl
     where
-      head : (d : Due) → frameDue 16 2 bs ≡ some d → (b : Bool) → goodHead (d .words) ≡ b → IfLoaded (Holds bs) (loadFile c (blankPool m) bs)
-      head d e false h = subst (IfLoaded (Holds bs)) (sym (S.head-bad c (blankPool m) bs d e h)) tt
+      head : (d : Due) → frameDue 16 2 bs ≡ some d → (b : Bool) → goodHead (d .words) ≡ b → IfLoaded (Holds m bs) (loadFile c (blankPool m) bs)
+      head d e false h = subst (IfLoaded (Holds m bs)) (sym (S.head-bad c (blankPool m) bs d e h)) tt
       head d e true h =
           let n = countIn (d .words) in
-          subst (IfLoaded (Holds bs)) (sym (S.head-good c (blankPool m) bs d e h))
-          (then-loaded (Took (blankPool m) none n (d .after)) (Holds bs) (file-holds m bs d e) (loadRecords c n none (blankPool m) (d .after))
+          subst (IfLoaded (Holds m bs)) (sym (S.head-good c (blankPool m) bs d e h))
+          (then-loaded (Took (blankPool m) none n (d .after)) (Holds m bs) (file-holds m bs d e) (loadRecords c n none (blankPool m) (d .after))
           (load-takes n none (blankPool m) (d .after) (blank-holds m .whole)))
 
-      go : (o : Option Due) → frameDue 16 2 bs ≡ o → IfLoaded (Holds bs) (loadFile c (blankPool m) bs)
-      go none e = subst (IfLoaded (Holds bs)) (sym (S.head-none c (blankPool m) bs e)) tt
+      go : (o : Option Due) → frameDue 16 2 bs ≡ o → IfLoaded (Holds m bs) (loadFile c (blankPool m) bs)
+      go none e = subst (IfLoaded (Holds m bs)) (sym (S.head-none c (blankPool m) bs e)) tt
       go (some d) e = head d e (goodHead (d .words)) refl

@@ -8,6 +8,7 @@ use native.Mathlib.Omega.{arith}
 use lib.ListN.{length}
 use lib.IntN.{ℤ, pos, negsuc}
 use lib.Signed.{leZ}
+use Rattle.rules.specs.declared.Record.{Record}
 use Rattle.rules.specs.Lists.{joined, same}
 use Rattle.rules.specs.Pool.{Pool}
 use Rattle.rules.specs.Layout.{edition, natural, wordAt}
@@ -20,7 +21,8 @@ use Rattle.rules_laws.proofs.Places.{nothing}
 use Rattle.rules_laws.proofs.Joins.{joined-none, joined-more}
 use Rattle.sound_laws.proofs.Same.{same-is}
 use Rattle.file_laws.specs.Bytes.{AllBytes}
-use Rattle.file_laws.proofs.Written.{due-bytes}
+use Rattle.file_laws.proofs.All.{all-none, all-append}
+use Rattle.file_laws.proofs.Written.{due-bytes, frame-all}
 use Rattle.file_laws.proofs.Steps as S
 use Rattle.file_laws.proofs.Rule.{IfLoaded, then-loaded, load-by}
 
@@ -117,3 +119,14 @@ module _ (c : Choice) (p : Pool) (bs : List ℕ) (a : AllBytes bs) where
       go : (o : Option Due) → frameDue 16 2 bs ≡ o → IfLoaded (λ q. bs ≡ fileBytes (fileRecords bs)) (loadFile c p bs)
       go none e = subst (IfLoaded (λ q. bs ≡ fileBytes (fileRecords bs))) (sym (S.head-none c p bs e)) tt
       go (some d) e = head d e (goodHead (d .words)) refl
+
+-- ---- a file is bytes
+
+records-all : (rs : List Record) → AllBytes (joined (map recordFrame rs))
+unfolding recordFrame
+records-all [] = subst AllBytes (sym (joined-none recordFrame)) all-none
+records-all (r ∷ rs) = subst AllBytes (sym (joined-more recordFrame r rs)) (all-append (frame-all 17 _) (records-all rs))
+
+pub file-all : (rs : List Record) → AllBytes (fileBytes rs)
+unfolding fileBytes headFrame endFrame
+file-all rs = all-append (all-append (frame-all 16 _) (records-all rs)) (frame-all 18 [])
