@@ -48,7 +48,7 @@ use Rattle.demands.specs.Files.{Write, ReadOf, fileOf, WrittenAgain, Rea
 
 -- the text that was set at the front stands there
 front-is : (buffer text : List ℕ) → length text ≤ length buffer → take (length text) (sets buffer 0 text) ≡ text
-front-is buffer text h = ap (take (length text)) (sets-eq text buffer 0 h) ∙ take-append-seam text (drop (0 + length text) buffer)
+front-is buffer text h = ap (take (length text)) (sets-eq text buffer 0 (omega arith)) ∙ take-append-seam text (drop (0 + length text) buffer)
 
 record Wrote (w : Write) : Type 0 where
   writable : Writable (w .pool) (w .buffer)
@@ -151,9 +151,6 @@ read-leaves {file} r =
       accepted = λ e. let t = taken r e in t .workspace ∙ sym (t .left);
     }
   where
-    both : (o : ReadLeft) → Type 0
-    both o = (o .pool ≡ r .pool) × (o .workspace ≡ r .pool)
-
     read-refused : readFile (r .pool) (r .work) file .number ≢ pos 0 → readFile (r .pool) (r .work) file .number ≢ pos 1
         → (r .left ≡ r .pool) × (r .workspace ≡ r .pool)
     read-refused a b =

@@ -65,16 +65,16 @@ module _ (l : Lent) where
   unfolding refused
   refused-pool v = refl
 
-  none-zero : callFault l ≡ none → call l .number ≡ pos 0
+  served-zero : callFault l ≡ none → call l .number ≡ pos 0
   unfolding call served verdictNumber
-  none-zero h = ap (λ (x : Left). x .number) (callBy-served ours l h)
+  served-zero h = ap (λ (x : Left). x .number) (callBy-served ours l h)
 
   -- "A refused call returns its number and writes nothing at all."
   pub refused-left : call l .number ≢ pos 0 → (v : Verdict) × (callFault l ≡ some v) × (call l ≡ refused l v)
   refused-left n = go (callFault l) refl
     where
       go : (o : Option Verdict) → callFault l ≡ o → (v : Verdict) × (callFault l ≡ some v) × (call l ≡ refused l v)
-      go none h = absurd (n (none-zero h))
+      go none h = absurd (n (served-zero h))
       go (some v) h = (v, h, call-is ∙ callBy-refused ours l v h)
 
 -- ---- in force, step by step
