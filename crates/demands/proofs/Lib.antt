@@ -7,3 +7,4 @@ pub mod Sites
 pub mod Closed
 pub mod Surveys
 pub mod Files
+pub mod ClosedFiles

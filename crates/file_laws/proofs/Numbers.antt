@@ -6,14 +6,14 @@ use mathlib.Core.List.{List, [], _∷_, map}
 use Prim.Native.Nat.{ℕ, zero, suc}
 use native.Mathlib.Omega.{arith}
 use lib.ListN.{take, drop, getD}
-use lib.Dec.{leb, eqb}
+use lib.Dec.{ltb, eqb}
 use lib.IntN.{ℤ, pos, negsuc}
-use lib.Signed.{leZ}
-use borrow.Author.Tests.{leb-true}
+use lib.Signed.{leZ, mag}
+use borrow.Author.Tests.{leb-true, ltb-true}
 use Rattle.rules.specs.declared.Rect.{Rect}
 use Rattle.rules.specs.declared.Record.{Record}
 use Rattle.rules.specs.declared.Entry.{Entry}
-use Rattle.rules.specs.Lists.{those, joined}
+use Rattle.rules.specs.Lists.{those, every, joined}
 use Rattle.rules.specs.Numbers.{most, inRange}
 use Rattle.rules.specs.Geometry.{valid}
 use Rattle.rules.specs.Pool.{Node, recordOf, numberOf, isLeaf, stored}
@@ -134,3 +134,12 @@ valid-words r v =
       highX = range-word (r .highX) (d .1);
       highY = range-word (r .highY) (c .1);
     }
+
+-- ---- asked of words that are written out
+
+pub fits-by : (w : List ℤ) → every (λ (z : ℤ). ltb (mag z) 2147483648) w ≡ true → Each Word w
+unfolding every
+fits-by [] h = tt
+fits-by (z ∷ w) h =
+    let q = and-both (ltb (mag z) 2147483648) (every (λ (y : ℤ). ltb (mag y) 2147483648) w) h in
+    (record { small = ltb-true (mag z) 2147483648 (q .0) }, fits-by w (q .1))

@@ -1,0 +1,200 @@
+-- Closed examples that meet each hypothesis about files: two maps are carried to another office, a history goes on after a file, and a refused
+-- file leaves what was there.
+use mathlib.Core.Path.{_≡_, refl}
+use mathlib.Core.Bool.{true}
+use mathlib.Core.List.{List, [], _∷_}
+use Prim.Native.Nat.{ℕ, _≤_}
+use native.Mathlib.Omega.{arith}
+use lib.ListN.{length, take, replicate}
+use lib.Dec.{ltb}
+use lib.IntN.{ℤ, pos}
+use lib.Signed.{mag}
+use Rattle.rules.specs.declared.Request.{Request}
+use Rattle.rules.specs.declared.Record.{Record}
+use Rattle.rules.specs.declared.Mode.the-variants.{Meeting}
+use Rattle.rules.specs.Lists.{those, every}
+use Rattle.rules.specs.Geometry.{samePair}
+use Rattle.rules.specs.Pool.{blankPool, noRecord, stored}
+use Rattle.rules.specs.Layout.{validLength, slotCount, words, read}
+use Rattle.rules.specs.Search.{ordered}
+use Rattle.rules.specs.Answers.{answer}
+use Rattle.rules.specs.Call.{Lent, call}
+use Rattle.rules.specs.File.{fileBytes, writeFile, readFile}
+use Rattle.rules.specs.Computed.{document01, document02}
+use Rattle.rules.specs.Histories.{box, insert, search, shown}
+use Rattle.in_force_laws.specs.Force.{change, inForce, forceBy, forceAfter, placesFilled, filledBy, filledAfter}
+use Rattle.in_force_laws.specs.Batch.{Told}
+use Rattle.demands.specs.Steps.{Step, Read, Call, poolAfter, History, inForceAfter}
+use Rattle.demands.specs.Demands.{after}
+use Rattle.demands.specs.Files.{Write, ReadOf, fileOf, WrittenAgain, CarriedOver}
+use Rattle.rules_laws.proofs.Places.{Each}
+use Rattle.file_laws.specs.Bytes.{Word}
+use Rattle.file_laws.proofs.Numbers.{fits-by}
+use Rattle.demands.proofs.Holds.{history-holds}
+use Rattle.demands.proofs.Demands.{demand-3}
+use Rattle.demands.proofs.Files.{round-trip, carried-whole}
+
+-- what the calls give, as outcomes that they allow
+abbrev writing : List ℤ → List ℕ → Write
+writing w buffer =
+    record {
+      pool = w;
+      buffer = buffer;
+      number = writeFile w buffer .number;
+      left = writeFile w buffer .file;
+      length = writeFile w buffer .length;
+      allowed = record { number = refl; file = refl; length = refl };
+    }
+
+abbrev reading : (file : List ℕ) → List ℤ → ReadOf file
+reading file w =
+    record {
+      pool = w;
+      work = w;
+      number = readFile w w file .number;
+      left = readFile w w file .pool;
+      workspace = readFile w w file .workspace;
+      allowed = record { number = refl; pool = refl; workspace = refl };
+    }
+
+-- ---- a map, and its file
+
+-- three records in a pool of one slot, the last number first
+fill : Lent
+fill =
+    record {
+      pool = words (blankPool 0);
+      workspace = words (blankPool 0);
+      requests = insert 9 (box 40 0 50 9) ∷ insert 7 (box 0 0 10 10) ∷ insert 7 (box 0 0 9 9) ∷ [];
+      answers = replicate 3 (answer 1 2 3 4);
+      found = [];
+    }
+
+filled : List Step
+filled = Call fill (call fill) ∷ []
+
+filled-history : History 0 filled
+unfolding poolAfter filled fill
+filled-history = (refl, record { number = refl; pool = refl; workspace = refl; answers = refl; found = refl }, tt)
+
+pub home : List ℤ
+unfolding fill
+home = call fill .pool
+
+abbrev pub carriedRecords : List Record
+carriedRecords = shown 7 (box 0 0 9 9) ∷ shown 7 (box 0 0 10 10) ∷ shown 9 (box 40 0 50 9) ∷ []
+
+-- written to the front of a buffer of 100 bytes
+pub carried : Write
+carried = writing home (replicate 100 9)
+
+closed-written : carried .number ≡ pos 0
+unfolding document01 document02 carried home fill
+closed-written = refl
+
+pub closed-file : fileOf carried ≡ fileBytes carriedRecords
+unfolding document01 document02 carried home fill
+closed-file = refl
+
+-- ---- read at head office, into words that are no pool yet, and written there
+
+pub office : ReadOf (fileOf carried)
+office = reading (fileOf carried) (replicate 50 (pos 3))
+
+closed-read : office .number ≡ pos 0
+unfolding document01 document02 office carried home fill
+closed-read = refl
+
+pub again : Write
+again = writing (office .left) (replicate 90 1)
+
+long-enough : length (fileOf carried) ≤ length (again .buffer)
+unfolding document01 document02 again office carried home fill
+long-enough = omega arith
+
+-- every hypothesis of the round trip is met, and this is what it says
+pub closed-round-trip : WrittenAgain (fileOf carried) again
+closed-round-trip = round-trip carried closed-written office closed-read again (unfold again in refl) long-enough
+
+-- ---- the same records
+
+home-fits : Each Word home
+home-fits = fits-by home all
+  where
+    all : every (λ (z : ℤ). ltb (mag z) 2147483648) home ≡ true
+    all = unfold document01 in unfold home in unfold fill in refl
+
+home-once : (x : Record) → length (those (samePair x) (stored (read home))) ≤ 1
+unfolding poolAfter home filled
+home-once x =
+    let h = history-holds 0 filled filled-history in
+    omega (arith, h .once x, h .alike .each (samePair x))
+
+home-few : length (stored (read home)) ≡ 3
+unfolding document01 home fill
+home-few = refl
+
+office-right : validLength (office .pool) ≡ true
+unfolding document01 office
+office-right = refl
+
+office-slots : slotCount (office .pool) ≡ 1
+unfolding document01 office
+office-slots = refl
+
+pub closed-carried : CarriedOver (ordered (stored (read home))) office
+unfolding carried
+closed-carried =
+    carried-whole carried closed-written home-fits home-once (omega (arith, home-few)) office office-right (unfold office in refl)
+    (omega (arith, home-few, office-slots))
+
+-- ---- a history goes on after a file, and after one that is refused
+
+-- the file without its last byte
+abbrev cut : List ℕ
+cut = take 87 (fileBytes carriedRecords)
+
+pub came : List ℤ
+came = readFile (words (blankPool 0)) (replicate 50 (pos 5)) (fileBytes carriedRecords) .pool
+
+pub kept : List ℤ
+kept = readFile came (replicate 50 (pos 6)) cut .pool
+
+pub asks : Lent
+asks =
+    record {
+      pool = kept;
+      workspace = kept;
+      requests = search (box 0 0 20 20) ∷ [];
+      answers = replicate 1 (answer 1 2 3 4);
+      found = replicate 5 noRecord;
+    }
+
+before-asks : List Step
+before-asks =
+    Read (replicate 50 (pos 6)) cut (readFile came (replicate 50 (pos 6)) cut)
+    ∷ Read (replicate 50 (pos 5)) (fileBytes carriedRecords) (readFile (words (blankPool 0)) (replicate 50 (pos 5)) (fileBytes carriedRecords))
+    ∷ []
+
+carried-history : History 0 (Call asks (call asks) ∷ before-asks)
+unfolding poolAfter before-asks asks kept came
+carried-history = (
+  refl,
+  record { number = refl; pool = refl; workspace = refl; answers = refl; found = refl },
+  (record { number = refl; pool = refl; workspace = refl }, (record { number = refl; pool = refl; workspace = refl }, tt)),
+)
+
+asks-served : call asks .number ≡ pos 0
+unfolding document01 document02 asks kept came
+asks-served = refl
+
+pub cut-refused : readFile came (replicate 50 (pos 6)) cut .number ≡ pos 10
+unfolding document01 document02 came
+cut-refused = refl
+
+-- the records in force are those of the first file: the second was refused
+pub closed-after-read : Told (after asks [] .pool) carriedRecords 0 Meeting (box 0 0 20 20) 0 (call asks .answers)
+    (shown 7 (box 0 0 9 9) ∷ shown 7 (box 0 0 10 10) ∷ replicate 3 noRecord)
+unfolding document01 document02 inForceAfter forceAfter filledAfter before-asks asks kept came
+closed-after-read =
+    demand-3 0 before-asks asks (call asks) carried-history asks-served .each [] (search (box 0 0 20 20)) [] refl Meeting (box 0 0 20 20) refl refl (omega arith)
