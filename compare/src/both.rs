@@ -81,7 +81,8 @@ fn difference(our_number: i32, ours: &Lent, number: i32, theirs: &Lent) -> Optio
         .map(|place| format!("returned {number}; {place}"))
 }
 
-fn first_place<T: PartialEq + std::fmt::Debug>(what: &str, a: &[T], b: &[T]) -> Option<String> {
+/// The first place in which two lists differ.
+pub fn first_place<T: PartialEq + std::fmt::Debug>(what: &str, a: &[T], b: &[T]) -> Option<String> {
     let place = a.iter().zip(b).position(|(x, y)| x != y)?;
     Some(format!("{what} {place} is {:?}, and the second program's {:?}", a[place], b[place]))
 }

@@ -1,6 +1,7 @@
 //! Blanking, and the check of soundness, on blank, sound, damaged, garbage and hostile pools.
 
 use crate::both::lend;
+use crate::carry::Carrying;
 use crate::detached;
 use crate::lent::Lent;
 use crate::pools;
@@ -51,6 +52,7 @@ pub fn pools(dice: &mut Dice, tally: &mut Tally, seen: &mut Seen) {
         for (what, pool) in pools_of(slots, count, dice) {
             ask(what, &pool, tally, seen);
             seen.note(format!("pool: {what}"));
+            Carrying { dice, tally, seen }.write_any(&format!("a write, {what} pool"), &pool);
             call_over(what, pool, dice, tally, seen);
         }
     }

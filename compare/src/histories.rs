@@ -1,6 +1,7 @@
 //! Histories from a blank pool, in batches; every call is made to both programs, and faulty calls come in between.
 
 use crate::both::lend;
+use crate::carry::Carrying;
 use crate::lent::Lent;
 use crate::seen::Seen;
 use crate::spoil::{fill_unused, garbage_answers, garbage_found, garbage_words, muddle, spoil};
@@ -32,6 +33,12 @@ const PLAN: [(usize, usize, u64); 13] = [
 /// The largest pool is slow in the second program, which copies it for every change: one history, in batches of these sizes.
 const LARGEST: [usize; 5] = [1_024, 1, 0, 5, 200];
 
+/// After so many calls in a hundred the map is carried to other offices.
+const CARRIED: u64 = 10;
+
+/// Up to so many slots a history may go on in a shorter pool.
+const MAY_SHRINK: usize = 12;
+
 /// Every size and style, from a seed.
 pub fn all(seed: u64, tally: &mut Tally, seen: &mut Seen) {
     for (slots, calls, histories) in PLAN {
@@ -49,6 +56,7 @@ pub fn all(seed: u64, tally: &mut Tally, seen: &mut Seen) {
     let (name, style) = STYLES[(seed % 2) as usize];
     let mut history = History::new(format!("{name}, 4096 slots, seed {seed}"), style, seed, 4_096);
     LARGEST.iter().for_each(|&size| history.step(size, tally, seen));
+    history.carry("4096 slots", tally, seen);
 }
 
 /// 0, 1, a few, some dozens, 1,024.
@@ -69,6 +77,8 @@ struct History {
     dice: Dice,
     pool: Vec<i32>,
     calls: usize,
+    /// What the next call is to be counted as, where a read left the pool.
+    arrived: Option<&'static str>,
 }
 
 /// A batch as drawn, and how many places its searches fill where there is room for all.
@@ -82,7 +92,8 @@ impl History {
     fn new(title: String, style: Style, seed: u64, slots: usize) -> History {
         let pool = dustmap::blank_pool(slots).expect("slots are 1 to 4,096");
         let generator = Generator::new(style, seed, slots);
-        History { title, generator, dice: Dice::new(seed ^ 0x5EED), pool, calls: 0 }
+        let dice = Dice::new(seed ^ 0x5EED);
+        History { title, generator, dice, pool, calls: 0, arrived: None }
     }
 
     /// The next batch; one time in four a call with faults goes before it, over the same pool.
@@ -99,7 +110,29 @@ impl History {
         let left = lend(&title, &lent, tally, seen);
         tally.hold(left.number == 0, || format!("{title}: refused {}", left.number));
         self.pool = left.lent.pool;
+        if let Some(what) = self.arrived.take() {
+            seen.note(what);
+        }
         self.probe(&title, tally, seen);
+        if self.dice.chance(CARRIED) {
+            self.carry(&title, tally, seen);
+        }
+    }
+
+    /// Carries the map to other offices. The history goes on in one of as many slots, now and then in the shortest, or stays where it is.
+    fn carry(&mut self, title: &str, tally: &mut Tally, seen: &mut Seen) {
+        let pools = Carrying { dice: &mut self.dice, tally, seen }.round_trip(title, &self.pool);
+        let shrinks = self.pool.len() <= dustmap::words(MAY_SHRINK) && self.dice.chance(20);
+        let as_long = |pool: &&Vec<i32>| pool.len() == self.pool.len();
+        let office = if shrinks { pools.first() } else { pools.iter().find(as_long) };
+        let Some(pool) = office else {
+            return;
+        };
+        self.arrived = Some(match pool.len() < self.pool.len() {
+            true => "call over a shorter pool that a read left",
+            false => "call over a pool that a read left",
+        });
+        self.pool = pool.clone();
     }
 
     /// "A delete can be refused 7", which is rare. Where no slot is free, a pair is deleted from each leaf that would then be too

@@ -3,12 +3,16 @@
 //! usage: compare [SEED [ROUNDS]]
 
 mod both;
+mod carry;
+mod carry_met;
 mod checks;
 mod detached;
+mod files;
 mod histories;
 mod largest;
 mod lent;
 mod modes;
+mod offices;
 mod pools;
 mod scripts;
 mod seen;
@@ -19,6 +23,7 @@ mod survey_met;
 mod tally;
 mod twice;
 
+use carry::Carrying;
 use second::dice::Dice;
 use seen::Seen;
 use tally::Tally;
@@ -39,10 +44,15 @@ fn main() {
         twice::all(&mut dice, &mut tally, &mut seen);
         sizes::all(&mut dice, &mut tally, &mut seen);
         survey::all(seed.wrapping_add(round), &mut tally, &mut seen);
+        let mut office = Carrying { dice: &mut dice, tally: &mut tally, seen: &mut seen };
+        offices::all(&mut office);
+        files::all(&mut office);
     }
     let full = largest::filled(&mut tally);
     for _ in 0..rounds {
         largest::calls(&full, &mut dice, &mut tally, &mut seen);
+        let mut office = Carrying { dice: &mut dice, tally: &mut tally, seen: &mut seen };
+        offices::largest(&full, &mut office);
     }
     checks::times(&full, &mut tally);
     largest::time(&full, &mut tally);

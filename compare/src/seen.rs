@@ -1,5 +1,6 @@
 //! What the calls met, so that a run can say that it met every case.
 
+use crate::carry_met;
 use crate::lent::Lent;
 use crate::survey_met::Met;
 use crate::tally::Tally;
@@ -128,6 +129,11 @@ impl Seen {
         *self.counts.entry(what.into()).or_default() += 1;
     }
 
+    /// Notes those that are so.
+    pub fn note_those<const K: usize>(&mut self, met: [(&str, bool); K]) {
+        met.into_iter().filter(|(_, so)| *so).for_each(|(what, _)| self.note(what));
+    }
+
     /// Takes in a call: what was lent, what came back, what the second program noted on its way.
     pub fn call(&mut self, lent: &Lent, number: i32, left: &Lent, events: &Events) {
         self.events.add(events);
@@ -204,15 +210,14 @@ impl Seen {
         let by_kind = |kind| searches.iter().filter(fills).any(|&(k, _)| k == kind);
         let all_modes = [SEARCH, INSIDE, ENCLOSING].into_iter().all(by_kind);
         let mut from_refused = searches.iter().skip_while(|(_, a)| a.number != 8);
-        let used = [
+        self.note_those([
             ("found list of no places", places == 0),
             ("found list filled to its last place", filled > 0 && filled == places),
             ("found list with places beyond", filled > 0 && filled < places),
             ("found list filled by several searches", filling > 1),
             ("found list filled by searches of all modes", all_modes),
             ("search accepted after one refused 8", from_refused.any(|search| fills(&search))),
-        ];
-        used.iter().filter(|(_, so)| *so).for_each(|(what, _)| self.note(*what));
+        ]);
     }
 
     fn request(&mut self, request: &Request, answer: &Answer) {
@@ -227,7 +232,9 @@ impl Seen {
         println!("{} requests done, the tallest tree {} levels", self.requests, self.tallest);
         let met = |name: &str| self.counts.get(name).copied().unwrap_or(0);
         let all = WANTED.iter().map(|&name| (name, met(name))).chain(self.events.named());
-        for (name, count) in all.chain(self.survey.named()) {
+        let all = all.chain(self.survey.named()).map(|(name, count)| (name.to_string(), count));
+        let carried = carry_met::wanted().into_iter().map(|name| (name.clone(), met(&name)));
+        for (name, count) in all.chain(carried) {
             println!("  {count:>9}  {}", name.replace('_', " "));
             tally.hold(count > 0, || format!("{name}: not met"));
         }

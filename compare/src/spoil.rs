@@ -22,6 +22,14 @@ pub fn garbage_words(dice: &mut Dice, length: usize) -> Vec<i32> {
     (0..length).map(|_| garbage_word(dice)).collect()
 }
 
+/// Any bytes; one list in four is all of one byte.
+pub fn garbage_bytes(dice: &mut Dice, length: usize) -> Vec<u8> {
+    if dice.chance(25) {
+        return vec![dice.below(256) as u8; length];
+    }
+    (0..length).map(|_| dice.below(256) as u8).collect()
+}
+
 pub fn garbage_answers(dice: &mut Dice, length: usize) -> Vec<Answer> {
     let mut word = || garbage_word(dice);
     (0..length)

@@ -2,6 +2,7 @@
 //! may be lent.
 
 use crate::both::lend;
+use crate::carry::Carrying;
 use crate::lent::{Left, Lent};
 use crate::seen::{kind_name, Seen};
 use crate::spoil::{garbage_answers, garbage_found, garbage_words};
@@ -25,6 +26,7 @@ pub fn all(dice: &mut Dice, tally: &mut Tally, seen: &mut Seen) {
             let mut pool = doubled(dice, slots);
             let title = format!("pairs held twice, {slots} slots");
             tally.hold(dustmap::check(&pool) == 0, || format!("{title}: not sound"));
+            Carrying { dice, tally, seen }.round_trip(&title, &pool);
             for _ in 0..CALLS {
                 pool = step(&title, pool, dice, tally, seen);
             }

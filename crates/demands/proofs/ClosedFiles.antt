@@ -9,7 +9,6 @@ use lib.ListN.{length, take, replicate}
 use lib.Dec.{ltb}
 use lib.IntN.{ℤ, pos}
 use lib.Signed.{mag}
-use Rattle.rules.specs.declared.Request.{Request}
 use Rattle.rules.specs.declared.Record.{Record}
 use Rattle.rules.specs.declared.Mode.the-variants.{Meeting}
 use Rattle.rules.specs.Lists.{those, every}
@@ -22,7 +21,7 @@ use Rattle.rules.specs.Call.{Lent, call}
 use Rattle.rules.specs.File.{fileBytes, writeFile, readFile}
 use Rattle.rules.specs.Computed.{document01, document02}
 use Rattle.rules.specs.Histories.{box, insert, search, shown}
-use Rattle.in_force_laws.specs.Force.{change, inForce, forceBy, forceAfter, placesFilled, filledBy, filledAfter}
+use Rattle.in_force_laws.specs.Force.{forceAfter, filledAfter}
 use Rattle.in_force_laws.specs.Batch.{Told}
 use Rattle.demands.specs.Steps.{Step, Read, Call, poolAfter, History, inForceAfter}
 use Rattle.demands.specs.Demands.{after}

@@ -3,12 +3,11 @@
 use mathlib.Core.Path.{_≡_, refl, sym, ap, subst, _∙_}
 use mathlib.Core.Logic.{_≢_}
 use mathlib.Core.Bool.{Bool, true, false, not}
-use mathlib.Core.List.{List, _++_}
+use mathlib.Core.List.{List}
 use Prim.Native.Nat.{ℕ, _+_, _*_, _-_, _≤_, _<_}
 use native.Mathlib.Omega.{arith}
 use lib.ListN.{length, take, drop, length-replicate}
 use lib.Seq.{sets, sets-eq, take-append-seam}
-use lib.Dec.{eqb}
 use borrow.Author.Tests.{eq-eqb}
 use lib.IntN.{ℤ, pos}
 use Rattle.rules.specs.declared.Record.{Record}
@@ -19,7 +18,7 @@ use Rattle.rules.specs.Layout.{validLength, slotCount, words, read}
 use Rattle.rules.specs.Sound.{sound}
 use Rattle.rules.specs.Search.{ordered}
 use Rattle.rules.specs.Insert.{ours}
-use Rattle.rules.specs.File.{fileNumber, fileBytes, recordsCarried, distinct, fileRecords, WriteLeft, writeFile, Loaded, loadFile, ReadLeft, readFile}
+use Rattle.rules.specs.File.{fileNumber, fileBytes, recordsCarried, distinct, fileRecords, WriteLeft, Loaded, loadFile, ReadLeft, readFile}
 use Rattle.rules_laws.proofs.Bools.{not-false, or-neither}
 use Rattle.rules_laws.proofs.Orders.{never-both}
 use Rattle.rules_laws.proofs.Places.{Among, Each, each-among}
@@ -67,8 +66,7 @@ wrote w z =
 writes : (w : Write) → Writable (w .pool) (w .buffer) → (w .number ≡ pos 0) × (fileOf w ≡ fileBytes (recordsCarried (read (w .pool))))
 writes w k =
     let a = w .allowed in
-    let e = write-writes (w .pool) (w .buffer) k in
-    (
+    let e = write-writes (w .pool) (w .buffer) k in (
       a .number ∙ ap (λ (o : WriteLeft). o .number) e,
       (λ i. take (a .length i) (a .file i)) ∙ ap (λ (o : WriteLeft). take (o .length) (o .file)) e ∙ front-is (w .buffer) (fileBytes (recordsCarried (read (w .pool)))) (k .long),
     )

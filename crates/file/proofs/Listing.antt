@@ -17,7 +17,7 @@ use Rattle.sound_laws.specs.Tree.{Whole}
 use Rattle.sound_laws.proofs.Heights.{height-eight}
 use Rattle.search_laws.specs.Window.{wholeSite}
 use Rattle.in_force_laws.proofs.Sounds.{found-few}
-use Rattle.file_laws.proofs.Site.{all-found}
+use Rattle.search_laws.proofs.Site.{all-found}
 
 module _ (w : List ℤ) (right : validLength w ≡ true) (h : Whole (read w)) where
   pub low : read w .height ≤ 8

@@ -1,18 +1,17 @@
 -- What a read comes to. The workspace is blank, and takes the file; where it is accepted the pool becomes what the workspace is, and otherwise
 -- the workspace what the pool is.
 use mathlib.Core.Path.{_≡_, refl, sym, ap, subst, _∙_}
-use mathlib.Core.Bool.{Bool, true, false, not, _||_}
+use mathlib.Core.Bool.{true, false, not}
 use mathlib.Core.List.{List}
 use Prim.Native.Nat.{ℕ, _-_}
 use lib.ListN.{length}
-use lib.Dec.{eqb}
 use lib.IntN.{ℤ, pos}
 use borrow.Author.Tests.{eqb-true}
 use Rattle.rules.specs.Lists.{same}
 use Rattle.rules.specs.Pool.{Pool, blankPool}
 use Rattle.rules.specs.Layout.{validLength, slotCount, words, read, blank}
 use Rattle.rules.specs.Insert.{ours}
-use Rattle.rules.specs.File.{fileNumber, Load, Loaded, Fails, loadFile, ReadLeft, afterLoad, readFile}
+use Rattle.rules.specs.File.{Load, Loaded, Fails, loadFile, ReadLeft, readFile}
 use Rattle.rules_laws.proofs.Bools.{not-false, or-neither}
 use Rattle.rules_laws.proofs.Orders.{never-both}
 use Rattle.sound_laws.specs.Tree.{Whole}

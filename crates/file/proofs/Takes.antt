@@ -12,7 +12,7 @@ use lib.IntN.{ℤ, pos}
 use borrow.Author.Tests.{eqb-true, eq-eqb}
 use Rattle.rules.specs.declared.Record.{Record}
 use Rattle.rules.specs.declared.FileFault.{FileFault}
-use Rattle.rules.specs.declared.FileFault.the-variants.{BadLength, NotSound, BadRectangle, BadNumber, NoSlot, ShortBuffer, BadFrame, NotAfter}
+use Rattle.rules.specs.declared.FileFault.the-variants.{NoSlot, BadFrame}
 use Rattle.rules.specs.Lists.{same}
 use Rattle.rules.specs.Pool.{Pool}
 use Rattle.rules.specs.Layout.{read}

@@ -6,7 +6,7 @@ use mathlib.Core.Option.{Option, none, some}
 use Prim.Native.Nat.{ℕ, _-_, _≤_}
 use lib.ListN.{length}
 use lib.Seq.{sets}
-use lib.Dec.{ltb, eqb}
+use lib.Dec.{eqb}
 use lib.IntN.{ℤ, pos}
 use borrow.Author.Tests.{ltb-false, le-ltb}
 use Rattle.rules.specs.declared.FileFault.{FileFault}
@@ -18,7 +18,7 @@ use Rattle.rules.specs.Sound.{sound}
 use Rattle.rules.specs.Insert.{ours}
 use Rattle.rules.specs.Answers.{firstRow}
 use Rattle.rules.specs.File.{fileNumber, fileBytes, recordsCarried, WriteLeft, writeFault, writeFile, Load, Loaded, Fails, loadFile, ReadLeft, afterLoad, readFile}
-use Rattle.rules_laws.proofs.Bools.{not-false, or-neither}
+use Rattle.rules_laws.proofs.Bools.{not-false}
 use Rattle.in_force_laws.proofs.Faults.{no-row}
 
 -- ---- the number 0 is no refusal

@@ -1,6 +1,6 @@
 -- What a writer makes of records that ascend is read again, for every lawful choice, where the pool has half as many slots as there are
 -- records: an insert into a pool with at most two records for each slot finds the slots that it needs.
-use mathlib.Core.Path.{_≡_, refl, sym, ap, subst, _∙_}
+use mathlib.Core.Path.{_≡_, refl, sym, ap, _∙_}
 use mathlib.Core.Bool.{true}
 use mathlib.Core.List.{List, [], _∷_, _++_, map, append-nil, append-assoc}
 use mathlib.Core.Option.{Option, none, some}
@@ -12,20 +12,20 @@ use lib.Signed.{leZ}
 use borrow.Author.Tests.{le-leb}
 use Rattle.rules.specs.declared.Record.{Record}
 use Rattle.rules.specs.Lists.{joined, same}
-use Rattle.rules.specs.Pool.{Pool, freeNode, stored, putRecords, blankPool}
+use Rattle.rules.specs.Pool.{Pool, freeNode, stored, blankPool}
 use Rattle.rules.specs.Layout.{edition, natural, wordAt}
-use Rattle.rules.specs.Search.{before}
 use Rattle.rules.specs.Frames.{rectIn}
 use Rattle.rules.specs.Insert.{Choice, Change, Done, NoneFree, insertRecord}
 use Rattle.rules.specs.Lawful.{Lawful}
-use Rattle.rules.specs.File.{headFrame, recordFrame, endFrame, fileBytes, Due, frameDue, goodHead, countIn, recordIn, recordsFrom, fileRecords, Load, Loaded, follows, recordFault, endOf, loadRecords, loadFile}
+use Rattle.rules.specs.File.{headFrame, recordFrame, endFrame, fileBytes, Due, frameDue, goodHead, countIn, recordIn}
+use Rattle.rules.specs.File.{recordsFrom, fileRecords, Loaded, follows, recordFault, endOf, loadRecords, loadFile}
 use Rattle.rules_laws.proofs.Bools.{both-and}
 use Rattle.rules_laws.proofs.Places.{Each, each-also}
 use Rattle.rules_laws.proofs.Parts.{those-all}
 use Rattle.rules_laws.proofs.Joins.{joined-none, joined-more}
 use Rattle.sound_laws.specs.Tree.{Whole}
 use Rattle.sound_laws.proofs.Same.{same-is}
-use Rattle.insert_laws.proofs.Whole.{insert-whole, insert-stored, insert-put-record}
+use Rattle.insert_laws.proofs.Whole.{insert-whole, insert-stored}
 use Rattle.insert_laws.proofs.Enough.{insert-enough}
 use Rattle.in_force_laws.proofs.Call.{blank-holds}
 use Rattle.file_laws.specs.Bytes.{Word}
@@ -111,11 +111,10 @@ module _ (c : Choice) (lawful : Lawful c) where
       let w2 = insert-whole c lawful p w r (g .0 .0) (g .0 .1) q (i .1) in
       let rest = all-go-in rs (some r) q w2 (a .1) (g .1) (n .1) (unfold follows in a .0)
       (omega (arith, h, same-slots c lawful p q w r (g .0 .0) (g .0 .1) (i .1), one-more p q w r (g .0) (i .1))) in
-      let back = record-back r in
-      (
+      let back = record-back r in (
         rest .0,
         S.load-next c (length rs) last p (rest-of (r ∷ rs)) d (next-due r rs (g .0) (n .0)) (ap (recordFault last) back ∙ pass) q (ap (insertRecord c p) back ∙ i .1)
-        ∙ ap (λ (x : Record). loadRecords c (length rs) (some x) q (rest-of rs)) back ∙ rest .1,
+            ∙ ap (λ (x : Record). loadRecords c (length rs) (some x) q (rest-of rs)) back ∙ rest .1,
       )
 
   -- ---- a file
@@ -168,9 +167,8 @@ module _ (c : Choice) (lawful : Lawful c) where
     file-enough m h =
         let all = all-go-in rs none (blankPool m) (blank-holds m .whole) (k .ascending) (k .good) n
         (each-also GoodRecord (λ r. follows none r ≡ true) (λ r g. unfold follows in refl) rs (k .good))
-        (omega (arith, h, slots-are m, none-yet m)) in
-        (
+        (omega (arith, h, slots-are m, none-yet m)) in (
           all .0,
           S.head-good c (blankPool m) (fileBytes rs) first due (head-right (length rs))
-          ∙ ap (λ (x : ℕ). loadRecords c x none (blankPool m) (rest-of rs)) (head-many (length rs)) ∙ all .1,
+              ∙ ap (λ (x : ℕ). loadRecords c x none (blankPool m) (rest-of rs)) (head-many (length rs)) ∙ all .1,
         )

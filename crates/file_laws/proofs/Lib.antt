@@ -3,7 +3,6 @@ pub mod Due
 pub mod Bytes
 pub mod All
 pub mod Written
-pub mod Site
 pub mod Distinct
 pub mod Steps
 pub mod Rule

@@ -1,22 +1,21 @@
 -- What an accepted load leaves, for every lawful choice: a whole pool that holds the records of the file and those of before; and these
 -- records ascend and are each as a leaf entry is to be.
 use mathlib.Core.Path.{_≡_, refl, sym, ap, subst, _∙_}
-use mathlib.Core.Bool.{Bool, true, false}
-use mathlib.Core.List.{List, [], _∷_}
+use mathlib.Core.Bool.{Bool, true}
+use mathlib.Core.List.{List, _∷_}
 use mathlib.Core.Option.{Option, none, some}
 use Prim.Native.Nat.{ℕ, zero, suc, _+_}
 use native.Mathlib.Omega.{arith}
 use lib.ListN.{length}
 use Rattle.rules.specs.declared.Record.{Record}
-use Rattle.rules.specs.declared.FileFault.{FileFault}
 use Rattle.rules.specs.Lists.{those}
 use Rattle.rules.specs.Numbers.{goodNumber}
 use Rattle.rules.specs.Geometry.{valid}
 use Rattle.rules.specs.Pool.{Pool, stored, putRecords, blankPool}
 use Rattle.rules.specs.Search.{ordered}
-use Rattle.rules.specs.Insert.{Choice, Change, Done, NoneFree, insertRecord}
+use Rattle.rules.specs.Insert.{Choice, Done, insertRecord}
 use Rattle.rules.specs.Lawful.{Lawful}
-use Rattle.rules.specs.File.{Due, frameDue, goodHead, countIn, recordIn, recordsFrom, fileRecords, Load, Loaded, Fails, follows, recordFault, endOf, loadRecords, loadFile}
+use Rattle.rules.specs.File.{Due, frameDue, countIn, recordIn, recordsFrom, fileRecords, follows, loadRecords, loadFile}
 use Rattle.rules_laws.proofs.Places.{Each, each-among, each-of}
 use Rattle.rules_laws.proofs.Parts.{those-none, count-cons}
 use Rattle.sound_laws.specs.Tree.{Whole}
@@ -28,7 +27,7 @@ use Rattle.file_laws.specs.Ascending.{Ascending, GoodRecord, Carriable}
 use Rattle.file_laws.proofs.Distinct.{ascending-once, ascending-ordered}
 use Rattle.file_laws.proofs.Steps as S
 use Rattle.file_laws.proofs.Steps.{Passes}
-use Rattle.file_laws.proofs.Rule.{IfLoaded, then-loaded, load-by}
+use Rattle.file_laws.proofs.Rule.{file-cases, IfLoaded, then-loaded, load-by}
 
 -- n records have gone into p, after the one given, and it is q now
 pub record Took (p : Pool) (last : Option Record) (n : ℕ) (bs : List ℕ) (q : Pool) : Type 0 where
@@ -124,16 +123,7 @@ module _ (c : Choice) (lawful : Lawful c) where
       }
 
   pub file-loads : (m : ℕ) (bs : List ℕ) → IfLoaded (Holds m bs) (loadFile c (blankPool m) bs)
-  file-loads m bs = go (frameDue 16 2 bs) refl
-    where
-      head : (d : Due) → frameDue 16 2 bs ≡ some d → (b : Bool) → goodHead (d .words) ≡ b → IfLoaded (Holds m bs) (loadFile c (blankPool m) bs)
-      head d e false h = subst (IfLoaded (Holds m bs)) (sym (S.head-bad c (blankPool m) bs d e h)) tt
-      head d e true h =
-          let n = countIn (d .words) in
-          subst (IfLoaded (Holds m bs)) (sym (S.head-good c (blankPool m) bs d e h))
-          (then-loaded (Took (blankPool m) none n (d .after)) (Holds m bs) (file-holds m bs d e) (loadRecords c n none (blankPool m) (d .after))
-          (load-takes n none (blankPool m) (d .after) (blank-holds m .whole)))
-
-      go : (o : Option Due) → frameDue 16 2 bs ≡ o → IfLoaded (Holds m bs) (loadFile c (blankPool m) bs)
-      go none e = subst (IfLoaded (Holds m bs)) (sym (S.head-none c (blankPool m) bs e)) tt
-      go (some d) e = head d e (goodHead (d .words)) refl
+  file-loads m bs =
+      file-cases c (blankPool m) bs (IfLoaded (Holds m bs)) tt
+      (λ d e h. then-loaded (Took (blankPool m) none (countIn (d .words)) (d .after)) (Holds m bs) (file-holds m bs d e)
+      (loadRecords c (countIn (d .words)) none (blankPool m) (d .after)) (load-takes (countIn (d .words)) none (blankPool m) (d .after) (blank-holds m .whole)))

@@ -1,7 +1,7 @@
 -- A pool of 32-bit words stores records whose numbers such words hold: every number is a word of the pool. And a valid rectangle's coordinates
 -- are far within 32 bits.
-use mathlib.Core.Path.{_≡_, refl, sym, subst}
-use mathlib.Core.Bool.{Bool, true, false, _&&_}
+use mathlib.Core.Path.{_≡_, refl}
+use mathlib.Core.Bool.{Bool, true, false}
 use mathlib.Core.List.{List, [], _∷_, map}
 use Prim.Native.Nat.{ℕ, zero, suc}
 use native.Mathlib.Omega.{arith}
@@ -20,6 +20,7 @@ use Rattle.rules.specs.Pool.{Node, recordOf, numberOf, isLeaf, stored}
 use Rattle.rules.specs.Layout.{headSize, rectSize, entrySize, slotHead, slotSize, slotCount, natural, wordAt, runs, pointerOf, entryOf, nodeOf, read}
 use Rattle.rules_laws.proofs.Bools.{and-both}
 use Rattle.rules_laws.proofs.Places.{Among, Each, each-append, each-of}
+use Rattle.search_laws.proofs.Site.{valid-ranged}
 use Rattle.file_laws.specs.Bytes.{Word}
 
 -- ---- parts of a list of which each member is so
@@ -120,19 +121,13 @@ pub record RectWords (r : Rect) : Type 0 where
   pub highY : Word (r .highY)
 
 pub valid-words : (r : Rect) → valid r ≡ true → RectWords r
-unfolding valid
 valid-words r v =
-    let lows = inRange (r .lowX) && inRange (r .lowY) in
-    let a = and-both _ (leZ (r .lowY) (r .highY)) v in
-    let b = and-both _ (leZ (r .lowX) (r .highX)) (a .0) in
-    let c = and-both (lows && inRange (r .highX)) (inRange (r .highY)) (b .0) in
-    let d = and-both lows (inRange (r .highX)) (c .0) in
-    let e = and-both (inRange (r .lowX)) (inRange (r .lowY)) (d .0) in
+    let i = valid-ranged r v in
     record {
-      lowX = range-word (r .lowX) (e .0);
-      lowY = range-word (r .lowY) (e .1);
-      highX = range-word (r .highX) (d .1);
-      highY = range-word (r .highY) (c .1);
+      lowX = range-word (r .lowX) (i .lowX);
+      lowY = range-word (r .lowY) (i .lowY);
+      highX = range-word (r .highX) (i .highX);
+      highY = range-word (r .highY) (i .highY);
     }
 
 -- ---- asked of words that are written out

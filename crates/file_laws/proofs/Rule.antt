@@ -1,17 +1,80 @@
--- What holds of an accepted load: it holds at the last frame, and of a record and what comes after it where it holds of what comes after.
+-- A load, case by case: what holds of it at the last frame, and at each frame before where it holds of what comes after, holds of all of it.
 use mathlib.Core.Path.{_≡_, refl, sym, subst}
+use mathlib.Core.Bool.{Bool, true, false}
 use mathlib.Core.List.{List, [], _∷_}
 use mathlib.Core.Option.{Option, none, some}
 use Prim.Native.Nat.{ℕ, zero, suc}
 use Rattle.rules.specs.declared.Record.{Record}
 use Rattle.rules.specs.declared.FileFault.{FileFault}
+use Rattle.rules.specs.declared.FileFault.the-variants.{NoSlot, BadFrame}
 use Rattle.rules.specs.Pool.{Pool}
 use Rattle.rules.specs.Insert.{Choice, Change, Done, NoneFree, insertRecord}
-use Rattle.rules.specs.File.{Due, frameDue, recordIn, Load, Loaded, Fails, recordFault, endOf, loadRecords}
+use Rattle.rules.specs.File.{Due, frameDue, goodHead, countIn, recordIn, Load, Loaded, Fails, recordFault, endOf, loadRecords, loadFile}
 use Rattle.file_laws.proofs.Steps as S
 use Rattle.file_laws.proofs.Steps.{Passes}
 
--- what holds of the pool, where the load is accepted
+-- P is said of n records that are due after the last one, of the pool that they go into, of the bytes, and of what becomes of the load
+module _ (c : Choice) (P : ℕ → Option Record → Pool → List ℕ → Load → Type 0)
+    (wrong : (n : ℕ) (last : Option Record) (p : Pool) (bs : List ℕ) → P n last p bs (Fails BadFrame))
+    (ends : (last : Option Record) (p : Pool) (bs : List ℕ) (d : Due) → frameDue 18 0 bs ≡ some d → d .after ≡ [] → P zero last p bs (Loaded p))
+    (faulty : (n : ℕ) (last : Option Record) (p : Pool) (bs : List ℕ) (r : Record) (f : FileFault) → recordFault last r ≡ some f
+    → P (suc n) last p bs (Fails f))
+    (full : (n : ℕ) (last : Option Record) (p : Pool) (bs : List ℕ) → P (suc n) last p bs (Fails NoSlot))
+    (goes : (n : ℕ) (last : Option Record) (p : Pool) (bs : List ℕ) (d : Due) (q : Pool) (l : Load) → frameDue 17 5 bs ≡ some d
+    → Passes last (recordIn (d .words)) → insertRecord c p (recordIn (d .words)) ≡ Done q → P n (some (recordIn (d .words))) q (d .after) l
+    → P (suc n) last p bs l) where
+  at-end : (last : Option Record) (p : Pool) (bs : List ℕ) → P zero last p bs (endOf p (frameDue 18 0 bs))
+  at-end last p bs = go (frameDue 18 0 bs) refl
+    where
+      after : (d : Due) → frameDue 18 0 bs ≡ some d → (l : List ℕ) → d .after ≡ l → P zero last p bs (endOf p (frameDue 18 0 bs))
+      after d e [] f = subst (P zero last p bs) (sym (S.end-here p bs d e f)) (ends last p bs d e f)
+      after d e (b ∷ rest) f = subst (P zero last p bs) (sym (S.end-more p bs d b rest e f)) (wrong zero last p bs)
+
+      go : (o : Option Due) → frameDue 18 0 bs ≡ o → P zero last p bs (endOf p (frameDue 18 0 bs))
+      go none e = subst (P zero last p bs) (sym (S.end-none p bs e)) (wrong zero last p bs)
+      go (some d) e = after d e (d .after) refl
+
+  pub load-cases : (n : ℕ) (last : Option Record) (p : Pool) (bs : List ℕ) → P n last p bs (loadRecords c n last p bs)
+  load-cases zero last p bs = unfold loadRecords in at-end last p bs
+  load-cases (suc n) last p bs = go (frameDue 17 5 bs) refl (λ q d. load-cases n (some (recordIn (d .words))) q (d .after))
+    where
+      put : (d : Due) → frameDue 17 5 bs ≡ some d → recordFault last (recordIn (d .words)) ≡ none
+          → ((q : Pool) → P n (some (recordIn (d .words))) q (d .after) (loadRecords c n (some (recordIn (d .words))) q (d .after)))
+          → (o : Change) → insertRecord c p (recordIn (d .words)) ≡ o → P (suc n) last p bs (loadRecords c (suc n) last p bs)
+      put d e h later NoneFree i = subst (P (suc n) last p bs) (sym (S.load-full c n last p bs d e h i)) (full n last p bs)
+      put d e h later (Done q) i =
+          subst (P (suc n) last p bs) (sym (S.load-next c n last p bs d e h q i))
+          (goes n last p bs d q (loadRecords c n (some (recordIn (d .words))) q (d .after)) e (S.fault-passes last (recordIn (d .words)) h) i (later q))
+
+      fault : (d : Due) → frameDue 17 5 bs ≡ some d
+          → ((q : Pool) → P n (some (recordIn (d .words))) q (d .after) (loadRecords c n (some (recordIn (d .words))) q (d .after)))
+          → (o : Option FileFault) → recordFault last (recordIn (d .words)) ≡ o → P (suc n) last p bs (loadRecords c (suc n) last p bs)
+      fault d e later (some f) h = subst (P (suc n) last p bs) (sym (S.load-fault c n last p bs d e f h)) (faulty n last p bs (recordIn (d .words)) f h)
+      fault d e later none h = put d e h later (insertRecord c p (recordIn (d .words))) refl
+
+      go : (o : Option Due) → frameDue 17 5 bs ≡ o
+          → ((q : Pool) (d : Due) → P n (some (recordIn (d .words))) q (d .after) (loadRecords c n (some (recordIn (d .words))) q (d .after)))
+          → P (suc n) last p bs (loadRecords c (suc n) last p bs)
+      go none e later = subst (P (suc n) last p bs) (sym (S.load-none c n last p bs e)) (wrong (suc n) last p bs)
+      go (some d) e later = fault d e (λ q. later q d) (recordFault last (recordIn (d .words))) refl
+
+-- .. and of a file: its first frame is wrong, or the records after it are due
+pub file-cases : (c : Choice) (p : Pool) (bs : List ℕ) (P : Load → Type 0) → P (Fails BadFrame)
+    → ((d : Due) → frameDue 16 2 bs ≡ some d → goodHead (d .words) ≡ true → P (loadRecords c (countIn (d .words)) none p (d .after)))
+    → P (loadFile c p bs)
+file-cases c p bs P wrong right = go (frameDue 16 2 bs) refl
+  where
+    head : (d : Due) → frameDue 16 2 bs ≡ some d → (b : Bool) → goodHead (d .words) ≡ b → P (loadFile c p bs)
+    head d e false h = subst P (sym (S.head-bad c p bs d e h)) wrong
+    head d e true h = subst P (sym (S.head-good c p bs d e h)) (right d e h)
+
+    go : (o : Option Due) → frameDue 16 2 bs ≡ o → P (loadFile c p bs)
+    go none e = subst P (sym (S.head-none c p bs e)) wrong
+    go (some d) e = head d e (goodHead (d .words)) refl
+
+-- ---- where it is accepted
+
+-- what holds of the pool that is left
 abbrev pub IfLoaded : (Pool → Type 0) → Load → Type 0
 IfLoaded P (Loaded q) = P q
 IfLoaded P (Fails f) = Unit {0}
@@ -20,45 +83,12 @@ pub then-loaded : (P Q : Pool → Type 0) → ((q : Pool) → P q → Q q) → (
 then-loaded P Q f (Loaded q) h = f q h
 then-loaded P Q f (Fails x) h = tt
 
--- P is said of n records that are due after the last one, of the pool that they go into, of the bytes, and of the pool that is left
 module _ (c : Choice) (P : ℕ → Option Record → Pool → List ℕ → Pool → Type 0)
-  (ends : (last : Option Record) (p : Pool) (bs : List ℕ) (d : Due) → frameDue 18 0 bs ≡ some d → d .after ≡ [] → P zero last p bs p)
-  (goes : (n : ℕ) (last : Option Record) (p : Pool) (bs : List ℕ) (d : Due) (q s : Pool) → frameDue 17 5 bs ≡ some d → Passes last (recordIn (d .words))
-      → insertRecord c p (recordIn (d .words)) ≡ Done q → P n (some (recordIn (d .words))) q (d .after) s → P (suc n) last p bs s) where
-  abbrev Holding : ℕ → Option Record → Pool → List ℕ → Type 0
-  Holding n last p bs = IfLoaded (P n last p bs) (loadRecords c n last p bs)
-
-  at-end : (last : Option Record) (p : Pool) (bs : List ℕ) → IfLoaded (P zero last p bs) (endOf p (frameDue 18 0 bs))
-  at-end last p bs = go (frameDue 18 0 bs) refl
-    where
-      after : (d : Due) → frameDue 18 0 bs ≡ some d → (l : List ℕ) → d .after ≡ l → IfLoaded (P zero last p bs) (endOf p (frameDue 18 0 bs))
-      after d e [] f = subst (IfLoaded (P zero last p bs)) (sym (S.end-here p bs d e f)) (ends last p bs d e f)
-      after d e (b ∷ rest) f = subst (IfLoaded (P zero last p bs)) (sym (S.end-more p bs d b rest e f)) tt
-
-      go : (o : Option Due) → frameDue 18 0 bs ≡ o → IfLoaded (P zero last p bs) (endOf p (frameDue 18 0 bs))
-      go none e = subst (IfLoaded (P zero last p bs)) (sym (S.end-none p bs e)) tt
-      go (some d) e = after d e (d .after) refl
-
-  pub load-by : (n : ℕ) (last : Option Record) (p : Pool) (bs : List ℕ) → Holding n last p bs
-  load-by zero last p bs = unfold loadRecords in at-end last p bs
-  load-by (suc n) last p bs = go (frameDue 17 5 bs) refl (λ q d. load-by n (some (recordIn (d .words))) q (d .after))
-    where
-      put : (d : Due) → frameDue 17 5 bs ≡ some d → recordFault last (recordIn (d .words)) ≡ none
-          → ((q : Pool) → Holding n (some (recordIn (d .words))) q (d .after))
-          → (o : Change) → insertRecord c p (recordIn (d .words)) ≡ o → Holding (suc n) last p bs
-      put d e h later NoneFree i = subst (IfLoaded (P (suc n) last p bs)) (sym (S.load-full c n last p bs d e h i)) tt
-      put d e h later (Done q) i =
-          let r = recordIn (d .words) in
-          subst (IfLoaded (P (suc n) last p bs)) (sym (S.load-next c n last p bs d e h q i))
-          (then-loaded (P n (some r) q (d .after)) (P (suc n) last p bs) (λ s t. goes n last p bs d q s e (S.fault-passes last r h) i t)
-          (loadRecords c n (some r) q (d .after)) (later q))
-
-      fault : (d : Due) → frameDue 17 5 bs ≡ some d → ((q : Pool) → Holding n (some (recordIn (d .words))) q (d .after))
-          → (o : Option FileFault) → recordFault last (recordIn (d .words)) ≡ o → Holding (suc n) last p bs
-      fault d e later (some f) h = subst (IfLoaded (P (suc n) last p bs)) (sym (S.load-fault c n last p bs d e f h)) tt
-      fault d e later none h = put d e h later (insertRecord c p (recordIn (d .words))) refl
-
-      go : (o : Option Due) → frameDue 17 5 bs ≡ o → ((q : Pool) (d : Due) → Holding n (some (recordIn (d .words))) q (d .after))
-          → Holding (suc n) last p bs
-      go none e later = subst (IfLoaded (P (suc n) last p bs)) (sym (S.load-none c n last p bs e)) tt
-      go (some d) e later = fault d e (λ q. later q d) (recordFault last (recordIn (d .words))) refl
+    (ends : (last : Option Record) (p : Pool) (bs : List ℕ) (d : Due) → frameDue 18 0 bs ≡ some d → d .after ≡ [] → P zero last p bs p)
+    (goes : (n : ℕ) (last : Option Record) (p : Pool) (bs : List ℕ) (d : Due) (q s : Pool) → frameDue 17 5 bs ≡ some d → Passes last (recordIn (d .words))
+    → insertRecord c p (recordIn (d .words)) ≡ Done q → P n (some (recordIn (d .words))) q (d .after) s → P (suc n) last p bs s) where
+  pub load-by : (n : ℕ) (last : Option Record) (p : Pool) (bs : List ℕ) → IfLoaded (P n last p bs) (loadRecords c n last p bs)
+  load-by =
+      load-cases c (λ n last p bs l. IfLoaded (P n last p bs) l) (λ n last p bs. tt) ends (λ n last p bs r f h. tt) (λ n last p bs. tt)
+      (λ n last p bs d q l e g i t.
+      then-loaded (P n (some (recordIn (d .words))) q (d .after)) (P (suc n) last p bs) (λ s u. goes n last p bs d q s e g i u) l t)

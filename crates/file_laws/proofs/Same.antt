@@ -1,8 +1,8 @@
 -- An accepted file is the file of its records, to the byte: every frame is the one due, and bytes and words are one to one.
 use mathlib.Core.Path.{_≡_, refl, sym, ap, ap₂, subst, _∙_}
-use mathlib.Core.Bool.{Bool, true, false, _&&_}
+use mathlib.Core.Bool.{true}
 use mathlib.Core.List.{List, [], _∷_, _++_, map, append-nil, append-assoc}
-use mathlib.Core.Option.{Option, none, some}
+use mathlib.Core.Option.{none, some}
 use Prim.Native.Nat.{ℕ, suc}
 use native.Mathlib.Omega.{arith}
 use lib.ListN.{length}
@@ -24,7 +24,7 @@ use Rattle.file_laws.specs.Bytes.{AllBytes}
 use Rattle.file_laws.proofs.All.{all-none, all-append}
 use Rattle.file_laws.proofs.Written.{due-bytes, frame-all}
 use Rattle.file_laws.proofs.Steps as S
-use Rattle.file_laws.proofs.Rule.{IfLoaded, then-loaded, load-by}
+use Rattle.file_laws.proofs.Rule.{file-cases, IfLoaded, then-loaded, load-by}
 
 -- ---- a frame, from its words
 
@@ -107,18 +107,10 @@ module _ (c : Choice) (p : Pool) (bs : List ℕ) (a : AllBytes bs) where
 
   -- "writing again gives the same bytes", of any file that is accepted
   pub file-same : IfLoaded (λ q. bs ≡ fileBytes (fileRecords bs)) (loadFile c p bs)
-  file-same = go (frameDue 16 2 bs) refl
-    where
-      head : (d : Due) → frameDue 16 2 bs ≡ some d → (b : Bool) → goodHead (d .words) ≡ b → IfLoaded (λ q. bs ≡ fileBytes (fileRecords bs)) (loadFile c p bs)
-      head d e false h = subst (IfLoaded (λ q. bs ≡ fileBytes (fileRecords bs))) (sym (S.head-bad c p bs d e h)) tt
-      head d e true h =
-          let n = countIn (d .words) in
-          subst (IfLoaded (λ q. bs ≡ fileBytes (fileRecords bs))) (sym (S.head-good c p bs d e h))
-          (then-loaded (λ q. Framed n (d .after)) (λ q. bs ≡ fileBytes (fileRecords bs)) (λ q t. whole-file d e h t) (loadRecords c n none p (d .after)) (framed d e))
-
-      go : (o : Option Due) → frameDue 16 2 bs ≡ o → IfLoaded (λ q. bs ≡ fileBytes (fileRecords bs)) (loadFile c p bs)
-      go none e = subst (IfLoaded (λ q. bs ≡ fileBytes (fileRecords bs))) (sym (S.head-none c p bs e)) tt
-      go (some d) e = head d e (goodHead (d .words)) refl
+  file-same =
+      file-cases c p bs (IfLoaded (λ q. bs ≡ fileBytes (fileRecords bs))) tt
+      (λ d e h. then-loaded (λ q. Framed (countIn (d .words)) (d .after)) (λ q. bs ≡ fileBytes (fileRecords bs)) (λ q t. whole-file d e h t)
+      (loadRecords c (countIn (d .words)) none p (d .after)) (framed d e))
 
 -- ---- a file is bytes
 

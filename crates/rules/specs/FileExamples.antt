@@ -8,8 +8,8 @@ use lib.IntN.{ℤ, pos}
 use Rattle.rules.specs.declared.Record.{Record}
 use Rattle.rules.specs.declared.FileFault.the-variants.{BadRectangle, BadNumber, NoSlot, BadFrame, NotAfter}
 use Rattle.rules.specs.Lists.{joined}
-use Rattle.rules.specs.Pool.{number, rectangle}
-use Rattle.rules.specs.Layout.{blankWords}
+use Rattle.rules.specs.Pool.{Pool, slot, number, rectangle, node, leafEntry}
+use Rattle.rules.specs.Layout.{blankWords, words}
 use Rattle.rules.specs.File.{fileNumber, frameBytes, headFrame, recordFrame, endFrame, fileBytes, writeFile, fileRecords, readFile}
 use Rattle.rules.specs.Computed.{document01, document02}
 use Rattle.rules.specs.Histories.{box, minus, shown}
@@ -55,6 +55,14 @@ pub short-by-one : writeFile held (replicate (length twoRecords - 1) 9)
     ≡ record { number = pos 8; file = replicate (length twoRecords - 1) 9; length = 0 }
 unfolding document01 document02
 short-by-one = refl
+
+-- "The writer drops a pair held twice and counts distinct pairs.": a leaf with the road twice, and the sensor between them
+abbrev twice : Pool
+twice = record { root = slot 1; height = 1; records = 3; slots = node 1 (map leafEntry (road ∷ sensor ∷ road ∷ [])) ∷ [] }
+
+pub once-each : writeFile (words twice) (replicate 64 9) ≡ record { number = pos 0; file = twoRecords; length = 64 }
+unfolding document01 document02
+once-each = refl
 
 -- ---- files at fault
 

@@ -13,7 +13,7 @@ use Rattle.rules.specs.Pool.{Pool, stored}
 use Rattle.rules.specs.Search.{ordered, found}
 use Rattle.rules_laws.proofs.Bools.{and-both}
 use Rattle.rules_laws.proofs.Places.{Among}
-use Rattle.rules_laws.proofs.Parts.{those-same}
+use Rattle.rules_laws.proofs.Parts.{those-every, those-same}
 use Rattle.rules_laws.proofs.Compares.{HoldsRect, valid-meets, held-meets, meets-is, wanted-inside, wanted-meeting}
 use Rattle.sound_laws.specs.Tree.{treeRecords, Whole}
 use Rattle.sound_laws.proofs.Whole.{stored-in}
@@ -34,20 +34,32 @@ between : (z : ℤ) → inRange z ≡ true → (leZ (negsuc 999999999) z ≡ tru
 unfolding inRange
 between z h = and-both (leZ (negsuc 999999999) z) (leZ z (pos 1000000000)) h
 
-pub site-holds : (r : Rect) → valid r ≡ true → HoldsRect wholeSite r
+-- each coordinate of a valid rectangle is in range
+pub record Ranged (r : Rect) : Type 0 where
+  pub lowX : inRange (r .lowX) ≡ true
+  pub lowY : inRange (r .lowY) ≡ true
+  pub highX : inRange (r .highX) ≡ true
+  pub highY : inRange (r .highY) ≡ true
+
+pub valid-ranged : (r : Rect) → valid r ≡ true → Ranged r
 unfolding valid
-site-holds r v =
+valid-ranged r v =
     let lows = inRange (r .lowX) && inRange (r .lowY) in
     let a = and-both _ (leZ (r .lowY) (r .highY)) v in
     let b = and-both _ (leZ (r .lowX) (r .highX)) (a .0) in
     let c = and-both (lows && inRange (r .highX)) (inRange (r .highY)) (b .0) in
     let d = and-both lows (inRange (r .highX)) (c .0) in
     let e = and-both (inRange (r .lowX)) (inRange (r .lowY)) (d .0) in
+    record { lowX = e .0; lowY = e .1; highX = d .1; highY = c .1 }
+
+pub site-holds : (r : Rect) → valid r ≡ true → HoldsRect wholeSite r
+site-holds r v =
+    let i = valid-ranged r v in
     record {
-      lowX = between (r .lowX) (e .0) .0;
-      lowY = between (r .lowY) (e .1) .0;
-      highX = between (r .highX) (d .1) .1;
-      highY = between (r .highY) (c .1) .1;
+      lowX = between (r .lowX) (i .lowX) .0;
+      lowY = between (r .lowY) (i .lowY) .0;
+      highX = between (r .highX) (i .highX) .1;
+      highY = between (r .highY) (i .highY) .1;
     }
 
 module _ (p : Pool) (w : Whole p) where
@@ -67,3 +79,13 @@ module _ (p : Pool) (w : Whole p) where
   -- for planners: over the whole site, inside is meeting
   pub whole-site : found p OnlyInside wholeSite ≡ found p Meeting wholeSite
   whole-site = inside-all wholeSite (λ r m. site-holds (r .rect) (stored-good p w r m .0))
+
+  -- .. and a search that meets it finds every record
+  pub all-found : found p Meeting wholeSite ≡ ordered (stored p)
+  all-found = search-exact p w Meeting wholeSite ∙ ap ordered (those-every (recordWanted Meeting wholeSite) (stored p) all)
+    where
+      all : (r : Record) → Among r (stored p) → recordWanted Meeting wholeSite r ≡ true
+      all r m =
+          let v = stored-good p w r m .0 in
+          wanted-meeting (r .rect) wholeSite v .1
+          (meets-is (r .rect) wholeSite .0 (held-meets (r .rect) wholeSite (valid-meets (r .rect) v) (site-holds (r .rect) v)))
