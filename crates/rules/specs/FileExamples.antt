@@ -40,18 +40,18 @@ pub two-read : fileRecords twoRecords ≡ sensor ∷ road ∷ []
 unfolding document01 document02
 two-read = refl
 
--- a pool of three slots with the two, the later first
-abbrev held : List ℤ
-held = readFile (blankWords 3) (blankWords 3) twoRecords .pool
+-- a pool of three slots that has taken them
+abbrev taken : List ℤ
+taken = readFile (blankWords 3) (blankWords 3) twoRecords .pool
 
 -- "Where a read of a written file is accepted, writing again gives the same bytes.": at the front of a buffer that is five bytes longer
-pub written-again : writeFile held (replicate (length twoRecords + 5) 9)
+pub written-again : writeFile taken (replicate (length twoRecords + 5) 9)
     ≡ record { number = pos 0; file = twoRecords ++ replicate 5 9; length = length twoRecords }
 unfolding document01 document02
 written-again = refl
 
 -- "8 if its buffer is short": by one byte
-pub short-by-one : writeFile held (replicate (length twoRecords - 1) 9)
+pub short-by-one : writeFile taken (replicate (length twoRecords - 1) 9)
     ≡ record { number = pos 8; file = replicate (length twoRecords - 1) 9; length = 0 }
 unfolding document01 document02
 short-by-one = refl
@@ -74,15 +74,16 @@ file count rs = headFrame count ++ joined (map recordFrame rs) ++ endFrame
 abbrev points : List ℕ → List Record
 points ns = map (λ n. shown n (box n n n n)) ns
 
-pub record Read : Type 0 where
+-- a file, and what a read of it says
+pub record FileRead : Type 0 where
   pub bytes : List ℕ
   pub says : ℤ
 
-abbrev says : List ℕ → ℤ → Read
+abbrev says : List ℕ → ℤ → FileRead
 says bytes z = record { bytes = bytes; says = z }
 
-abbrev pub reads : List Read
-reads =
+abbrev pub fileReads : List FileRead
+fileReads =
     says (file 0 []) (pos 0)
     ∷ says (file 2 (sensor ∷ road ∷ [])) (pos 0)
     -- nothing, a head alone, the last frame cut, and bytes after it
@@ -110,7 +111,7 @@ reads =
     ∷ []
 
 -- .. each read into a pool of one slot
-pub reads-say : map (λ (r : Read). readFile (blankWords 1) (blankWords 1) (r .bytes) .number) reads ≡ map (λ (r : Read). r .says) reads
+pub reads-say : map (λ (r : FileRead). readFile (blankWords 1) (blankWords 1) (r .bytes) .number) fileReads ≡ map (λ (r : FileRead). r .says) fileReads
 unfolding document01 document02
 reads-say = refl
 
