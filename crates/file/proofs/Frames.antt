@@ -10,14 +10,15 @@ use Rattle.rules.specs.Lists.{joined}
 use Rattle.rules.specs.Layout.{edition}
 use Rattle.rules.specs.File.{pairBytes, wordBytes, frameBytes, headFrame, recordFrame, endFrame, fileBytes}
 use Rattle.rules_laws.proofs.Joins.{joined-none, joined-more}
+use Rattle.frames.specs.Writing.{Wrote}
 use Rattle.file.proofs.Sizes.{pair-long}
 
 -- the length and the kind of a frame of n words
 abbrev pub start : ℕ → ℕ → List ℕ
 start k n = pairBytes (2 + 4 * n) ++ pairBytes k
 
-pub start-long : (k n : ℕ) → length (start k n) ≡ 4
-start-long k n = omega (arith, length-append (pairBytes (2 + 4 * n)) (pairBytes k), pair-long (2 + 4 * n), pair-long k)
+pub start-next : {l m : List ℕ} {at j : ℕ} (a b : ℕ) → Wrote l at (pairBytes a ++ pairBytes b) m j → j ≡ at + 4
+start-next a b w = omega (arith, w .place, length-append (pairBytes a) (pairBytes b), pair-long a, pair-long b)
 
 words-more : (text : List ℕ) (z : ℤ) (zs : List ℤ) → text ++ joined (map wordBytes (z ∷ zs)) ≡ (text ++ wordBytes z) ++ joined (map wordBytes zs)
 words-more text z zs =

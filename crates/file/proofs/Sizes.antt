@@ -24,9 +24,15 @@ word-long z = refl
 pub word-next : {l m : List ℕ} {at n : ℕ} (z : ℤ) → Wrote l at (wordBytes z) m n → n ≡ at + 4
 word-next z w = omega (arith, w .place, word-long z)
 
+pub pair-next : {l m : List ℕ} {at k : ℕ} (n : ℕ) → Wrote l at (pairBytes n) m k → k ≡ at + 2
+pair-next n w = omega (arith, w .place, pair-long n)
+
 pub head-long : (n : ℕ) → length (headFrame n) ≡ 12
 unfolding headFrame
 head-long n = frame-long 16 _
+
+pub head-next : {l m : List ℕ} {at k : ℕ} (n : ℕ) → Wrote l at (headFrame n) m k → k ≡ at + 12
+head-next n w = omega (arith, w .place, head-long n)
 
 pub record-long : (r : Record) → length (recordFrame r) ≡ 24
 unfolding recordFrame

@@ -15,7 +15,7 @@ loop-holds : tie.Need-loop-holds Inv-loop μ-loop
 loop-holds c = count-first (c .args .pool .now) (c .args .items .now) (c .args .n)
 
 is-new-requires : tie.Need-is-new-requires Inv-loop μ-loop
-is-new-requires c κs = (c .before .before .pre, c .loop-test .taken)
+is-new-requires c κs = (c .before .before .pre, omega (arith, c .loop-test .taken))
 
 add-count : tie.Need-add-count Inv-loop μ-loop
 add-count c =

@@ -1,3 +1,4 @@
+use native.Mathlib.Omega.{arith}
 use Rattle.file.proofs.News.{new-carried}
 use Rattle.file.proofs.Writes.{fills-short, fills-all}
 use borrow.Author.Needs.{needs}
@@ -9,7 +10,7 @@ returns c =
     let start = c .before .before .before .before .before .before .before in
     let o = c .before .before .before .before .list-all .ensures in
     fills-short (start .args .pool .now) (start .args .file .now) _ (new-carried (start .args .pool .now) _ _ o)
-    (c .before .count-new .ensures .0) (c .if1 .taken)
+    (c .before .count-new .ensures .0) (omega (arith, c .if1 .taken))
 
 returns-2 : tie.Need-returns-2
 returns-2 c =

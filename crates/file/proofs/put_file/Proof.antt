@@ -1,7 +1,7 @@
 use native.Mathlib.Omega.{arith}
 use Rattle.frames.proofs.Texts.{wrote-then, wrote-as, wrote-length}
 use Rattle.file.specs.Items.{newFrom}
-use Rattle.file.proofs.Sizes.{head-long, records-long}
+use Rattle.file.proofs.Sizes.{head-next, records-long}
 use Rattle.file.proofs.News.{new-few}
 use Rattle.file.proofs.Frames.{file-text}
 use borrow.Author.Needs.{needs}
@@ -24,8 +24,7 @@ put-records-requires c κs =
         arith,
         start .pre .1 .0,
         start .pre .1 .1,
-        put-head .ensures .place,
-        head-long (start .args .count),
+        head-next _ (put-head .ensures),
         put-head .kept .0,
         records-long (newFrom (start .args .pool .now) (start .args .items .now) 0 (start .args .n)),
       ),
@@ -40,8 +39,7 @@ put-start-requires c κs =
         arith,
         start .pre .1 .0,
         start .pre .1 .1,
-        put-head .ensures .place,
-        head-long (start .args .count),
+        head-next _ (put-head .ensures),
         put-head .kept .0,
         records-long (newFrom (start .args .pool .now) (start .args .items .now) 0 (start .args .n)),
         put-records .ensures .place,

@@ -7,7 +7,7 @@ use mir.Facts.{toZ-pos}
 use Rattle.rules.specs.File.{wordBytes}
 use Rattle.frames.proofs.Texts.{wrote-then, wrote-as}
 use Rattle.file.proofs.Sizes.{word-next}
-use Rattle.file.proofs.Frames.{start, start-long, head-text}
+use Rattle.file.proofs.Frames.{start, start-next, head-text}
 use borrow.Author.Needs.{needs}
 use Rattle.file.proofs.put_head.Statement.{statement}
 use Rattle.file.proofs.put_head.Tie as tie
@@ -16,7 +16,7 @@ put-word-requires : tie.Need-put-word-requires
 put-word-requires c κs =
     let start = c .before .before .before .before .before .before in
     let put-start = c .before .before .before .put-start in
-    omega (arith, start .pre .0, put-start .ensures .place, put-start .kept .0, start-long 16 2)
+    omega (arith, start .pre .0, start-next _ _ (put-start .ensures), put-start .kept .0)
 
 put-word-requires-2 : tie.Need-put-word-requires-2
 put-word-requires-2 c κs =
@@ -26,9 +26,8 @@ put-word-requires-2 c κs =
     omega (
       arith,
       start .pre .0,
-      put-start .ensures .place,
+      start-next _ _ (put-start .ensures),
       put-start .kept .0,
-      start-long 16 2,
       word-next _ (put-word .ensures),
       put-word .kept .0,
     )

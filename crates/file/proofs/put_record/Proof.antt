@@ -5,7 +5,7 @@ use Rattle.rules.specs.File.{wordBytes}
 use Rattle.frames.proofs.Texts.{wrote-then, wrote-as}
 use Rattle.frames.proofs.Words.{word-kept}
 use Rattle.file.proofs.Sizes.{word-next}
-use Rattle.file.proofs.Frames.{start, start-long, record-text}
+use Rattle.file.proofs.Frames.{start, start-next, record-text}
 use borrow.Author.Needs.{needs}
 use Rattle.file.proofs.put_record.Statement.{statement}
 use Rattle.file.proofs.put_record.Tie as tie
@@ -14,7 +14,7 @@ put-word-requires : tie.Need-put-word-requires
 put-word-requires c κs =
     let start = c .before .before .before .before .before .before .before .before .before in
     let put-start = c .before .before .before .before .put-start in
-    omega (arith, start .pre, put-start .ensures .place, put-start .kept .0, start-long 17 5)
+    omega (arith, start .pre, start-next _ _ (put-start .ensures), put-start .kept .0)
 
 put-word-requires-2 : tie.Need-put-word-requires-2
 put-word-requires-2 c κs =
@@ -25,9 +25,8 @@ put-word-requires-2 c κs =
     omega (
       arith,
       start .pre,
-      put-start .ensures .place,
+      start-next _ _ (put-start .ensures),
       put-start .kept .0,
-      start-long 17 5,
       word-next _ (put-word .ensures),
       put-word .kept .0,
     )
@@ -42,9 +41,8 @@ put-word-requires-3 c κs =
     omega (
       arith,
       start .pre,
-      put-start .ensures .place,
+      start-next _ _ (put-start .ensures),
       put-start .kept .0,
-      start-long 17 5,
       word-next _ (put-word .ensures),
       put-word .kept .0,
       word-next _ (put-word2 .ensures),
@@ -62,9 +60,8 @@ put-word-requires-4 c κs =
     omega (
       arith,
       start .pre,
-      put-start .ensures .place,
+      start-next _ _ (put-start .ensures),
       put-start .kept .0,
-      start-long 17 5,
       word-next _ (put-word .ensures),
       put-word .kept .0,
       word-next _ (put-word2 .ensures),
@@ -85,9 +82,8 @@ put-word-requires-5 c κs =
     omega (
       arith,
       start .pre,
-      put-start .ensures .place,
+      start-next _ _ (put-start .ensures),
       put-start .kept .0,
-      start-long 17 5,
       word-next _ (put-word .ensures),
       put-word .kept .0,
       word-next _ (put-word2 .ensures),

@@ -1,7 +1,6 @@
-use Prim.Native.Nat.{_+_, _*_}
 use native.Mathlib.Omega.{arith}
 use Rattle.frames.proofs.Texts.{wrote-then}
-use Rattle.file.proofs.Sizes.{pair-long}
+use Rattle.file.proofs.Sizes.{pair-next}
 use borrow.Author.Needs.{needs}
 use Rattle.file.proofs.put_start.Statement.{statement}
 use Rattle.file.proofs.put_start.Tie as tie
@@ -10,7 +9,7 @@ put-pair-requires-2 : tie.Need-put-pair-requires-2
 put-pair-requires-2 c κs =
     let start = c .before .before .before .before .before .before in
     let put-pair = c .before .before .before .put-pair in
-    omega (arith, start .pre .0, put-pair .ensures .place, put-pair .kept .0, pair-long (2 + 4 * start .args .words))
+    omega (arith, start .pre .0, pair-next _ (put-pair .ensures), put-pair .kept .0)
 
 returns : tie.Need-returns
 returns c =
