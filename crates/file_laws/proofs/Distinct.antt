@@ -141,4 +141,5 @@ once-distinct (r ∷ rs) h =
         go : (b : Bool) → samePair r x ≡ b → not (samePair r x) ≡ true
         go false e = rw e
         go true e =
-            absurd (omega (arith, h r, count-cons (samePair r) r rs, counted (samePair r) m e, ap length (those-yes (samePair r) r [] (same-pair r r .1 refl) ∙ ap (λ (l : List Record). r ∷ l) (those-none (samePair r)))))
+            let self = those-yes (samePair r) r [] (same-pair r r .1 refl) ∙ ap (λ (l : List Record). r ∷ l) (those-none (samePair r)) in
+            absurd (omega (arith, h r, count-cons (samePair r) r rs, counted (samePair r) m e, ap length self))
