@@ -41,8 +41,8 @@ writing w buffer =
       buffer = buffer;
       number = writeFile w buffer .number;
       left = writeFile w buffer .file;
-      length = writeFile w buffer .length;
-      allowed = record { number = refl; file = refl; length = refl };
+      size = writeFile w buffer .size;
+      allowed = record { number = refl; file = refl; size = refl };
     }
 
 abbrev reading : (file : List ℕ) → List ℤ → ReadOf file

@@ -57,10 +57,10 @@ wrote : (w : Write) → w .number ≡ pos 0 → Wrote w
 wrote w z =
     let a = w .allowed in
     let h = write-cases (w .pool) (w .buffer)
-    (λ o. o .number ≡ pos 0 → Writable (w .pool) (w .buffer) × (take (o .length) (o .file) ≡ fileBytes (recordsCarried (read (w .pool)))))
+    (λ o. o .number ≡ pos 0 → Writable (w .pool) (w .buffer) × (take (o .size) (o .file) ≡ fileBytes (recordsCarried (read (w .pool)))))
     (λ f e. never-both (same-is (fileNumber f) (pos 0) .1 e) (some-fault f))
     (λ k e. (k, front-is (w .buffer) (fileBytes (recordsCarried (read (w .pool)))) (k .long))) (sym (a .number) ∙ z) in
-    record { writable = h .0; bytes = (λ i. take (a .length i) (a .file i)) ∙ h .1 }
+    record { writable = h .0; bytes = (λ i. take (a .size i) (a .file i)) ∙ h .1 }
 
 -- a write of a pool that can be written, into a buffer that is long enough
 writes : (w : Write) → Writable (w .pool) (w .buffer) → (w .number ≡ pos 0) × (fileOf w ≡ fileBytes (recordsCarried (read (w .pool))))
@@ -68,7 +68,7 @@ writes w k =
     let a = w .allowed in
     let e = write-writes (w .pool) (w .buffer) k in (
       a .number ∙ ap (λ (o : WriteLeft). o .number) e,
-      (λ i. take (a .length i) (a .file i)) ∙ ap (λ (o : WriteLeft). take (o .length) (o .file)) e ∙ front-is (w .buffer) (fileBytes (recordsCarried (read (w .pool)))) (k .long),
+      (λ i. take (a .size i) (a .file i)) ∙ ap (λ (o : WriteLeft). take (o .size) (o .file)) e ∙ front-is (w .buffer) (fileBytes (recordsCarried (read (w .pool)))) (k .long),
     )
 
 -- an accepted read: the file has gone into a blank pool

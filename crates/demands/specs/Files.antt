@@ -17,8 +17,8 @@ pub record Write : Type 0 where
   pub buffer : List ℕ
   pub number : ℤ
   pub left : List ℕ
-  pub length : ℕ
-  pub allowed : Writes pool buffer number left length
+  pub size : ℕ
+  pub allowed : Writes pool buffer number left size
 
 -- .. and to a read: the number, the pool and the workspace
 pub record ReadOf (file : List ℕ) : Type 0 where
@@ -31,7 +31,7 @@ pub record ReadOf (file : List ℕ) : Type 0 where
 
 -- the file that a write has left at the front of the buffer
 abbrev pub fileOf : Write → List ℕ
-fileOf w = take (w .length) (w .left)
+fileOf w = take (w .size) (w .left)
 
 -- "writing again gives the same bytes"
 pub record WrittenAgain (file : List ℕ) (w : Write) : Type 0 where

@@ -23,17 +23,17 @@ module _ (pool : List ℤ) (buffer : List ℕ) (rs : List Record) (is : rs ≡ r
   abbrev carried : List Record
   carried = recordsCarried (read pool)
 
-  fills : {n : ℤ} {file : List ℕ} {long : ℕ} → filled rs buffer ≡ record { number = n; file = file; length = long } → Fills pool buffer n file long
+  fills : {n : ℤ} {file : List ℕ} {long : ℕ} → filled rs buffer ≡ record { number = n; file = file; size = long } → Fills pool buffer n file long
   fills {n} {file} {long} e =
-      let f : record { number = n; file = file; length = long } ≡ filled carried buffer = sym (subst (λ (x : List Record). filled x buffer ≡ record { number = n; file = file; length = long }) is e) in
-      record { number = ap (λ (x : WriteLeft). x .number) f; file = ap (λ (x : WriteLeft). x .file) f; length = ap (λ (x : WriteLeft). x .length) f }
+      let f : record { number = n; file = file; size = long } ≡ filled carried buffer = sym (subst (λ (x : List Record). filled x buffer ≡ record { number = n; file = file; size = long }) is e) in
+      record { number = ap (λ (x : WriteLeft). x .number) f; file = ap (λ (x : WriteLeft). x .file) f; size = ap (λ (x : WriteLeft). x .size) f }
 
-  short-is : length buffer < length (fileBytes rs) → filled rs buffer ≡ record { number = pos 8; file = buffer; length = 0 }
+  short-is : length buffer < length (fileBytes rs) → filled rs buffer ≡ record { number = pos 8; file = buffer; size = 0 }
   unfolding filled fileNumber
   short-is h = rw (filled, lt-ltb (length buffer) (length (fileBytes rs)) h)
 
   all-is : length (fileBytes rs) ≤ length buffer
-      → filled rs buffer ≡ record { number = pos 0; file = sets buffer 0 (fileBytes rs); length = length (fileBytes rs) }
+      → filled rs buffer ≡ record { number = pos 0; file = sets buffer 0 (fileBytes rs); size = length (fileBytes rs) }
   unfolding filled
   all-is h = rw (filled, le-ltb (length buffer) (length (fileBytes rs)) h)
 
@@ -43,22 +43,22 @@ module _ (pool : List ℤ) (buffer : List ℕ) (rs : List Record) (is : rs ≡ r
   pub fills-all : {count : ℕ} → count ≡ length rs → 12 + 24 * count + 4 ≤ length buffer → {file : List ℕ} → file ≡ sets buffer 0 (fileBytes rs)
       → Fills pool buffer (pos 0) file (12 + 24 * count + 4)
   fills-all {count} c h {file} f =
-      let size : length (fileBytes rs) ≡ 12 + 24 * count + 4 = omega (arith, c, file-long rs) in
-      fills (all-is (omega (arith, h, size)) ∙ (λ i. record { number = pos 0; file = sym f i; length = size i }))
+      let long : length (fileBytes rs) ≡ 12 + 24 * count + 4 = omega (arith, c, file-long rs) in
+      fills (all-is (omega (arith, h, long)) ∙ (λ i. record { number = pos 0; file = sym f i; size = long i }))
 
 -- ---- of any words
 
 module _ (pool : List ℤ) (buffer : List ℕ) where
-  left : {n : ℤ} {file : List ℕ} {long : ℕ} → writeFile pool buffer ≡ record { number = n; file = file; length = long } → Writes pool buffer n file long
+  left : {n : ℤ} {file : List ℕ} {long : ℕ} → writeFile pool buffer ≡ record { number = n; file = file; size = long } → Writes pool buffer n file long
   left e =
       let f = sym e in
-      record { number = ap (λ (x : WriteLeft). x .number) f; file = ap (λ (x : WriteLeft). x .file) f; length = ap (λ (x : WriteLeft). x .length) f }
+      record { number = ap (λ (x : WriteLeft). x .number) f; file = ap (λ (x : WriteLeft). x .file) f; size = ap (λ (x : WriteLeft). x .size) f }
 
-  refused-1 : validLength pool ≡ false → writeFile pool buffer ≡ record { number = pos 1; file = buffer; length = 0 }
+  refused-1 : validLength pool ≡ false → writeFile pool buffer ≡ record { number = pos 1; file = buffer; size = 0 }
   unfolding writeFile writeFault firstRow fileNumber
   refused-1 h = rw (writeFile, h)
 
-  refused-2 : validLength pool ≡ true → sound pool ≡ false → writeFile pool buffer ≡ record { number = pos 2; file = buffer; length = 0 }
+  refused-2 : validLength pool ≡ true → sound pool ≡ false → writeFile pool buffer ≡ record { number = pos 2; file = buffer; size = 0 }
   unfolding writeFile writeFault firstRow fileNumber
   refused-2 h s = rw (writeFile, h, s)
 
@@ -82,5 +82,5 @@ module _ (pool : List ℤ) (buffer : List ℕ) where
       record {
         number = f .number ∙ ap (λ (x : WriteLeft). x .number) same;
         file = f .file ∙ ap (λ (x : WriteLeft). x .file) same;
-        length = f .length ∙ ap (λ (x : WriteLeft). x .length) same;
+        size = f .size ∙ ap (λ (x : WriteLeft). x .size) same;
       }

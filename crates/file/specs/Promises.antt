@@ -16,20 +16,20 @@ use Rattle.rules.specs.File.{fileNumber, fileBytes, recordsCarried, WriteLeft, 
 pub record Writes (pool : List ℤ) (buffer : List ℕ) (n : ℤ) (bytes : List ℕ) (long : ℕ) : Type 0 where
   pub number : n ≡ writeFile pool buffer .number
   pub file : bytes ≡ writeFile pool buffer .file
-  pub length : long ≡ writeFile pool buffer .length
+  pub size : long ≡ writeFile pool buffer .size
 
 -- of a write of a sound pool's records: refused only where they are too many for the buffer
 unfoldable pub filled : List Record → List ℕ → WriteLeft
 filled rs buffer =
     elim (ltb (length buffer) (length (fileBytes rs))) [
-      | true ↦ record { number = fileNumber ShortBuffer; file = buffer; length = 0 }
-      | false ↦ record { number = pos 0; file = sets buffer 0 (fileBytes rs); length = length (fileBytes rs) }
+      | true ↦ record { number = fileNumber ShortBuffer; file = buffer; size = 0 }
+      | false ↦ record { number = pos 0; file = sets buffer 0 (fileBytes rs); size = length (fileBytes rs) }
     ]
 
 pub record Fills (pool : List ℤ) (buffer : List ℕ) (n : ℤ) (bytes : List ℕ) (long : ℕ) : Type 0 where
   pub number : n ≡ filled (recordsCarried (read pool)) buffer .number
   pub file : bytes ≡ filled (recordsCarried (read pool)) buffer .file
-  pub length : long ≡ filled (recordsCarried (read pool)) buffer .length
+  pub size : long ≡ filled (recordsCarried (read pool)) buffer .size
 
 -- of a read into a lent pool w, with a workspace u: the number, and the pool and the workspace that are left
 pub record Reads (w u : List ℤ) (file : List ℕ) (n : ℤ) (v x : List ℤ) : Type 0 where

@@ -182,36 +182,36 @@ fn put_file(pool: &[i32], items: &[i32], n: usize, count: usize, file: &mut [u8]
 // ---- the writer
 
 // "8 if its buffer is short": how many bytes there will be is known before the first is written.
-fn fill(pool: &[i32], file: &mut [u8], length: &mut u64) -> i32
+fn fill(pool: &[i32], file: &mut [u8], size: &mut u64) -> i32
     requires { ⌜ L.validLength (now pool) ≡ true ⌝ }
     requires { ⌜ Whole (L.read (now pool)) ⌝ }
-    ensures { λ r. ⌜ Fills (now (pool .entry)) (now (file .entry)) r (now (file .exit)) (now (length .exit)) ⌝ }
+    ensures { λ r. ⌜ Fills (now (pool .entry)) (now (file .entry)) r (now (file .exit)) (now (size .exit)) ⌝ }
 {
     let mut items = [0i32; ITEM_WORDS];
     let n = list_all(pool, &mut items[..]);
     let count = count_new(pool, &items[..], n);
-    let size = HEAD_BYTES + RECORD_BYTES * count + END_BYTES;
-    if file.len() < size {
-        *length = 0;
+    let bytes = HEAD_BYTES + RECORD_BYTES * count + END_BYTES;
+    if file.len() < bytes {
+        *size = 0;
         return 8;
     }
     put_file(pool, &items[..], n, count, file);
-    *length = size as u64;
+    *size = bytes as u64;
     0
 }
 
 // Writes the file of a pool to the front of a buffer, and how many bytes that are; or refuses, and the buffer stays.
-pub fn write(pool: &[i32], file: &mut [u8], length: &mut u64) -> i32
-    ensures { λ r. ⌜ Writes (now (pool .entry)) (now (file .entry)) r (now (file .exit)) (now (length .exit)) ⌝ }
+pub fn write(pool: &[i32], file: &mut [u8], size: &mut u64) -> i32
+    ensures { λ r. ⌜ Writes (now (pool .entry)) (now (file .entry)) r (now (file .exit)) (now (size .exit)) ⌝ }
 {
-    *length = 0;
+    *size = 0;
     if !pool::valid_length(pool) {
         return 1;
     }
     if !sound::sound(pool) {
         return 2;
     }
-    fill(pool, file, length)
+    fill(pool, file, size)
 }
 
 // ---- frames read

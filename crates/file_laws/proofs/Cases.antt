@@ -56,16 +56,16 @@ module _ (w : List ℤ) (buffer : List ℕ) where
       record { right = not-false _ (a .0); good = not-false _ (b .0); long = ltb-false (length buffer) (length (fileBytes (recordsCarried (read w)))) (c .0) }
 
   write-done : writeFault w buffer ≡ none
-      → writeFile w buffer ≡ record { number = pos 0; file = sets buffer 0 (fileBytes (recordsCarried (read w))); length = length (fileBytes (recordsCarried (read w))) }
+      → writeFile w buffer ≡ record { number = pos 0; file = sets buffer 0 (fileBytes (recordsCarried (read w))); size = length (fileBytes (recordsCarried (read w))) }
   unfolding writeFile
   write-done h = rw (writeFile, h)
 
-  write-refused : (f : FileFault) → writeFault w buffer ≡ some f → writeFile w buffer ≡ record { number = fileNumber f; file = buffer; length = 0 }
+  write-refused : (f : FileFault) → writeFault w buffer ≡ some f → writeFile w buffer ≡ record { number = fileNumber f; file = buffer; size = 0 }
   unfolding writeFile
   write-refused f h = rw (writeFile, h)
 
-  pub write-cases : (P : WriteLeft → Type 0) → ((f : FileFault) → P (record { number = fileNumber f; file = buffer; length = 0 }))
-      → (Writable w buffer → P (record { number = pos 0; file = sets buffer 0 (fileBytes (recordsCarried (read w))); length = length (fileBytes (recordsCarried (read w))) }))
+  pub write-cases : (P : WriteLeft → Type 0) → ((f : FileFault) → P (record { number = fileNumber f; file = buffer; size = 0 }))
+      → (Writable w buffer → P (record { number = pos 0; file = sets buffer 0 (fileBytes (recordsCarried (read w))); size = length (fileBytes (recordsCarried (read w))) }))
       → P (writeFile w buffer)
   write-cases P refused done = go (writeFault w buffer) refl
     where
@@ -78,7 +78,7 @@ module _ (w : List ℤ) (buffer : List ℕ) where
   no-fault k = rw (k .right, k .good, le-ltb (length buffer) (length (fileBytes (recordsCarried (read w)))) (k .long))
 
   pub write-writes : Writable w buffer
-      → writeFile w buffer ≡ record { number = pos 0; file = sets buffer 0 (fileBytes (recordsCarried (read w))); length = length (fileBytes (recordsCarried (read w))) }
+      → writeFile w buffer ≡ record { number = pos 0; file = sets buffer 0 (fileBytes (recordsCarried (read w))); size = length (fileBytes (recordsCarried (read w))) }
   write-writes k = write-done (no-fault k)
 
 -- ---- a read

@@ -56,10 +56,10 @@ pub extern "C" fn dustmap_call(
 
 // The file of the map, at the front of a lent buffer, and how many bytes it has. Beside a refusal the buffer stays and the length is 0.
 #[no_mangle]
-pub extern "C" fn dustmap_write(pool: &[i32], file: &mut [u8], length: &mut u64) -> i32
-    ensures { λ n. ⌜ Writes (now (pool .entry)) (now (file .entry)) n (now (file .exit)) (now (length .exit)) ⌝ }
+pub extern "C" fn dustmap_write(pool: &[i32], file: &mut [u8], size: &mut u64) -> i32
+    ensures { λ n. ⌜ Writes (now (pool .entry)) (now (file .entry)) n (now (file .exit)) (now (size .exit)) ⌝ }
 {
-    file::write(pool, file, length)
+    file::write(pool, file, size)
 }
 
 // The map of a file. Beside a refusal past 1 the pool stays, and the workspace is made equal to it.

@@ -84,7 +84,7 @@ recordsCarried p = distinct (ordered (stored p))
 pub record WriteLeft : Type 0 where
   pub number : ℤ
   pub file : List ℕ
-  pub length : ℕ
+  pub size : ℕ
 
 unfoldable pub writeFault : List ℤ → List ℕ → Option FileFault
 writeFault pool buffer =
@@ -98,11 +98,11 @@ writeFault pool buffer =
 unfoldable pub writeFile : List ℤ → List ℕ → WriteLeft
 writeFile pool buffer =
     elim (writeFault pool buffer) [
-      | some f ↦ record { number = fileNumber f; file = buffer; length = 0 }
+      | some f ↦ record { number = fileNumber f; file = buffer; size = 0 }
       | none ↦ record {
         number = pos 0;
         file = sets buffer 0 (fileBytes (recordsCarried (read pool)));
-        length = length (fileBytes (recordsCarried (read pool)));
+        size = length (fileBytes (recordsCarried (read pool)));
       }
     ]
 

@@ -46,13 +46,13 @@ taken = readFile (blankWords 3) (blankWords 3) twoRecords .pool
 
 -- "Where a read of a written file is accepted, writing again gives the same bytes.": at the front of a buffer that is five bytes longer
 pub written-again : writeFile taken (replicate (length twoRecords + 5) 9)
-    ≡ record { number = pos 0; file = twoRecords ++ replicate 5 9; length = length twoRecords }
+    ≡ record { number = pos 0; file = twoRecords ++ replicate 5 9; size = length twoRecords }
 unfolding document01 document02
 written-again = refl
 
 -- "8 if its buffer is short": by one byte
 pub short-by-one : writeFile taken (replicate (length twoRecords - 1) 9)
-    ≡ record { number = pos 8; file = replicate (length twoRecords - 1) 9; length = 0 }
+    ≡ record { number = pos 8; file = replicate (length twoRecords - 1) 9; size = 0 }
 unfolding document01 document02
 short-by-one = refl
 
@@ -60,7 +60,7 @@ short-by-one = refl
 abbrev twice : Pool
 twice = record { root = slot 1; height = 1; records = 3; slots = node 1 (map leafEntry (road ∷ sensor ∷ road ∷ [])) ∷ [] }
 
-pub once-each : writeFile (words twice) (replicate 64 9) ≡ record { number = pos 0; file = twoRecords; length = 64 }
+pub once-each : writeFile (words twice) (replicate 64 9) ≡ record { number = pos 0; file = twoRecords; size = 64 }
 unfolding document01 document02
 once-each = refl
 
