@@ -36,10 +36,9 @@ IMPORTS = """
 Rattle.rules.specs.declared.Verdict: Verdict
 Rattle.rules.specs.Lists: every
 Rattle.rules.specs.Call: Lent isRequest callFault
-Rattle.batch.specs.Asking: lent=lentOf
+Rattle.promises.specs.Calls: lent=lentOf left Allowed
 Rattle.batch.specs.Batching: refusalOf batchOf Batched
 Rattle.batch.proofs.Batches: fine
-Rattle.map.specs.Asking: left Allowed
 Rattle.map.proofs.Calls: not-refused is-refused left-alone left-served
 """
 

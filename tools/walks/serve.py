@@ -45,7 +45,7 @@ lib.Seq: sets
 mathlib.Core.WellFounded: WellFounded InvImage·wf
 Rattle.rules.specs.Call: Lent callFault
 Rattle.found_items.specs.Items: itemsFrom Pointing
-Rattle.batch.specs.Asking: lent=lentOf
+Rattle.promises.specs.Calls: lent=lentOf
 Rattle.batch.specs.Batching: Begun stepOf batchOf Batched
 Rattle.batch.proofs.Asks: none=nothing-asked
 Rattle.batch.proofs.Batches: Fine fine

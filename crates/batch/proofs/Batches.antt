@@ -33,7 +33,7 @@ use Rattle.found_items.specs.Items.{itemsFrom, Pointing}
 use Rattle.request.specs.declared.Served.{Served}
 use Rattle.request.specs.Serving.{Ready, Serves}
 use Rattle.in_force_laws.proofs.Sounds.{sound-fit}
-use Rattle.request.proofs.Cases.{asks-something}
+use Rattle.in_force_laws.proofs.Asks.{asks-something}
 use Rattle.batch.specs.declared.Progress.{Progress}
 use Rattle.batch.specs.declared.Stepped.{Stepped}
 use Rattle.batch.specs.Batching.{Begun, stepOf, batchOf, Batched}

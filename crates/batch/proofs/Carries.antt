@@ -12,7 +12,7 @@ use lib.IntN.{ℤ}
 use Rattle.rules.specs.declared.Record.{Record}
 use Rattle.found_items.specs.Items.{itemAt, itemsFrom}
 use Rattle.found_items.proofs.Words.{items-none, items-one, items-length, items-append}
-use Rattle.pool.proofs.Runs.{sets-more}
+use Rattle.layout_laws.proofs.Runs.{sets-more}
 
 -- k of n items are stored
 module _ (n : ℕ) where

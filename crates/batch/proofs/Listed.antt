@@ -23,7 +23,7 @@ use Rattle.rules.specs.Insert.{Choice, Change, Done, NoneFree, insertRecord}
 use Rattle.rules.specs.Delete.{deleteRecord, updateRecord}
 use Rattle.rules.specs.Request.{Turn, turn, afterChange, searchFault, request}
 use Rattle.search_laws.proofs.Order.{alike-length, ordered-alike}
-use Rattle.pool.proofs.Parts.{right-size}
+use Rattle.layout_laws.proofs.Parts.{right-size}
 use Rattle.in_force_laws.proofs.Faults.{no-row}
 use Rattle.in_force_laws.proofs.Change.{request-cases}
 use Rattle.in_force_laws.proofs.Sounds.{sound-tree, found-few}

@@ -21,7 +21,7 @@ use Rattle.rules.specs.Request.{asked}
 use Rattle.rules.specs.Insert.{ours}
 use Rattle.rules.specs.Call.{Lent, Left, call, callFault, refused, served, isRequest}
 use Rattle.in_force_laws.proofs.Call.{callBy-refused, callBy-served}
-use Rattle.batch.specs.Asking.{nothingAsked}
+use Rattle.promises.specs.Calls.{nothingAsked}
 use Rattle.batch.specs.Batching.{faultNumber, refusalOf, batchOf}
 
 module _ (w : List ℤ) (ws qs rs : ℕ) (all : Bool) where

@@ -1,3 +1,2 @@
--- What is lent, and what the parts of a call promise.
-pub mod Asking
+-- What the parts of a call promise.
 pub mod Batching

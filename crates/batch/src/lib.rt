@@ -11,7 +11,7 @@ ghost use Rattle.rules.specs.Numbers.{mostRequests};
 ghost use Rattle.rules.specs.Layout as L;
 ghost use Rattle.rules.specs.Call as C;
 ghost use Rattle.found_items.specs.Items.{itemsFrom, Pointing};
-ghost use Rattle.batch.specs.Asking.{lent};
+ghost use Rattle.promises.specs.Calls.{lent};
 ghost use Rattle.batch.specs.Batching.{refusalOf, Begun, stepOf, batchOf, Batched};
 use free_slots::FreeSlots;
 use request::Served;

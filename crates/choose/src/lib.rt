@@ -7,7 +7,7 @@ ghost use Rattle.rules.specs.Geometry as G;
 ghost use Rattle.rules.specs.Layout as L;
 ghost use Rattle.rules.specs.Pool as P;
 ghost use Rattle.rules.specs.Choose as C;
-ghost use Rattle.pool.specs.Slots.{InPool};
+ghost use Rattle.layout_laws.specs.Slots.{InPool};
 ghost use Rattle.choose.specs.State.{Choosable, Measured, beats};
 use geometry::less_then;
 use rules::Rect;

@@ -13,7 +13,7 @@ use Rattle.rules.specs.Insert.{Change, Done, NoneFree, insertAt, ours}
 use Rattle.rules.specs.Delete.{Aside, reinsert}
 use Rattle.rules_laws.proofs.Places.{getD-any}
 use Rattle.rules_laws.proofs.Splits.{ours-lawful}
-use Rattle.pool.specs.Slots.{Fit}
+use Rattle.layout_laws.specs.Slots.{Fit}
 use Rattle.free_slots.specs.declared.FreeSlots.{FreeSlots}
 use Rattle.free_slots.specs.Known.{Known}
 use Rattle.insert_laws.specs.Grown.{Fits}

@@ -13,7 +13,7 @@ use Rattle.rules.specs.Numbers.{mostSlots}
 use Rattle.rules.specs.Pool.{Node, Pool, slot, nodeAt, entriesAt, entryFrom, entryAt, childOf}
 use Rattle.rules.specs.Layout.{read}
 use Rattle.rules.specs.Delete.{Place, place, Path, Condensed, takeOut, relieve, condense}
-use Rattle.pool.specs.Slots.{Fit, SmallAll}
+use Rattle.layout_laws.specs.Slots.{Fit, SmallAll}
 use Rattle.free_slots.specs.declared.FreeSlots.{FreeSlots}
 use Rattle.free_slots.specs.Known.{Known}
 use Rattle.sound_laws.specs.Tree.{slotsIn, Once, Tree}

@@ -15,7 +15,7 @@ use Rattle.rules.specs.Delete.{Path, Condensed, pathTo, condense, shorten, shor
 use Rattle.rules_laws.proofs.Orders.{never-both}
 use Rattle.rules_laws.proofs.Splits.{ours-lawful}
 use Rattle.rules_laws.proofs.Parts.{counted, those-all}
-use Rattle.pool.specs.Slots.{Fit, InPool}
+use Rattle.layout_laws.specs.Slots.{Fit, InPool}
 use Rattle.free_slots.specs.declared.FreeSlots.{FreeSlots}
 use Rattle.free_slots.specs.Known.{Known}
 use Rattle.free_slots.proofs.Known.{known-records}

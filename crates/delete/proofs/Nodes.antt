@@ -17,9 +17,9 @@ use Rattle.rules.specs.Layout.{read}
 use Rattle.rules.specs.Delete.{place, takeOut}
 use Rattle.rules_laws.proofs.Places.{at-place, each-at}
 use Rattle.rules_laws.proofs.Parts.{length-without, those-fewer, among-without}
-use Rattle.pool.specs.Slots.{InPool, Fit, Small, SmallAll, KindAll}
-use Rattle.pool.proofs.Parts.{slotWords, slot-node}
-use Rattle.pool.proofs.Written.{Kind, Fine, node-fine}
+use Rattle.layout_laws.specs.Slots.{InPool, Fit, Small, SmallAll, KindAll}
+use Rattle.layout_laws.proofs.Parts.{slotWords, slot-node}
+use Rattle.layout_laws.proofs.Written.{Kind, Fine, node-fine}
 use Rattle.sound_laws.specs.Tree.{Slot, Tree}
 use Rattle.sound_laws.proofs.Walk.{tree-node}
 use Rattle.insert_laws.proofs.Under.{tree-fits}

@@ -13,7 +13,7 @@ use Rattle.rules.specs.Numbers.{least}
 use Rattle.rules.specs.Pool.{Node, Pool, node, nodeAt, entriesAt, entryAt, childOf, entryFor, putEntries, zeroSlot, tighten}
 use Rattle.rules.specs.Layout.{read}
 use Rattle.rules.specs.Delete.{place, Condensed, takeOut, asides, relieve}
-use Rattle.pool.specs.Slots.{Fit}
+use Rattle.layout_laws.specs.Slots.{Fit}
 use Rattle.free_slots.specs.declared.FreeSlots.{FreeSlots}
 use Rattle.free_slots.specs.Known.{Known, moreSlot}
 use Rattle.free_slots.proofs.Known.{known-more, known-put}

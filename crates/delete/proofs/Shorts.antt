@@ -12,7 +12,7 @@ use Rattle.rules.specs.declared.SlotNumber.{SlotNumber}
 use Rattle.rules.specs.Pool.{Pool, nodeAt, entriesAt, entryAt, childOf, isLeaf, putRoot, zeroSlot}
 use Rattle.rules.specs.Layout.{read}
 use Rattle.rules.specs.Delete.{shorten}
-use Rattle.pool.specs.Slots.{Fit}
+use Rattle.layout_laws.specs.Slots.{Fit}
 use Rattle.free_slots.specs.declared.FreeSlots.{FreeSlots}
 use Rattle.free_slots.specs.Known.{Known, moreSlot}
 use Rattle.free_slots.proofs.Known.{known-more, known-head}

@@ -22,9 +22,9 @@ use Rattle.rules.specs.Layout.{read, natural, pointerWord}
 use Rattle.rules.specs.Delete.{place, Condensed, takeOut, relieve, condense}
 use Rattle.rules_laws.proofs.Bools.{not-false}
 use Rattle.rules_laws.proofs.Orders.{never-both}
-use Rattle.pool.specs.Slots.{Fit}
-use Rattle.pool.proofs.Parts.{rect-entry}
-use Rattle.pool.proofs.Written.{Kind, pointer-child, child-is}
+use Rattle.layout_laws.specs.Slots.{Fit}
+use Rattle.layout_laws.proofs.Parts.{rect-entry}
+use Rattle.layout_laws.proofs.Written.{Kind, pointer-child, child-is}
 use Rattle.free_slots.specs.Known.{Known}
 use Rattle.sound_laws.specs.Tree.{Slot}
 use Rattle.sound_laws.proofs.Same.{same-rect}

@@ -14,7 +14,7 @@ use Rattle.rules.specs.Numbers.{least, mostSlots}
 use Rattle.rules.specs.Geometry.{sameRect}
 use Rattle.rules.specs.Pool.{Pool, noEntry, nodeAt, entriesAt, entryAt, childOf, coverOf}
 use Rattle.rules.specs.Delete.{Aside, Condensed}
-use Rattle.pool.specs.Slots.{SmallAll}
+use Rattle.layout_laws.specs.Slots.{SmallAll}
 use Rattle.free_slots.specs.declared.FreeSlots.{FreeSlots}
 use Rattle.free_slots.specs.Known.{Known, moreSlot}
 use Rattle.sound_laws.specs.Tree.{slotsIn, Once, Slot, Tree}

@@ -9,7 +9,7 @@ ghost use Rattle.rules.specs.Pool as P;
 ghost use Rattle.rules.specs.Layout as L;
 ghost use Rattle.rules.specs.Insert as I;
 ghost use Rattle.rules.specs.Delete as D;
-ghost use Rattle.pool.specs.Slots.{Fit, InPool};
+ghost use Rattle.layout_laws.specs.Slots.{Fit, InPool};
 ghost use Rattle.free_slots.specs.Known.{Known};
 ghost use Rattle.sound_laws.specs.Tree.{Whole};
 ghost use Rattle.insert_laws.specs.Standing.{Standing};

@@ -44,10 +44,10 @@ use Rattle.in_force_laws.proofs.Batch.{noAnswer, answers-kept, answers-as-many,
 use Rattle.in_force_laws.proofs.Filled.{part-filled}
 use Rattle.in_force_laws.proofs.Call.{callBy-refused, callBy-served, no-fault, left-answers, left-found, left-beyond, answers-long, call-part, call-shows}
 use Rattle.in_force_laws.proofs.Sounds.{sound-fit, sound-tree}
-use Rattle.request.proofs.Cases.{asks-something}
+use Rattle.in_force_laws.proofs.Asks.{asks-something}
 use Rattle.demands.specs.Steps.{Step, Call, poolAfter, History, inForceAfter}
-use Rattle.map.specs.Asking.{Allowed}
-use Rattle.map.proofs.Calls.{once}
+use Rattle.promises.specs.Calls.{Allowed}
+use Rattle.promises.proofs.Once.{once}
 use Rattle.demands.specs.Demands.{after, turnAfter, answerAfter, withRequests, Untouched, Ends, SameWithout, NoChange, Refuses}
 use Rattle.demands.specs.Demands.{Accepted, Lists, Does, Shows}
 use Rattle.demands.proofs.Holds.{history-holds}

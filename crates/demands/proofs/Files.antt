@@ -27,8 +27,8 @@ use Rattle.sound_laws.specs.Tree.{Whole}
 use Rattle.sound_laws.proofs.Same.{same-is}
 use Rattle.search_laws.proofs.Order.{ordered-sorted, ordered-alike, alike-among, alike-length}
 use Rattle.search_laws.proofs.Site.{stored-good}
-use Rattle.pool.proofs.Parts.{right-size, some-slot}
-use Rattle.pool.proofs.Written.{words-size, right-same}
+use Rattle.layout_laws.proofs.Parts.{right-size, some-slot}
+use Rattle.layout_laws.proofs.Written.{words-size, right-same}
 use Rattle.in_force_laws.proofs.Sounds.{sound-tree, fit-sound}
 use Rattle.in_force_laws.proofs.Written.{whole-reads}
 use Rattle.file_laws.specs.Bytes.{AllBytes, Word}

@@ -21,11 +21,11 @@ use Rattle.sound_laws.proofs.Same.{same-is}
 use Rattle.in_force_laws.specs.Force.{forceAfter}
 use Rattle.in_force_laws.specs.Shows.{HoldsRecords}
 use Rattle.demands.specs.Steps.{Blanks, Step, Blank, Call, Read, poolAfter, History, inForceAfter}
-use Rattle.file.specs.Promises.{Reads}
+use Rattle.promises.specs.Files.{Reads}
 use Rattle.file_laws.proofs.Rule.{IfLoaded}
 use Rattle.file_laws.proofs.Loads.{Holds, file-loads}
 use Rattle.file_laws.proofs.Cases.{some-fault, none-zero, read-cases}
-use Rattle.map.specs.Asking.{Allowed}
+use Rattle.promises.specs.Calls.{Allowed}
 use Rattle.rules_laws.proofs.Splits.{ours-lawful}
 use Rattle.sound_laws.proofs.Blank.{blank-whole}
 use Rattle.in_force_laws.proofs.Written.{whole-reads}

@@ -31,8 +31,8 @@ use Rattle.sound_laws.specs.Tree.{Whole}
 use Rattle.search_laws.specs.Window.{wholeSite}
 use Rattle.search_laws.proofs.Site.{whole-site}
 use Rattle.in_force_laws.proofs.Call.{callBy-refused, callBy-served}
-use Rattle.map.specs.Asking.{Allowed}
-use Rattle.map.proofs.Calls.{once}
+use Rattle.promises.specs.Calls.{Allowed}
+use Rattle.promises.proofs.Once.{once}
 use Rattle.demands.specs.Demands.{after, withRequests}
 use Rattle.demands.proofs.Demands.{first-whole, all-whole}
 use Rattle.demands.proofs.Unasked.{two-after}

@@ -22,7 +22,7 @@ use Rattle.survey_laws.specs.Queries.{OfDoubles}
 use Rattle.survey_laws.proofs.Boxes.{box-rounded}
 use Rattle.survey_laws.proofs.Discs.{disc-held, disc-near}
 use Rattle.survey_laws.proofs.Surveys.{box-held, window-valid, none-missed}
-use Rattle.map.specs.Asking.{Converts}
+use Rattle.promises.specs.Surveys.{Converts}
 use Rattle.demands.specs.Surveys.{Shown, exactQuery, NearQuery, Surveys}
 
 query-holds : (q : Query) → OfDoubles q → (r : Rect) → queryWindow q ≡ Rounded r → HoldsBox (exactQuery q) r

@@ -25,11 +25,11 @@ use Rattle.rules.specs.Request.{asked, request}
 use Rattle.rules.specs.Call.{Lent, Batch, isRequest, callFault, call, afterTurn, doRequest, doRequests, starting}
 use Rattle.rules_laws.proofs.Everies.{every-less, every-first}
 use Rattle.rules_laws.proofs.Bools.{and-both, not-false, or-neither}
-use Rattle.pool.proofs.Runs.{sets-all}
+use Rattle.layout_laws.proofs.Runs.{sets-all}
 use Rattle.in_force_laws.proofs.Faults.{no-row, row-passed}
 use Rattle.in_force_laws.proofs.Batch.{noAnswer, two-parts}
 use Rattle.in_force_laws.proofs.Call.{left-answers, answers-long}
-use Rattle.request.proofs.Cases.{asks-something}
+use Rattle.in_force_laws.proofs.Asks.{asks-something}
 use Rattle.demands.specs.Demands.{after, withRequests}
 
 -- ---- in two parts

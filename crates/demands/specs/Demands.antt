@@ -31,7 +31,7 @@ use Rattle.in_force_laws.specs.Force.{forceAfter, filledAfter}
 use Rattle.in_force_laws.specs.Shows.{nodesMeeting, High}
 use Rattle.in_force_laws.specs.Batch.{howManyWanted, Told}
 use Rattle.demands.specs.Steps.{Step, inForceAfter}
-use Rattle.map.specs.Asking.{Allowed}
+use Rattle.promises.specs.Calls.{Allowed}
 
 -- how far a call has come when it has done the requests given
 abbrev pub after : Lent → List Request → Batch

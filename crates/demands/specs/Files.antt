@@ -9,7 +9,7 @@ use Rattle.rules.specs.declared.Record.{Record}
 use Rattle.rules.specs.Pool.{stored}
 use Rattle.rules.specs.Layout.{read}
 use Rattle.rules.specs.Search.{ordered}
-use Rattle.file.specs.Promises.{Writes, Reads}
+use Rattle.promises.specs.Files.{Writes, Reads}
 
 -- what is lent to a write and what comes back of it: the number, the buffer, and how many bytes of it are the file
 pub record Write : Type 0 where

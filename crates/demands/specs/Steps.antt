@@ -13,8 +13,8 @@ use Rattle.rules.specs.Layout.{Blanked, words, blank}
 use Rattle.rules.specs.Call.{Lent, Left}
 use Rattle.rules.specs.File.{fileRecords, ReadLeft}
 use Rattle.in_force_laws.specs.Force.{forceAfter}
-use Rattle.file.specs.Promises.{Reads}
-use Rattle.map.specs.Asking.{Allowed}
+use Rattle.promises.specs.Files.{Reads}
+use Rattle.promises.specs.Calls.{Allowed}
 
 -- what `dustmap_blank` promises about the words lent and what it returns and leaves. (What `dustmap_call` promises is `Allowed` of crate
 -- map)

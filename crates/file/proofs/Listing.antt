@@ -11,8 +11,8 @@ use Rattle.rules.specs.declared.Mode.the-variants.{Meeting}
 use Rattle.rules.specs.Pool.{stored}
 use Rattle.rules.specs.Layout.{validLength, read}
 use Rattle.rules.specs.Search.{ordered, found, foundFromRoot}
-use Rattle.pool.proofs.Parts.{few-slots}
-use Rattle.pool.proofs.Written.{read-slots}
+use Rattle.layout_laws.proofs.Parts.{few-slots}
+use Rattle.layout_laws.proofs.Written.{read-slots}
 use Rattle.sound_laws.specs.Tree.{Whole}
 use Rattle.sound_laws.proofs.Heights.{height-eight}
 use Rattle.search_laws.specs.Window.{wholeSite}

@@ -16,11 +16,11 @@ use Rattle.rules_laws.proofs.Bools.{not-false, or-neither}
 use Rattle.rules_laws.proofs.Orders.{never-both}
 use Rattle.sound_laws.specs.Tree.{Whole}
 use Rattle.sound_laws.proofs.Blank.{blank-whole}
-use Rattle.pool.specs.Slots.{Fit}
-use Rattle.pool.proofs.Written.{right-same}
+use Rattle.layout_laws.specs.Slots.{Fit}
+use Rattle.layout_laws.proofs.Written.{right-same}
 use Rattle.in_force_laws.proofs.Written.{whole-reads}
 use Rattle.file.specs.Loading.{Loads}
-use Rattle.file.specs.Promises.{Reads}
+use Rattle.promises.specs.Files.{Reads}
 use Rattle.file_laws.proofs.Cases.{lengths-wrong, read-short, read-in, read-out, some-fault, none-zero}
 
 -- how many slots there are is a question of the length

@@ -24,7 +24,7 @@ use Rattle.rules_laws.proofs.Places.{nothing}
 use Rattle.rules_laws.proofs.Splits.{ours-lawful}
 use Rattle.sound_laws.specs.Tree.{Whole}
 use Rattle.insert_laws.proofs.Whole.{insert-whole}
-use Rattle.pool.specs.Slots.{Fit}
+use Rattle.layout_laws.specs.Slots.{Fit}
 use Rattle.free_slots.specs.declared.FreeSlots.{FreeSlots}
 use Rattle.free_slots.specs.Known.{Known}
 use Rattle.insert.specs.Left.{HoldsPool, Leaves}

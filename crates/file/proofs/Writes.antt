@@ -14,7 +14,8 @@ use Rattle.rules.specs.Layout.{validLength, read}
 use Rattle.rules.specs.Sound.{sound}
 use Rattle.rules.specs.Answers.{firstRow}
 use Rattle.rules.specs.File.{fileNumber, fileBytes, recordsCarried, WriteLeft, writeFault, writeFile}
-use Rattle.file.specs.Promises.{filled, Fills, Writes}
+use Rattle.promises.specs.Files.{Writes}
+use Rattle.file.specs.Filling.{filled, Fills}
 use Rattle.file.proofs.Sizes.{file-long}
 
 -- ---- of a sound pool

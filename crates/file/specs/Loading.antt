@@ -15,7 +15,7 @@ use Rattle.rules.specs.Layout.{read}
 use Rattle.rules.specs.Insert.{ours, Change, Done, NoneFree, insertRecord}
 use Rattle.rules.specs.Frames.{wordValues}
 use Rattle.rules.specs.File.{fileNumber, frameDue, recordIn, recordFault, Load, Loaded, Fails}
-use Rattle.pool.specs.Slots.{Fit}
+use Rattle.layout_laws.specs.Slots.{Fit}
 use Rattle.insert.specs.Left.{HoldsPool}
 use Rattle.file.specs.declared.Taken.{Taken}
 

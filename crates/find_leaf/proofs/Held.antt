@@ -16,8 +16,8 @@ use Rattle.rules.specs.Delete.{Path, findLeaf, pathTo}
 use Rattle.rules.specs.Layout.{validLength, read}
 use Rattle.rules_laws.proofs.Bools.{same-test}
 use Rattle.rules_laws.proofs.Orders.{never-both}
-use Rattle.pool.proofs.Parts.{few-slots}
-use Rattle.pool.proofs.Written.{read-slots}
+use Rattle.layout_laws.proofs.Parts.{few-slots}
+use Rattle.layout_laws.proofs.Written.{read-slots}
 use Rattle.sound_laws.specs.Tree.{Tree, Whole}
 use Rattle.sound_laws.proofs.Heights.{height-eight}
 use Rattle.delete_laws.specs.Way.{Found}

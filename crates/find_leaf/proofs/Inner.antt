@@ -22,7 +22,7 @@ use Rattle.rules.specs.Delete.{Path, place, orLater, findLeaf}
 use Rattle.rules.specs.Layout.{validLength, read}
 use Rattle.rules_laws.proofs.Places.{Among, at-place, place-of, length-upFrom, getD-upFrom}
 use Rattle.rules_laws.proofs.Parts.{among-those}
-use Rattle.pool.specs.Slots.{InPool}
+use Rattle.layout_laws.specs.Slots.{InPool}
 use Rattle.nodes.proofs.Slots.{within}
 use Rattle.sound_laws.specs.Tree.{Tree}
 use Rattle.sound_laws.proofs.Walk.{inner-of, tree-node, tree-positive}

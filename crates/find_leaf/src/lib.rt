@@ -9,7 +9,7 @@ ghost use Rattle.rules.specs.Numbers.{most};
 ghost use Rattle.rules.specs.Layout as L;
 ghost use Rattle.rules.specs.Pool as P;
 ghost use Rattle.rules.specs.Delete as D;
-ghost use Rattle.pool.specs.Slots.{InPool};
+ghost use Rattle.layout_laws.specs.Slots.{InPool};
 ghost use Rattle.sound_laws.specs.Tree.{Tree, Whole};
 ghost use Rattle.find_leaf.specs.Ways.{Gives};
 ghost use Rattle.find_leaf.specs.Packed.{bitsBelow, packedWay};

@@ -7,7 +7,7 @@ ghost use lib.ListN.{drop};
 ghost use Rattle.rules.specs.Numbers.{mostSlots};
 ghost use Rattle.rules.specs.Layout as L;
 ghost use Rattle.rules.specs.Pool as P;
-ghost use Rattle.pool.specs.Slots.{InPool};
+ghost use Rattle.layout_laws.specs.Slots.{InPool};
 ghost use Rattle.free_slots.specs.Known.{Known, lessSlot, moreSlot};
 use rules::FreeSlot;
 use rules::SlotNumber;

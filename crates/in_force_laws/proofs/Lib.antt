@@ -1,6 +1,7 @@
 -- Laws of the records in force.
 pub mod Pairs
 pub mod Faults
+pub mod Asks
 pub mod Change
 pub mod Whole
 pub mod Search

@@ -17,14 +17,14 @@ use Rattle.rules.specs.Search.{foundFromRoot}
 use Rattle.rules_laws.proofs.Bools.{and-both, both-and}
 use Rattle.rules_laws.proofs.Orders.{never-both}
 use Rattle.rules_laws.proofs.Parts.{those-fewer}
-use Rattle.pool.proofs.Few.{stored-few}
+use Rattle.layout_laws.proofs.Few.{stored-few}
 use Rattle.sound_laws.specs.Tree.{Whole}
 use Rattle.sound_laws.proofs.Same.{same-is}
 use Rattle.sound_laws.proofs.Sound.{sound-whole, whole-sound}
 use Rattle.search_laws.specs.Window.{recordWanted}
 use Rattle.search_laws.proofs.Order.{alike-length}
 use Rattle.search_laws.proofs.Found.{found-alike}
-use Rattle.pool.specs.Slots.{Fit}
+use Rattle.layout_laws.specs.Slots.{Fit}
 
 -- ---- words
 

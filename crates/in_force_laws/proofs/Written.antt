@@ -4,7 +4,7 @@ use Rattle.rules.specs.Pool.{Pool}
 use Rattle.rules.specs.Layout.{words, read}
 use Rattle.rules_laws.proofs.Places.{each-also}
 use Rattle.sound_laws.specs.Tree.{Whole}
-use Rattle.pool.proofs.Written.{Fine, read-words}
+use Rattle.layout_laws.proofs.Written.{Fine, read-words}
 use Rattle.in_force_laws.proofs.Pointers.{Writable, whole-writable}
 
 pub whole-reads : (p : Pool) → Whole p → read (words p) ≡ p

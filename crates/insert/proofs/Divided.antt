@@ -24,8 +24,8 @@ use Rattle.rules.specs.Layout.{read}
 use Rattle.rules_laws.proofs.Places.{Among, at-place, map-same}
 use Rattle.split.specs.declared.Grouping.{Grouping}
 use Rattle.split.specs.State.{AllValid, GroupsWhole}
-use Rattle.pool.specs.Slots.{Fit, SmallAll, KindAll}
-use Rattle.pool.proofs.Parts.{length-rects, rect-entry}
+use Rattle.layout_laws.specs.Slots.{Fit, SmallAll, KindAll}
+use Rattle.layout_laws.proofs.Parts.{length-rects, rect-entry}
 use Rattle.free_slots.specs.declared.FreeSlots.{FreeSlots}
 use Rattle.free_slots.specs.Known.{Known, lessSlot}
 use Rattle.free_slots.proofs.LowestSlot.{lowest-at}

@@ -17,7 +17,7 @@ use Rattle.rules.specs.Geometry.{valid}
 use Rattle.rules.specs.Pool.{Pool, entry, entriesAt, childOf, numberOf}
 use Rattle.rules.specs.Layout.{validLength, pointerOf, pointerWord, read}
 use Rattle.rules_laws.proofs.Orders.{never-both}
-use Rattle.pool.specs.Slots.{InPool}
+use Rattle.layout_laws.specs.Slots.{InPool}
 use Rattle.nodes.proofs.Slots.{within}
 use Rattle.nodes.proofs.Tight.{Stored, child-stored}
 use Rattle.sound_laws.specs.Tree.{Slot}

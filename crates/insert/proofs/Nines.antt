@@ -12,8 +12,8 @@ use Rattle.rules.specs.Geometry.{noRect}
 use Rattle.rules.specs.Pool.{noEntry, entryFrom, rects}
 use Rattle.rules.specs.Choose.{rectFrom}
 use Rattle.rules_laws.proofs.Places.{getD-any}
-use Rattle.pool.specs.Slots.{SmallAll, KindAll}
-use Rattle.pool.proofs.Parts.{length-rects, rect-entry}
+use Rattle.layout_laws.specs.Slots.{SmallAll, KindAll}
+use Rattle.layout_laws.proofs.Parts.{length-rects, rect-entry}
 use Rattle.insert.specs.State.{Inside}
 
 -- ---- "the eight in stored order and the new one ninth"

@@ -13,9 +13,9 @@ use Rattle.rules.specs.Geometry.{valid}
 use Rattle.rules.specs.Pool.{Pool, entry, leafEntry, putRecords}
 use Rattle.rules.specs.Insert.{Change, Done, NoneFree, ours, insertAt, insertRecord}
 use Rattle.rules.specs.Layout.{validLength, words, read}
-use Rattle.pool.specs.Slots.{Fit}
-use Rattle.pool.proofs.Few.{stored-few}
-use Rattle.pool.proofs.Parts.{few-slots}
+use Rattle.layout_laws.specs.Slots.{Fit}
+use Rattle.layout_laws.proofs.Few.{stored-few}
+use Rattle.layout_laws.proofs.Parts.{few-slots}
 use Rattle.free_slots.specs.declared.FreeSlots.{FreeSlots}
 use Rattle.free_slots.specs.Known.{Known}
 use Rattle.free_slots.proofs.Known.{known-records}

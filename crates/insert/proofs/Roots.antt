@@ -21,7 +21,7 @@ use Rattle.rules.specs.Pool.{Pool, node, entry, noEntry, entriesAt, coverOf, en
 use Rattle.rules.specs.Insert.{Grown, Kept, Split, Full, Change, Done, NoneFree, ours, newRoot, growTree, insertBelow, insertAt}
 use Rattle.rules.specs.Layout.{read}
 use Rattle.rules_laws.proofs.Splits.{ours-lawful}
-use Rattle.pool.specs.Slots.{Fit, SmallAll, KindAll}
+use Rattle.layout_laws.specs.Slots.{Fit, SmallAll, KindAll}
 use Rattle.free_slots.specs.declared.FreeSlots.{FreeSlots}
 use Rattle.free_slots.specs.Known.{Known, lessSlot}
 use Rattle.free_slots.proofs.Known.{known-less, known-head}

@@ -21,8 +21,8 @@ use Rattle.rules.specs.Layout.{read}
 use Rattle.rules_laws.proofs.Places.{at-place}
 use Rattle.rules_laws.proofs.Splits.{ours-lawful}
 use Rattle.choose.specs.State.{Choosable}
-use Rattle.pool.specs.Slots.{Fit}
-use Rattle.pool.proofs.Parts.{length-rects, rect-entry}
+use Rattle.layout_laws.specs.Slots.{Fit}
+use Rattle.layout_laws.proofs.Parts.{length-rects, rect-entry}
 use Rattle.free_slots.specs.declared.FreeSlots.{FreeSlots}
 use Rattle.free_slots.specs.Known.{Known}
 use Rattle.free_slots.proofs.Known.{known-put}

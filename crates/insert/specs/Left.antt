@@ -7,7 +7,7 @@ use lib.IntN.{ℤ}
 use Rattle.rules.specs.Pool.{Pool, entriesAt}
 use Rattle.rules.specs.Layout.{read}
 use Rattle.rules.specs.Insert as I
-use Rattle.pool.specs.Slots.{Fit}
+use Rattle.layout_laws.specs.Slots.{Fit}
 use Rattle.free_slots.specs.declared.FreeSlots.{FreeSlots}
 use Rattle.free_slots.specs.Known.{Known}
 use Rattle.sound_laws.specs.Tree.{treeSlots, Once, Tree}

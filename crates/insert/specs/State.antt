@@ -12,7 +12,7 @@ use Rattle.rules.specs.Geometry.{cover}
 use Rattle.rules.specs.Pool.{Pool, entry, entriesAt, entryAt, childOf, putEntries, tighten}
 use Rattle.rules.specs.Layout.{read}
 use Rattle.rules.specs.Insert as I
-use Rattle.pool.specs.Slots.{Fit}
+use Rattle.layout_laws.specs.Slots.{Fit}
 use Rattle.nodes.specs.Reading.{LeadsOn}
 use Rattle.free_slots.specs.declared.FreeSlots.{FreeSlots}
 use Rattle.free_slots.specs.Known.{Known}

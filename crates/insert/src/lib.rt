@@ -11,7 +11,7 @@ ghost use Rattle.rules.specs.Geometry.{valid};
 ghost use Rattle.rules.specs.Layout as L;
 ghost use Rattle.rules.specs.Pool as P;
 ghost use Rattle.rules.specs.Insert as I;
-ghost use Rattle.pool.specs.Slots.{Fit, InPool, SmallAll, KindAll};
+ghost use Rattle.layout_laws.specs.Slots.{Fit, InPool, SmallAll, KindAll};
 ghost use Rattle.nodes.specs.Reading.{LeadsOn};
 ghost use Rattle.free_slots.specs.Known.{Known};
 ghost use Rattle.sound_laws.specs.Tree.{Whole};

@@ -16,21 +16,9 @@ use Rattle.rules.specs.Lists.{every}
 use Rattle.rules.specs.Answers.{verdictNumber}
 use Rattle.rules.specs.Call.{Lent, Left, isRequest, callFault, refused, served}
 use Rattle.in_force_laws.proofs.Faults.{EachGiven, given-none, given-row}
-use Rattle.map.specs.Asking.{left, Allowed}
+use Rattle.promises.specs.Calls.{left, Allowed}
 use Rattle.batch.specs.Batching.{faultNumber, refusalOf, batchOf, Batched}
 use Rattle.batch.proofs.Refusals.{refusal-is, call-number, call-refused, call-served}
-
--- ---- once
-
--- whatever two runs of the call leave, it is the same
-pub once : (l : Lent) (o o′ : Left) → Allowed l o → Allowed l o′ → o ≡ o′
-once l o o′ a b = λ i. record {
-  number = (a .number ∙ sym (b .number)) i;
-  pool = (a .pool ∙ sym (b .pool)) i;
-  workspace = (a .workspace ∙ sym (b .workspace)) i;
-  answers = (a .answers ∙ sym (b .answers)) i;
-  found = (a .found ∙ sym (b .found)) i;
-}
 
 -- ---- the number
 

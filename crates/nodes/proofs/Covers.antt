@@ -11,7 +11,7 @@ use Rattle.rules.specs.declared.Entry.{Entry}
 use Rattle.rules.specs.Geometry.{cover, coverAll, noRect}
 use Rattle.rules.specs.Choose.{rectFrom}
 use Rattle.rules.specs.Pool.{rects, coverOf}
-use Rattle.pool.proofs.Parts.{length-rects}
+use Rattle.layout_laws.proofs.Parts.{length-rects}
 
 all-first : (rs : List Rect) → 0 < length rs → foldl cover (rectFrom rs 0) (drop 1 rs) ≡ coverAll rs
 unfolding rectFrom coverAll

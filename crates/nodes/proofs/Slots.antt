@@ -15,9 +15,9 @@ use Rattle.rules.specs.Pool.{Node, Pool, slot, freeNode, nodeAt, entriesAt, ent
 use Rattle.rules.specs.Layout.{validLength, slotCount, read}
 use Rattle.rules.specs.Sound.{isSlot}
 use Rattle.rules_laws.proofs.Bools.{and-both}
-use Rattle.pool.specs.Slots.{InPool}
-use Rattle.pool.proofs.Parts.{few-slots, slot-few}
-use Rattle.pool.proofs.Written.{read-slots}
+use Rattle.layout_laws.specs.Slots.{InPool}
+use Rattle.layout_laws.proofs.Parts.{few-slots, slot-few}
+use Rattle.layout_laws.proofs.Written.{read-slots}
 
 -- ---- a slot of the pool is a slot of its words
 

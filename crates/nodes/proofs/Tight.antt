@@ -13,7 +13,7 @@ use Rattle.rules.specs.declared.Entry.{Entry}
 use Rattle.rules.specs.Numbers.{mostSlots}
 use Rattle.rules.specs.Pool.{Node, Pool, entry, entriesAt, entryAt, entryFor, childOf, coverOf, isLeaf, putEntries, tighten}
 use Rattle.rules.specs.Layout.{natural, pointerOf, pointerWord}
-use Rattle.pool.specs.Slots.{Small}
+use Rattle.layout_laws.specs.Slots.{Small}
 
 -- a pointer that a word holds, of the level's kind
 pub record Stored (level : ℕ) (q : Pointer) : Type 0 where

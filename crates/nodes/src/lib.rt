@@ -7,7 +7,7 @@ ghost use lib.ListN.{length};
 ghost use Rattle.rules.specs.Layout as L;
 ghost use Rattle.rules.specs.Pool as P;
 ghost use Rattle.rules.specs.Sound as S;
-ghost use Rattle.pool.specs.Slots.{Fit, InPool};
+ghost use Rattle.layout_laws.specs.Slots.{Fit, InPool};
 ghost use Rattle.nodes.specs.Reading.{pointedChild, pointedNumber, LeadsOn};
 use rules::Entry;
 use rules::Pointer;

@@ -10,8 +10,8 @@ use lib.IntN.{ℤ, pos}
 use Rattle.rules.specs.Lists.{joined}
 use Rattle.rules.specs.Pool.{freeNode, blankPool}
 use Rattle.rules.specs.Layout.{headSize, edition, rootPlace, heightPlace, slotSize, validLength, slotCount, padded, nodeWords, headWords, words, Blanked, blank}
-use Rattle.pool.proofs.Parts.{right-size, some-slot}
-use Rattle.pool.proofs.Runs.{zeros, sets-all, sets-more}
+use Rattle.layout_laws.proofs.Parts.{right-size, some-slot}
+use Rattle.layout_laws.proofs.Runs.{zeros, sets-all, sets-more}
 
 -- a free slot's words are zero
 free-words : nodeWords freeNode ≡ zeros slotSize

@@ -15,9 +15,9 @@ use Rattle.rules.specs.Lists.{joined}
 use Rattle.rules.specs.Pool.{node, noEntry}
 use Rattle.rules.specs.Numbers.{most}
 use Rattle.rules.specs.Layout.{entrySize, slotHead, entryWords, pointerWord, nodeWords}
-use Rattle.pool.specs.Slots.{Small, SmallAll, usedAt}
-use Rattle.pool.proofs.Runs.{zeros, joined-snoc, sets-more}
-use Rattle.pool.proofs.Written.{entry-size, placeWords, unused, padded-is}
+use Rattle.layout_laws.specs.Slots.{Small, SmallAll, usedAt}
+use Rattle.layout_laws.proofs.Runs.{zeros, joined-snoc, sets-more}
+use Rattle.layout_laws.proofs.Written.{entry-size, placeWords, unused, padded-is}
 
 -- the words of the first i places
 pub front : List Entry → ℕ → ℕ → List ℤ

@@ -10,7 +10,7 @@ use lib.IntN.{ℤ}
 use borrow.Author.Tests.{le-leb, lt-leb}
 use Rattle.rules.specs.Numbers.{mostSlots}
 use Rattle.rules.specs.Layout.{headSize, slotSize, slotCount, validLength}
-use Rattle.pool.proofs.Parts.{right-size, some-slot}
+use Rattle.layout_laws.proofs.Parts.{right-size, some-slot}
 
 module _ (w : List ℤ) where
   pub no-slots : slotCount w < 1 → validLength w ≡ false

@@ -1,9 +1,5 @@
 -- Laws of the layout that the proofs of `pool` and of the crates above it cite.
-pub mod Parts
 pub mod Naturals
-pub mod Runs
-pub mod Padded
-pub mod Written
 pub mod Fronts
 pub mod Stores
 pub mod Lengths
@@ -11,4 +7,3 @@ pub mod Blanks
 pub mod Bits
 pub mod Stand
 pub mod Tidied
-pub mod Few

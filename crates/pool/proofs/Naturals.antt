@@ -14,7 +14,7 @@ use Rattle.rules.specs.declared.Pointer.{Pointer}
 use Rattle.rules.specs.declared.Pointer.the-variants.{Child}
 use Rattle.rules.specs.Numbers.{mostSlots}
 use Rattle.rules.specs.Layout.{natural}
-use Rattle.pool.specs.Slots.{Small}
+use Rattle.layout_laws.specs.Slots.{Small}
 
 -- a word that one function reads and another takes
 pub word-read : {z x : ℤ} → SFits w32 z → z ≡ x → toZ w32 (ofZ w32 z) ≡ x

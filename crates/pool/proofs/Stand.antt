@@ -17,7 +17,7 @@ use Rattle.rules.specs.Lists.{joined, same}
 use Rattle.rules.specs.Layout.{natural, wordAt, sameWords}
 use Rattle.rules_laws.proofs.Bools.{and-both, go-on}
 use Rattle.pool.specs.Standing.{stand}
-use Rattle.pool.proofs.Runs.{zeros}
+use Rattle.layout_laws.proofs.Runs.{zeros}
 
 -- ---- a word at a time
 

@@ -15,12 +15,12 @@ use Rattle.rules.specs.Pool.{Node, Pool, node, rectangle, rects, freeNode, node
 use Rattle.rules.specs.Numbers.{most}
 use Rattle.rules.specs.Layout.{entrySize, slotHead, slotSize, slotStart, countPlace, entryPlace, entryWords, nodeWords, headWords, words, wordAt, rectOf, read}
 use Rattle.rules_laws.proofs.Places.{each-append}
-use Rattle.pool.specs.Slots.{InPool, Fit}
-use Rattle.pool.proofs.Parts.{room, slotWords, slot-node, slot-rect, rect-entry}
-use Rattle.pool.proofs.Runs.{wide-set, map-set, sets-right, sets-joined}
-use Rattle.pool.proofs.Padded.{placed-again, placed-more}
-use Rattle.pool.proofs.Written.{Kind, Fine, entry-size, placeWords, node-wide, node-size, head-size, same-head}
-use Rattle.pool.proofs.Written.{each-set, node-fine, read-slots, put-is, put-read, put-fit}
+use Rattle.layout_laws.specs.Slots.{InPool, Fit}
+use Rattle.layout_laws.proofs.Parts.{room, slotWords, slot-node, slot-rect, rect-entry}
+use Rattle.layout_laws.proofs.Runs.{wide-set, map-set, sets-right, sets-joined}
+use Rattle.layout_laws.proofs.Padded.{placed-again, placed-more}
+use Rattle.layout_laws.proofs.Written.{Kind, Fine, entry-size, placeWords, node-wide, node-size, head-size, same-head}
+use Rattle.layout_laws.proofs.Written.{each-set, node-fine, read-slots, put-is, put-read, put-fit}
 
 -- ---- where an entry's words are
 

@@ -24,12 +24,12 @@ use Rattle.rules.specs.Sound.{nothingElse}
 use Rattle.rules_laws.proofs.Bools.{and-both, both-and}
 use Rattle.rules_laws.proofs.Orders.{both-at-most}
 use Rattle.rules_laws.proofs.Places.{nothing}
-use Rattle.pool.specs.Slots.{InPool}
-use Rattle.pool.proofs.Parts.{right-size, room, slot-level, slot-count, slot-few, slot-rect, slot-pointer, slot-entry}
-use Rattle.pool.proofs.Written.{placeWords, unused, padded-is, head-size, node-size, read-slots, pointer-number, pointer-child, entry-size, words-size}
+use Rattle.layout_laws.specs.Slots.{InPool}
+use Rattle.layout_laws.proofs.Parts.{right-size, room, slot-level, slot-count, slot-few, slot-rect, slot-pointer, slot-entry}
+use Rattle.layout_laws.proofs.Written.{placeWords, unused, padded-is, head-size, node-size, read-slots, pointer-number, pointer-child, entry-size, words-size}
 use Rattle.pool.specs.Standing.{stand}
 use Rattle.pool.proofs.Stand.{stand-none, stand-cons, stand-append, stand-all, parts-more, parts-all, parts-each, same-self, natural-same}
-use Rattle.pool.proofs.Runs.{zeros, length-parts}
+use Rattle.layout_laws.proofs.Runs.{zeros, length-parts}
 
 -- ---- the head
 

@@ -1,3 +1,2 @@
 -- What the functions of `pool` ask of a pool's words.
-pub mod Slots
 pub mod Standing

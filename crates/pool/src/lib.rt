@@ -12,7 +12,7 @@ ghost use Rattle.rules.specs.Numbers.{goodNumber, most, mostSlots};
 ghost use Rattle.rules.specs.Layout as L;
 ghost use Rattle.rules.specs.Pool as P;
 ghost use Rattle.rules.specs.Choose.{rectFrom};
-ghost use Rattle.pool.specs.Slots.{Fit, InPool, KindAll, NoneFrom, Small, SmallAll, usedAt};
+ghost use Rattle.layout_laws.specs.Slots.{Fit, InPool, KindAll, NoneFrom, Small, SmallAll, usedAt};
 
 pub mod blank;
 pub mod tidy;

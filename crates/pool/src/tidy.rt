@@ -11,7 +11,7 @@ ghost use Rattle.rules.specs.Lists as Li;
 ghost use Rattle.rules.specs.Numbers.{most};
 ghost use Rattle.rules.specs.Layout as L;
 ghost use Rattle.rules.specs.Pool as P;
-ghost use Rattle.pool.specs.Slots.{InPool};
+ghost use Rattle.layout_laws.specs.Slots.{InPool};
 ghost use Rattle.pool.specs.Standing.{stand};
 use crate::EDITION;
 use crate::EDITION_PLACE;

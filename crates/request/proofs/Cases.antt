@@ -13,6 +13,7 @@ use Rattle.rules.specs.declared.Reply.the-variants.{Changed, Listed, BadRectang
 use Rattle.rules.specs.declared.Mode.the-variants.{Meeting, OnlyInside, OnlyEnclosing}
 use Rattle.rules.specs.Lists.{same}
 use Rattle.sound_laws.proofs.Same.{same-is}
+use Rattle.in_force_laws.proofs.Asks.{asks-nothing}
 use Rattle.request.specs.Serving.{modeOf}
 use Rattle.rules.specs.Answers.{firstRow, answer, answerOf}
 use Rattle.rules.specs.Request.{asked}
@@ -34,10 +35,6 @@ module _ (q : Request) where
       → asked q ≡ some (Update (record { number = q .number; rect = q .first }) (q .second))
   unfolding asked firstRow
   asks-update a b h = rw (a, b, h, firstRow)
-
-  asks-nothing : asked q ≡ none → isRequest q ≡ false
-  unfolding isRequest
-  asks-nothing h = rw (h, isRequest)
 
   -- of kind 4 the mode is meeting, since it is neither 5 nor 6
   kind-4 : kind (pos 4) ≡ true → modeOf (q .kind) ≡ Meeting
@@ -61,7 +58,7 @@ module _ (q : Request) where
       go true y z e f g = rw (kind-4 e, a, b, d, e, firstRow)
       go false true z e f g = rw (kind-5 f, a, b, d, e, f, firstRow)
       go false false true e f g = rw (kind-6 f g, a, b, d, e, f, g, firstRow)
-      go false false false e f g = never-both h (asks-nothing (rw (a, b, d, e, f, g, firstRow)))
+      go false false false e f g = never-both h (asks-nothing q (rw (a, b, d, e, f, g, firstRow)))
 
 -- ---- what is told
 
@@ -106,11 +103,3 @@ asks-one P q b h x a e = subst P (ap pick (sym h ∙ e)) x
     pick : Option Asked → Asked
     pick none = b
     pick (some c) = c
-
--- what is a request asks something
-pub asks-something : (q : Request) → isRequest q ≡ true → (a : Asked) × (asked q ≡ some a)
-asks-something q h = go (asked q) refl
-  where
-    go : (o : Option Asked) → asked q ≡ o → (a : Asked) × (asked q ≡ some a)
-    go none e = never-both h (asks-nothing q e)
-    go (some a) e = (a, e)

@@ -11,7 +11,7 @@ use Rattle.rules.specs.declared.SlotNumber.{SlotNumber}
 use Rattle.rules.specs.Numbers.{least}
 use Rattle.rules.specs.Pool.{Pool, entriesAt}
 use Rattle.rules.specs.Layout.{read}
-use Rattle.pool.specs.Slots.{Fit, InPool}
+use Rattle.layout_laws.specs.Slots.{Fit, InPool}
 use Rattle.sound_laws.proofs.Walk.{tree-node}
 use Rattle.delete_laws.specs.Way.{nextLeaves, thinLevels}
 use Rattle.delete_laws.proofs.Thin.{next-leaves, next-keeps, next-stays}

@@ -21,7 +21,7 @@ use Rattle.rules.specs.Insert.{ours}
 use Rattle.rules.specs.Answers.{answerOf}
 use Rattle.rules.specs.Request.{Turn, turn, request}
 use Rattle.find_leaf.proofs.Held.{low-enough}
-use Rattle.pool.proofs.Parts.{right-size, few-slots}
+use Rattle.layout_laws.proofs.Parts.{right-size, few-slots}
 use Rattle.search_laws.proofs.Order.{alike-length, ordered-alike}
 use Rattle.free_slots.specs.declared.FreeSlots.{FreeSlots}
 use Rattle.found_items.specs.Items.{itemsFrom, Pointing}

@@ -23,7 +23,7 @@ use Rattle.rules.specs.Geometry.{valid}
 use Rattle.rules.specs.Insert.{ours, Change, Done, NoneFree, insertRecord}
 use Rattle.rules.specs.Delete.{Path, pathTo, deleteRecord, updateRecord}
 use Rattle.rules.specs.Request.{Turn, turn, afterChange, request}
-use Rattle.pool.specs.Slots.{Fit}
+use Rattle.layout_laws.specs.Slots.{Fit}
 use Rattle.sound_laws.specs.Tree.{Whole}
 use Rattle.free_slots.specs.declared.FreeSlots.{FreeSlots}
 use Rattle.free_slots.specs.Known.{Known}

@@ -14,7 +14,7 @@ ghost use Rattle.rules.specs.Delete as D;
 ghost use Rattle.rules.specs.Answers as T;
 ghost use Rattle.rules.specs.Request as R;
 ghost use Rattle.rules.specs.Call.{isRequest};
-ghost use Rattle.pool.specs.Slots.{Fit};
+ghost use Rattle.layout_laws.specs.Slots.{Fit};
 ghost use Rattle.free_slots.specs.Known.{Known};
 ghost use Rattle.sound_laws.specs.Tree.{Whole};
 ghost use Rattle.delete_laws.specs.Way.{thinLevels};

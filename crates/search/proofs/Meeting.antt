@@ -28,7 +28,7 @@ use Rattle.rules_laws.proofs.Parts.{those-yes, those-no, those-none, those-map,
 use Rattle.rules_laws.proofs.Sums.{total-most}
 use Rattle.rules_laws.proofs.Compares.{meeting-is}
 use Rattle.rules_laws.proofs.Turns.{up-more, up-none}
-use Rattle.pool.proofs.Parts.{rect-entry}
+use Rattle.layout_laws.proofs.Parts.{rect-entry}
 use Rattle.nodes.proofs.Slots.{same-entries, most-entries}
 use Rattle.search_laws.proofs.Clauses.{found-none, found-leaf-met, found-inner, opened-none, opened-leaf, opened-inner}
 use Rattle.search.specs.State.{meetsAt, meetingFrom, meetingPlaces, foundAt}

@@ -16,8 +16,8 @@ use Rattle.rules.specs.declared.Record.{Record}
 use Rattle.rules.specs.Pool.{Pool, entriesAt, entryAt, numberOf, recordOf}
 use Rattle.rules.specs.Layout.{entryPlace, validLength, rectOf, wordAt, read}
 use Rattle.rules.specs.Search.{foundIn, openedIn, opened, foundFromRoot}
-use Rattle.pool.specs.Slots.{InPool}
-use Rattle.pool.proofs.Parts.{slot-few}
+use Rattle.layout_laws.specs.Slots.{InPool}
+use Rattle.layout_laws.proofs.Parts.{slot-few}
 use Rattle.pool.proofs.Stores.{spot-inside, spot-entry}
 use Rattle.found_items.specs.Items.{spotAt, itemsFrom, Pointing}
 use Rattle.found_items.proofs.Words.{SameItems, put-before, spot-put, item-put, items-none, items-one, items-append, items-same, pointing-none, pointing-same, pointing-append}

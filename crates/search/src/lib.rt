@@ -14,7 +14,7 @@ ghost use Rattle.rules.specs.Pool as P;
 ghost use Rattle.rules.specs.declared.Mode.the-variants as M;
 ghost use Rattle.rules.specs.Lists.{those};
 ghost use Rattle.rules.specs.Search as F;
-ghost use Rattle.pool.specs.Slots.{InPool};
+ghost use Rattle.layout_laws.specs.Slots.{InPool};
 ghost use Rattle.search_laws.specs.Window.{recordWanted};
 ghost use Rattle.found_items.specs.Items.{spotAt, itemsFrom, Pointing};
 ghost use Rattle.search.specs.State.{meetsAt, foundAt, meetingPlaces};

@@ -25,10 +25,10 @@ use Rattle.rules_laws.proofs.Orders.{never-both}
 use Rattle.rules_laws.proofs.Everies.{every-is}
 use Rattle.rules_laws.proofs.Joins.{joined-none, joined-more}
 use Rattle.rules_laws.proofs.Places.{Among}
-use Rattle.pool.specs.Slots.{InPool}
+use Rattle.layout_laws.specs.Slots.{InPool}
 use Rattle.pool.specs.Standing.{stand}
-use Rattle.pool.proofs.Parts.{few, slot-few, rect-entry}
-use Rattle.pool.proofs.Written.{read-slots}
+use Rattle.layout_laws.proofs.Parts.{few, slot-few, rect-entry}
+use Rattle.layout_laws.proofs.Written.{read-slots}
 use Rattle.sound_laws.specs.Tree.{slotsIn, NodeIn}
 use Rattle.sound_laws.proofs.Same.{same-rect}
 use Rattle.sound_laws.proofs.Tests.{slot-is}

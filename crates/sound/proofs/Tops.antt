@@ -19,9 +19,9 @@ use Rattle.rules_laws.proofs.Bools.{and-both, both-and, same-test}
 use Rattle.rules_laws.proofs.Orders.{never-both}
 use Rattle.rules_laws.proofs.Everies.{every-is}
 use Rattle.rules_laws.proofs.Places.{getD-alike}
-use Rattle.pool.specs.Slots.{InPool}
+use Rattle.layout_laws.specs.Slots.{InPool}
 use Rattle.pool.specs.Standing.{stand}
-use Rattle.pool.proofs.Written.{read-slots}
+use Rattle.layout_laws.proofs.Written.{read-slots}
 use Rattle.pool.proofs.Tidied.{nothing-each, zero-free}
 use Rattle.nodes.proofs.Slots.{most-slots, within, asked-within}
 use Rattle.sound_laws.specs.Tree.{treeSlots, times, Slot, Used, Whole}

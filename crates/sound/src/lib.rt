@@ -12,7 +12,7 @@ ghost use Rattle.rules.specs.Numbers.{most, mostSlots};
 ghost use Rattle.rules.specs.Layout as L;
 ghost use Rattle.rules.specs.Pool as P;
 ghost use Rattle.rules.specs.Sound as S;
-ghost use Rattle.pool.specs.Slots.{InPool};
+ghost use Rattle.layout_laws.specs.Slots.{InPool};
 ghost use Rattle.pool.specs.Standing.{stand};
 ghost use Rattle.sound.specs.Walked.{Answers, EntriesAnswer, Fitting, NodeAnswer, RootAnswer, headSound, metOrZero, plainEntry, recordCount, recordCounts, upright};
 use rules::LEAST;

@@ -77,7 +77,7 @@ use lib.Seq.{sets}
 use mathlib.Core.WellFounded.{WellFounded, InvImage·wf}
 use Rattle.rules.specs.Call.{Lent, callFault}
 use Rattle.found_items.specs.Items.{itemsFrom, Pointing}
-use Rattle.batch.specs.Asking.{lent as lentOf}
+use Rattle.promises.specs.Calls.{lent as lentOf}
 use Rattle.batch.specs.Batching.{Begun, stepOf, batchOf, Batched}
 use Rattle.batch.proofs.Asks.{none as nothing-asked}
 use Rattle.batch.proofs.Batches as Batches

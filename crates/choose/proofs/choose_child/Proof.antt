@@ -11,7 +11,7 @@ use Rattle.rules.specs.declared.SlotNumber.{SlotNumber}
 use Rattle.rules.specs.Pool.{entriesAt, rects}
 use Rattle.rules.specs.Layout.{read}
 use Rattle.rules.specs.Choose.{chooseChild}
-use Rattle.pool.proofs.Parts.{length-rects}
+use Rattle.layout_laws.proofs.Parts.{length-rects}
 use Rattle.choose.specs.declared.Best.{Best}
 use Rattle.choose.specs.State.{Measured, beats}
 use Rattle.choose.proofs.Turns.{ahead, kept, step, first, last}

@@ -4,7 +4,7 @@ use lib.ListN.{length}
 use Rattle.rules.specs.Pool.{entriesAt, rects}
 use Rattle.rules.specs.Layout.{read}
 use borrow.Author.Needs.{needs}
-use Rattle.pool.proofs.Parts.{length-rects}
+use Rattle.layout_laws.proofs.Parts.{length-rects}
 use Rattle.choose.proofs.measured.Statement.{statement}
 use Rattle.choose.proofs.measured.Tie as tie
 

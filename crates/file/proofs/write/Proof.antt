@@ -3,7 +3,7 @@ use lib.IntN.{ℤ}
 use Rattle.rules_laws.proofs.Bools.{not-true, not-false}
 use Rattle.frames.proofs.Words.{word-kept}
 use Rattle.in_force_laws.proofs.Sounds.{sound-tree}
-use Rattle.file.specs.Promises.{Writes}
+use Rattle.promises.specs.Files.{Writes}
 use Rattle.file.proofs.Writes.{writes-1, writes-2, writes-filled}
 use borrow.Author.Needs.{needs}
 use Rattle.file.proofs.write.Statement.{statement}

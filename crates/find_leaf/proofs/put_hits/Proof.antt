@@ -7,7 +7,7 @@ use Rattle.rules.specs.declared.Rect.{Rect}
 use Rattle.rules.specs.Compare.{liesIn}
 use Rattle.rules.specs.Pool.{entriesAt, entryFrom, entryAt}
 use Rattle.rules.specs.Layout.{read}
-use Rattle.pool.proofs.Parts.{rect-entry}
+use Rattle.layout_laws.proofs.Parts.{rect-entry}
 use Rattle.find_leaf.specs.State.{holding}
 use Rattle.find_leaf.proofs.Gather.{Gathered, gather-first, gather-on, gathered-all}
 use Rattle.find_leaf.proofs.put_hits.Statement.{statement}

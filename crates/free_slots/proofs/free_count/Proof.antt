@@ -7,8 +7,8 @@ use native.Mathlib.Omega.{arith}
 use Rattle.rules.specs.Pool.{Pool, slot, nodeAt, freeCount}
 use Rattle.rules.specs.Layout.{slotCount, read}
 use Rattle.sound_laws.proofs.Free.{isFree}
-use Rattle.pool.proofs.Parts.{few-slots}
-use Rattle.pool.proofs.Written.{read-slots}
+use Rattle.layout_laws.proofs.Parts.{few-slots}
+use Rattle.layout_laws.proofs.Written.{read-slots}
 use Rattle.free_slots.proofs.Frees.{one-most, countFrom, count-next, count-end, count-all}
 use Rattle.free_slots.proofs.free_count.Statement.{statement}
 use Rattle.free_slots.proofs.free_count.Tie as tie

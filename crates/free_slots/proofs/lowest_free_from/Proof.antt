@@ -7,8 +7,8 @@ use borrow.Author.Tests.{eq-eqb, ne-eqb}
 use lib.ListN.{length}
 use Rattle.rules.specs.Pool.{Pool}
 use Rattle.rules.specs.Layout.{read}
-use Rattle.pool.proofs.Parts.{few-slots}
-use Rattle.pool.proofs.Written.{read-slots}
+use Rattle.layout_laws.proofs.Parts.{few-slots}
+use Rattle.layout_laws.proofs.Written.{read-slots}
 use Rattle.free_slots.proofs.Frees.{lowestFrom, lowest-here, lowest-next, lowest-end}
 use Rattle.free_slots.proofs.lowest_free_from.Statement.{statement}
 use Rattle.free_slots.proofs.lowest_free_from.Tie as tie

@@ -59,10 +59,9 @@ use Rattle.rules.proofs.Record as F
 use Rattle.rules.specs.declared.Verdict.{Verdict}
 use Rattle.rules.specs.Lists.{every}
 use Rattle.rules.specs.Call.{Lent, isRequest, callFault}
-use Rattle.batch.specs.Asking.{lent as lentOf}
+use Rattle.promises.specs.Calls.{lent as lentOf, left, Allowed}
 use Rattle.batch.specs.Batching.{refusalOf, batchOf, Batched}
 use Rattle.batch.proofs.Batches.{fine}
-use Rattle.map.specs.Asking.{left, Allowed}
 use Rattle.map.proofs.Calls.{not-refused, is-refused, left-alone, left-served}
 use Rattle.batch.proofs.all_asked as all-asked
 use Rattle.batch.proofs.all_asked.Symbol as all-asked-def

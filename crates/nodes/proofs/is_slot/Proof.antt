@@ -1,7 +1,7 @@
 -- The slots are counted from 1, and the pool that is read has as many as the words.
 use borrow.Author.Tests.{le-leb, lt-leb}
 use Rattle.rules.specs.Sound.{isSlot}
-use Rattle.pool.proofs.Written.{read-slots}
+use Rattle.layout_laws.proofs.Written.{read-slots}
 use borrow.Author.Needs.{needs}
 use Rattle.nodes.proofs.is_slot.Statement.{statement}
 use Rattle.nodes.proofs.is_slot.Tie as tie

@@ -8,7 +8,7 @@ use native.Mathlib.Omega.{arith}
 use Prim.Native.Nat.{_+_}
 use mir.Syntax.{w32}
 use mir.ValLaws.{toZ-pos}
-use Rattle.pool.proofs.Parts.{few, room}
+use Rattle.layout_laws.proofs.Parts.{few, room}
 use Rattle.pool.proofs.Stores.{spot-inside, more-stored}
 use borrow.Author.Needs.{needs}
 use Rattle.pool.proofs.add_entry.Statement.{statement}

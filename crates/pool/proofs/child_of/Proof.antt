@@ -1,9 +1,9 @@
 use native.Mathlib.Omega.{arith}
-use Rattle.pool.proofs.Parts.{few, room, slot-few, slot-pointer}
+use Rattle.layout_laws.proofs.Parts.{few, room, slot-few, slot-pointer}
 use mathlib.Core.Path.{_∙_}
 use Rattle.rules.specs.Pool.{nodeAt, entryAt}
 use Rattle.rules.specs.Layout.{read}
-use Rattle.pool.proofs.Written.{pointer-child, child-is, leaf-not}
+use Rattle.layout_laws.proofs.Written.{pointer-child, child-is, leaf-not}
 use Rattle.pool.proofs.child_of.Statement.{statement}
 use Rattle.pool.proofs.child_of.Tie as tie
 

@@ -1,5 +1,5 @@
 use native.Mathlib.Omega.{arith}
-use Rattle.pool.proofs.Parts.{few, room, slot-count}
+use Rattle.layout_laws.proofs.Parts.{few, room, slot-count}
 use Rattle.pool.proofs.count_of.Statement.{statement}
 use Rattle.pool.proofs.count_of.Tie as tie
 

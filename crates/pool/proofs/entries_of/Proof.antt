@@ -11,7 +11,7 @@ use Rattle.rules.specs.Numbers.{most}
 use Rattle.rules.specs.Pool.{noEntry, entriesAt, entryAt, entryFrom}
 use Rattle.rules.specs.Layout.{read}
 use Rattle.rules_laws.proofs.Places.{getD-alike}
-use Rattle.pool.specs.Slots.{NoneFrom}
+use Rattle.layout_laws.specs.Slots.{NoneFrom}
 use Rattle.pool.proofs.entries_of.Statement.{statement}
 use Rattle.pool.proofs.entries_of.Tie as tie
 

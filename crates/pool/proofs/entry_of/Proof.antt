@@ -1,5 +1,5 @@
 use Rattle.rules.specs.Layout.{read}
-use Rattle.pool.proofs.Parts.{entry-parts}
+use Rattle.layout_laws.proofs.Parts.{entry-parts}
 use borrow.Author.Needs.{needs}
 use Rattle.pool.proofs.entry_of.Statement.{statement}
 use Rattle.pool.proofs.entry_of.Tie as tie

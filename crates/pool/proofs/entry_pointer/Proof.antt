@@ -2,7 +2,7 @@ use native.Mathlib.Omega.{arith}
 use mathlib.Core.Path.{sym}
 use Rattle.pool.proofs.Naturals.{word-read}
 use borrow.Author.Needs.{sfits-of}
-use Rattle.pool.proofs.Parts.{few, room, slot-few, slot-pointer}
+use Rattle.layout_laws.proofs.Parts.{few, room, slot-few, slot-pointer}
 use borrow.Author.Needs.{needs}
 use Rattle.pool.proofs.entry_pointer.Statement.{statement}
 use Rattle.pool.proofs.entry_pointer.Tie as tie

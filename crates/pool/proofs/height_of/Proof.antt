@@ -1,5 +1,5 @@
 use native.Mathlib.Omega.{arith}
-use Rattle.pool.proofs.Parts.{right-size}
+use Rattle.layout_laws.proofs.Parts.{right-size}
 use Rattle.rules.specs.Layout.{read}
 use Rattle.pool.proofs.height_of.Statement.{statement}
 use Rattle.pool.proofs.height_of.Tie as tie

@@ -1,6 +1,6 @@
 use mathlib.Core.Path.{sym}
 use native.Mathlib.Omega.{arith}
-use Rattle.pool.proofs.Parts.{few, room, slot-level}
+use Rattle.layout_laws.proofs.Parts.{few, room, slot-level}
 use Rattle.pool.proofs.level_of.Statement.{statement}
 use Rattle.pool.proofs.level_of.Tie as tie
 

@@ -5,7 +5,7 @@ use Rattle.rules.specs.Pool.{slot}
 use Rattle.rules.specs.Layout.{natural}
 use borrow.Author.Tests.{eq-eqb, ne-eqb}
 use mir.Facts.{toZ-ofZ}
-use Rattle.pool.proofs.Written.{pointer-number, pointer-child}
+use Rattle.layout_laws.proofs.Written.{pointer-number, pointer-child}
 use borrow.Author.Needs.{needs}
 use Rattle.pool.proofs.pointer_of.Statement.{statement}
 use Rattle.pool.proofs.pointer_of.Tie as tie

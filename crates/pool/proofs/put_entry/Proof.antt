@@ -8,7 +8,7 @@ use mir.Val.{toZ, ofZ}
 use Rattle.pool.proofs.Naturals.{word-read}
 use borrow.Author.Needs.{sfits-of}
 use Rattle.rules.specs.Layout.{entryWords}
-use Rattle.pool.proofs.Runs.{five}
+use Rattle.layout_laws.proofs.Runs.{five}
 use borrow.Author.Needs.{needs}
 use Rattle.pool.proofs.put_entry.Statement.{statement}
 use Rattle.pool.proofs.put_entry.Tie as tie

@@ -1,5 +1,5 @@
 use native.Mathlib.Omega.{arith}
-use Rattle.pool.proofs.Parts.{few, slot-few}
+use Rattle.layout_laws.proofs.Parts.{few, slot-few}
 use Rattle.pool.proofs.Stores.{spot-inside, again-stored}
 use borrow.Author.Needs.{needs}
 use Rattle.pool.proofs.put_entry_of.Statement.{statement}

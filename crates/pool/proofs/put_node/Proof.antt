@@ -1,4 +1,4 @@
-use Rattle.pool.proofs.Written.{fine-node, put-read, put-fit}
+use Rattle.layout_laws.proofs.Written.{fine-node, put-read, put-fit}
 use borrow.Author.Needs.{needs}
 use Rattle.pool.proofs.put_node.Statement.{statement}
 use Rattle.pool.proofs.put_node.Tie as tie

@@ -1,8 +1,8 @@
 use native.Mathlib.Omega.{arith}
 use mir.Syntax.{w32}
 use mir.ValLaws.{toZ-pos}
-use Rattle.pool.proofs.Parts.{right-size}
-use Rattle.pool.proofs.Written.{records-read, records-fit}
+use Rattle.layout_laws.proofs.Parts.{right-size}
+use Rattle.layout_laws.proofs.Written.{records-read, records-fit}
 use borrow.Author.Needs.{needs}
 use Rattle.pool.proofs.put_records.Statement.{statement}
 use Rattle.pool.proofs.put_records.Tie as tie

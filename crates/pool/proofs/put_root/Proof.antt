@@ -1,9 +1,9 @@
 use native.Mathlib.Omega.{arith}
 use mir.Syntax.{w32}
 use mir.ValLaws.{toZ-pos}
-use Rattle.pool.proofs.Parts.{right-size}
+use Rattle.layout_laws.proofs.Parts.{right-size}
 use lib.ListN.{length-set}
-use Rattle.pool.proofs.Written.{root-read, root-fit}
+use Rattle.layout_laws.proofs.Written.{root-read, root-fit}
 use borrow.Author.Needs.{needs}
 use Rattle.pool.proofs.put_root.Statement.{statement}
 use Rattle.pool.proofs.put_root.Tie as tie

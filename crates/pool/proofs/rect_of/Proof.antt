@@ -3,7 +3,7 @@ use mathlib.Core.Path.{ap, _∙_}
 use Prim.Native.Nat.{ℕ}
 use lib.ListN.{drop}
 use Rattle.rules.specs.Layout.{rectOf}
-use Rattle.pool.proofs.Parts.{few, slot-few}
+use Rattle.layout_laws.proofs.Parts.{few, slot-few}
 use Rattle.pool.proofs.Stores.{spot-inside, spot-rect}
 use Rattle.pool.proofs.rect_of.Statement.{statement}
 use Rattle.pool.proofs.rect_of.Tie as tie

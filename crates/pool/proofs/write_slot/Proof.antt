@@ -12,7 +12,7 @@ use mir.ValLaws.{toZ-pos}
 use Rattle.rules.specs.declared.Entry.{Entry}
 use Rattle.rules.specs.Numbers.{most}
 use Rattle.rules.specs.Layout.{entrySize, slotHead, slotStart, entryWords}
-use Rattle.pool.proofs.Parts.{few, room}
+use Rattle.layout_laws.proofs.Parts.{few, room}
 use Rattle.pool.proofs.Fronts.{front, front-none, front-more, whole, used-small}
 use Rattle.pool.proofs.write_slot.Statement.{statement}
 use Rattle.pool.proofs.write_slot.Tie as tie

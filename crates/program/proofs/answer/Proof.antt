@@ -5,7 +5,7 @@ use Rattle.program.proofs.Calls.{replies-by}
 use borrow.Author.Needs.{needs}
 use Rattle.program.proofs.answer.Statement.{statement}
 use Rattle.program.proofs.answer.Tie as tie
-use Rattle.request.proofs.Cases.{asks-something}
+use Rattle.in_force_laws.proofs.Asks.{asks-something}
 
 one-request-requires : tie.Need-one-request-requires
 one-request-requires c κs =

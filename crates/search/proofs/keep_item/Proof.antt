@@ -3,7 +3,7 @@ use mathlib.Core.Path.{_∙_}
 use native.Mathlib.Omega.{arith}
 use mir.Syntax.{w32}
 use mir.Facts.{toZ-ofZ}
-use Rattle.pool.proofs.Parts.{right-size, few-slots}
+use Rattle.layout_laws.proofs.Parts.{right-size, few-slots}
 use Rattle.found_items.proofs.Words.{spot-is}
 use Rattle.search.proofs.Keeping.{kept-one}
 use borrow.Author.Needs.{needs, sfits-of}

@@ -1,6 +1,6 @@
 -- The number and the place become the next item, and it is found where the entry meets the window.
 use native.Mathlib.Omega.{arith}
-use Rattle.pool.proofs.Parts.{few, slot-few}
+use Rattle.layout_laws.proofs.Parts.{few, slot-few}
 use Rattle.search.proofs.Steps.{went-entry}
 use borrow.Author.Needs.{needs}
 use Rattle.search.proofs.list_entry.Statement.{statement}

@@ -7,7 +7,7 @@ use lib.ListN.{length}
 use Rattle.rules.specs.Pool.{entriesAt}
 use Rattle.rules.specs.Layout.{read}
 use Rattle.rules_laws.proofs.Bools.{not-true, not-false}
-use Rattle.pool.proofs.Parts.{slot-few}
+use Rattle.layout_laws.proofs.Parts.{slot-few}
 use Rattle.nodes.proofs.Slots.{asked-within}
 use Rattle.sound.proofs.Nodes.{refused-part, entries-end, entry-rect, entry-no-slot, entry-refused, entry-goes, not-met, leaf-answers, inner-answers, too-few, not-tight, as-node, no-leaf}
 use Prim.Native.Nat.{ℕ, _<_}

@@ -6,8 +6,8 @@ use lib.ListN.{length, drop}
 use Rattle.rules.specs.Pool.{Node}
 use Rattle.rules.specs.Layout.{read}
 use Rattle.rules.specs.Numbers.{most}
-use Rattle.pool.proofs.Parts.{few-slots}
-use Rattle.pool.proofs.Written.{read-slots}
+use Rattle.layout_laws.proofs.Parts.{few-slots}
+use Rattle.layout_laws.proofs.Written.{read-slots}
 use Rattle.sound.specs.Walked.{recordCounts}
 use Rattle.sound.proofs.Records.{records-more, records-end}
 use Rattle.sound.proofs.leaf_records.Statement.{statement}

@@ -1,7 +1,7 @@
 -- A slot that was marked is refused; another is marked, whatever is found there.
 use mathlib.Core.Path.{sym, _∙_}
 use native.Mathlib.Omega.{arith}
-use Rattle.pool.proofs.Parts.{few}
+use Rattle.layout_laws.proofs.Parts.{few}
 use Rattle.sound.proofs.Nodes.{met-before, other-level, met-now}
 use borrow.Author.Needs.{needs}
 use Rattle.sound.proofs.meet.Statement.{statement}

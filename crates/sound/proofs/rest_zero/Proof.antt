@@ -9,8 +9,8 @@ use Rattle.rules.specs.Lists.{every}
 use Rattle.rules.specs.Pool.{slot, slotNumbers}
 use Rattle.rules.specs.Layout.{slotCount, read}
 use Rattle.rules_laws.proofs.Bools.{not-true, not-false}
-use Rattle.pool.proofs.Parts.{few-slots}
-use Rattle.pool.proofs.Written.{read-slots}
+use Rattle.layout_laws.proofs.Parts.{few-slots}
+use Rattle.layout_laws.proofs.Written.{read-slots}
 use Rattle.sound_laws.proofs.Flat.{slots-size}
 use Rattle.sound.specs.Walked.{metOrZero}
 use Rattle.sound.proofs.Everies.{every-fails, every-goes, every-none}

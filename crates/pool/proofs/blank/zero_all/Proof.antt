@@ -7,7 +7,7 @@ use native.Mathlib.Omega.{arith}
 use lib.ListN.{length, set, length-set}
 use lib.Seq.{sets}
 use lib.IntN.{ℤ, pos}
-use Rattle.pool.proofs.Runs.{zeros}
+use Rattle.layout_laws.proofs.Runs.{zeros}
 use Rattle.pool.proofs.Blanks.{zeros-stored, zeros-all}
 use Rattle.pool.proofs.blank.zero_all.Statement.{statement}
 use Rattle.pool.proofs.blank.zero_all.Tie as tie

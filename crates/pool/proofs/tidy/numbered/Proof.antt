@@ -1,6 +1,6 @@
 use mathlib.Core.Path.{_∙_}
 use native.Mathlib.Omega.{arith}
-use Rattle.pool.proofs.Parts.{few, room, slot-few}
+use Rattle.layout_laws.proofs.Parts.{few, room, slot-few}
 use Rattle.pool.proofs.Tidied.{pointer-one}
 use Rattle.pool.proofs.tidy.numbered.Statement.{statement}
 use Rattle.pool.proofs.tidy.numbered.Tie as tie

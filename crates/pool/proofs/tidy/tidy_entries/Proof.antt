@@ -14,10 +14,10 @@ use Rattle.rules.specs.declared.SlotNumber.{SlotNumber}
 use Rattle.rules.specs.Lists.{joined}
 use Rattle.rules.specs.Pool.{noEntry, nodeAt, entriesAt}
 use Rattle.rules.specs.Layout.{entrySize, slotHead, slotStart, entryPlace, pointerPlace, entryWords, wordAt, read}
-use Rattle.pool.proofs.Parts.{few, room, slot-few}
+use Rattle.layout_laws.proofs.Parts.{few, room, slot-few}
 use Rattle.pool.specs.Standing.{stand}
 use Rattle.pool.proofs.Stand.{parts-end}
-use Rattle.pool.proofs.Written.{entry-size}
+use Rattle.layout_laws.proofs.Written.{entry-size}
 use Rattle.pool.proofs.Tidied.{leaf-entries, child-entries}
 use Rattle.pool.proofs.tidy.tidy_entries.Statement.{statement}
 use Rattle.pool.proofs.tidy.tidy_entries.Tie as tie

@@ -1,7 +1,7 @@
 use mathlib.Core.Path.{sym, ap₂, _∙_}
 use mathlib.Core.Bool.{_&&_}
 use native.Mathlib.Omega.{arith}
-use Rattle.pool.proofs.Parts.{few, room}
+use Rattle.layout_laws.proofs.Parts.{few, room}
 use Rattle.pool.proofs.Tidied.{slot-places}
 use borrow.Author.Needs.{needs}
 use Rattle.pool.proofs.tidy.tidy_places.Statement.{statement}

@@ -3,8 +3,8 @@ use mathlib.Core.List.{List}
 use native.Mathlib.Omega.{arith}
 use lib.IntN.{ℤ}
 use Rattle.rules.specs.Layout.{slotSize, slotStart}
-use Rattle.pool.proofs.Parts.{few, room}
-use Rattle.pool.proofs.Runs.{zeros}
+use Rattle.layout_laws.proofs.Parts.{few, room}
+use Rattle.layout_laws.proofs.Runs.{zeros}
 use Rattle.pool.proofs.Tidied.{free-words}
 use Rattle.pool.specs.Standing.{stand}
 use Prim.Native.Nat.{ℕ, _+_, _-_}

@@ -1,4 +1,4 @@
--- What the writer and the reader promise: everything that comes back is what the definitions give, for any input.
+-- What a write comes to when the pool is known to be sound: the last row of its table is left.
 use mathlib.Core.Path.{_≡_}
 use mathlib.Core.Bool.{true, false}
 use mathlib.Core.List.{List}
@@ -10,13 +10,7 @@ use lib.IntN.{ℤ, pos}
 use Rattle.rules.specs.declared.Record.{Record}
 use Rattle.rules.specs.declared.FileFault.the-variants.{ShortBuffer}
 use Rattle.rules.specs.Layout.{read}
-use Rattle.rules.specs.File.{fileNumber, fileBytes, recordsCarried, WriteLeft, writeFile, readFile}
-
--- of a write into a lent buffer: the number, the buffer and the length of the file
-pub record Writes (pool : List ℤ) (buffer : List ℕ) (n : ℤ) (bytes : List ℕ) (long : ℕ) : Type 0 where
-  pub number : n ≡ writeFile pool buffer .number
-  pub file : bytes ≡ writeFile pool buffer .file
-  pub size : long ≡ writeFile pool buffer .size
+use Rattle.rules.specs.File.{fileNumber, fileBytes, recordsCarried, WriteLeft}
 
 -- of a write of a sound pool's records: refused only where they are too many for the buffer
 unfoldable pub filled : List Record → List ℕ → WriteLeft
@@ -30,9 +24,3 @@ pub record Fills (pool : List ℤ) (buffer : List ℕ) (n : ℤ) (bytes : List �
   pub number : n ≡ filled (recordsCarried (read pool)) buffer .number
   pub file : bytes ≡ filled (recordsCarried (read pool)) buffer .file
   pub size : long ≡ filled (recordsCarried (read pool)) buffer .size
-
--- of a read into a lent pool w, with a workspace u: the number, and the pool and the workspace that are left
-pub record Reads (w u : List ℤ) (file : List ℕ) (n : ℤ) (v x : List ℤ) : Type 0 where
-  pub number : n ≡ readFile w u file .number
-  pub pool : v ≡ readFile w u file .pool
-  pub workspace : x ≡ readFile w u file .workspace

@@ -19,10 +19,10 @@ use Rattle.rules.specs.Numbers.{most}
 use Rattle.rules.specs.Layout.{headSize, rootPlace, heightPlace, recordsPlace, rectSize, entrySize, slotHead, slotSize, slotStart, slotCount, validLength, pointerWord, entryWords}
 use Rattle.rules.specs.Layout.{padded, nodeWords, headWords, words, natural, wordAt, runs, rectOf, pointerOf, entryOf, nodeOf, read}
 use Rattle.rules_laws.proofs.Places.{Each}
-use Rattle.pool.specs.Slots.{InPool, Fit, KindAll}
-use Rattle.pool.proofs.Parts.{node-count, length-runs}
-use Rattle.pool.proofs.Runs.{zeros, Wide, wide-at, map-wide, map-set, length-parts, runs-joined, sets-right, sets-all, sets-joined}
-use Rattle.pool.proofs.Padded.{placed, unplaced, placed-size, placed-is, placed-back}
+use Rattle.layout_laws.specs.Slots.{InPool, Fit, KindAll}
+use Rattle.layout_laws.proofs.Parts.{node-count, length-runs}
+use Rattle.layout_laws.proofs.Runs.{zeros, Wide, wide-at, map-wide, map-set, length-parts, runs-joined, sets-right, sets-all, sets-joined}
+use Rattle.layout_laws.proofs.Padded.{placed, unplaced, placed-size, placed-is, placed-back}
 
 -- ---- a node
 

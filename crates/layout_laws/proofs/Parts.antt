@@ -20,7 +20,7 @@ use Rattle.rules.specs.Layout.{headSize, rectSize, entrySize, slotHead, slotSiz
 use Rattle.rules.specs.Layout.{slotCount, validLength, natural, wordAt, runs, rectOf, entryOf, nodeOf, read, pointerOf}
 use Rattle.rules_laws.proofs.Bools.{and-both}
 use Rattle.rules_laws.proofs.Places.{getD-any}
-use Rattle.pool.specs.Slots.{InPool}
+use Rattle.layout_laws.specs.Slots.{InPool}
 
 -- ---- runs of a width
 

@@ -12,7 +12,7 @@ use Rattle.rules_laws.proofs.Places.{each-of}
 use Rattle.rules_laws.proofs.Parts.{among-those, those-fewer}
 use Rattle.rules_laws.proofs.Joins.{joined-length}
 use Rattle.rules_laws.proofs.Sums.{total-most}
-use Rattle.pool.proofs.Written.{Fine, read-fine, read-slots}
+use Rattle.layout_laws.proofs.Written.{Fine, read-fine, read-slots}
 
 -- 8 for each slot at most
 pub stored-few : (w : List ℤ) → length (stored (read w)) ≤ 8 * slotCount w

@@ -10,7 +10,7 @@ use lib.Seq.{sets, take-append-add}
 use lib.IntN.{ℤ, pos}
 use Rattle.rules.specs.Lists.{joined}
 use Rattle.rules.specs.Layout.{padded, runs}
-use Rattle.pool.proofs.Runs.{zeros, take-zeros, over-zeros, wide-at, map-wide, map-set, length-parts, joined-snoc, runs-joined, take-runs, sets-right, sets-left, sets-all, sets-joined}
+use Rattle.layout_laws.proofs.Runs.{zeros, take-zeros, over-zeros, wide-at, map-wide, map-set, length-parts, joined-snoc, runs-joined, take-runs, sets-right, sets-left, sets-all, sets-joined}
 
 -- a place of so many ends before all of them do
 place-inside : (k i n : ℕ) → i < n → k * i + k ≤ k * n

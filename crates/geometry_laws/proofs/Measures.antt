@@ -13,8 +13,8 @@ use Rattle.rules.specs.declared.Rect.{Rect}
 use Rattle.rules.specs.Numbers.{inRange}
 use Rattle.rules.specs.Geometry.{valid, smaller, larger, cover, area}
 use Rattle.rules_laws.proofs.Bools.{and-both, leb-same}
-use Rattle.geometry.proofs.Rules.{chosen}
-use Rattle.geometry.proofs.Ints.{off, off-le, off-order, le-off, sub-off, sub-lt}
+use Rattle.geometry_laws.proofs.Rules.{chosen}
+use Rattle.geometry_laws.proofs.Ints.{off, off-le, off-order, le-off, sub-off, sub-lt}
 
 -- ---- the parts of `valid`
 

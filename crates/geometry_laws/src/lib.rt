@@ -1,0 +1,1 @@
+// No code: what rectangles measure, for the crates above.

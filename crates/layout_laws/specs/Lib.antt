@@ -1,0 +1,2 @@
+-- What is asked of a pool's words.
+pub mod Slots

@@ -1,2 +1,0 @@
--- What the exported functions stand for.
-pub mod Asking

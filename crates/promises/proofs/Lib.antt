@@ -1,0 +1,2 @@
+-- What follows from the promises alone.
+pub mod Once
