@@ -9,7 +9,7 @@ use Rattle.rules.specs.declared.Rect.{Rect}
 use Rattle.rules.specs.Lists.{earliestBest, upFrom}
 use Rattle.rules.specs.Choose.{takesBetter, earliest, chooseChild}
 use Rattle.rules_laws.proofs.Turns.{best-nil, best-cons, up-more, up-none}
-use Rattle.geometry_laws.proofs.Rules.{chosen, chosen-part}
+use Rattle.rules_laws.proofs.Rules.{chosen, chosen-part}
 use Rattle.choose.specs.declared.Best.{Best}
 use Rattle.choose.specs.State.{Measured, beats}
 

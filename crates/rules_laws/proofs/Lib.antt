@@ -11,3 +11,6 @@ pub mod Splits
 pub mod Bools
 pub mod Everies
 pub mod Turns
+pub mod Ints
+pub mod Rules
+pub mod Measures

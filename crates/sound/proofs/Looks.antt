@@ -24,7 +24,7 @@ use Rattle.rules_laws.proofs.Bools.{and-both, both-and, same-test}
 use Rattle.rules_laws.proofs.Orders.{never-both, at-most-on}
 use Rattle.rules_laws.proofs.Everies.{every-is}
 use Rattle.rules_laws.proofs.Places.{Among, place-of}
-use Rattle.geometry_laws.proofs.Measures.{valid-parts, parts-valid, cover-valid}
+use Rattle.rules_laws.proofs.Measures.{valid-parts, parts-valid, cover-valid}
 use Rattle.layout_laws.specs.Slots.{InPool}
 use Rattle.layout_laws.proofs.Parts.{slot-pointer, rect-entry}
 use Rattle.layout_laws.proofs.Written.{pointer-number}

@@ -18,7 +18,7 @@ use Rattle.rules.specs.Geometry.{valid, cover, coverAll}
 use Rattle.rules.specs.Pool.{Pool, slot, number, entriesAt, childOf, numberOf, recordOf, leafEntry, rects, coverOf, entryFor}
 use Rattle.rules_laws.proofs.Orders.{never-both}
 use Rattle.rules_laws.proofs.Places.{Among}
-use Rattle.geometry_laws.proofs.Measures.{cover-valid}
+use Rattle.rules_laws.proofs.Measures.{cover-valid}
 use Rattle.sound_laws.specs.Tree.{LeafEntry, InnerEntry, Tree}
 use Rattle.sound_laws.proofs.Walk.{no-tree, leaf-of, inner-of, tree-node}
 

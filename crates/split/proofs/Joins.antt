@@ -14,7 +14,7 @@ use Rattle.rules.specs.Geometry.{valid, cover, coverAll, area}
 use Rattle.rules.specs.Choose.{rectFrom}
 use Rattle.rules.specs.Split as S
 use Rattle.rules_laws.proofs.Places.{getD-alike}
-use Rattle.geometry_laws.proofs.Measures.{cover-valid}
+use Rattle.rules_laws.proofs.Measures.{cover-valid}
 use Rattle.split.specs.declared.Extent.{Extent}
 use Rattle.split.specs.State.{AllValid, ExtentOk}
 

@@ -18,9 +18,9 @@ use Rattle.rules.specs.Choose.{rectFrom, earliest}
 use Rattle.rules.specs.Split.{preference, mostPreferring}
 use Rattle.rules_laws.proofs.Places.{Each}
 use Rattle.rules_laws.proofs.Turns.{best-nil, best-cons}
-use Rattle.geometry_laws.proofs.Rules.{chosen}
-use Rattle.geometry_laws.proofs.Ints.{sub-pos, sub-neg, pos-minus}
-use Rattle.geometry_laws.proofs.Measures.{area-grows}
+use Rattle.rules_laws.proofs.Rules.{chosen}
+use Rattle.rules_laws.proofs.Ints.{sub-pos, sub-neg, pos-minus}
+use Rattle.rules_laws.proofs.Measures.{area-grows}
 use Rattle.split.specs.declared.KeyedPlace.{KeyedPlace}
 use Rattle.split.specs.State.{Left, Grows, keyOf, widerBy}
 

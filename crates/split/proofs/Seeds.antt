@@ -11,8 +11,8 @@ use Rattle.rules.specs.declared.Rect.{Rect}
 use Rattle.rules.specs.Lists.{earliestBest, upFrom}
 use Rattle.rules.specs.Split.{Seeds, seeds, pairsFrom, wasteOf, pickSeeds}
 use Rattle.rules_laws.proofs.Earliest.{best-append}
-use Rattle.geometry_laws.proofs.Rules.{chosen, chosen-part}
-use Rattle.geometry_laws.proofs.Measures.{waste-lt}
+use Rattle.rules_laws.proofs.Rules.{chosen, chosen-part}
+use Rattle.rules_laws.proofs.Measures.{waste-lt}
 use Rattle.split.specs.declared.KeyedSeeds.{KeyedSeeds}
 use Rattle.split.specs.State.{Keyed, wastesMore, seedsOf}
 use Rattle.rules_laws.proofs.Turns.{best-nil, best-cons, up-more, up-none}

@@ -13,8 +13,8 @@ use Rattle.rules.specs.Doubles.{millimetres, floorOf, ceilingOf, exactOf}
 use Rattle.rules.specs.Survey.{outward, inOrder, goodBox, boxWindow, exactBox, RoundedOutward, inDoubles}
 use Rattle.rules_laws.proofs.Bools.{and-both, both-and}
 use Rattle.rules_laws.proofs.Orders.{never-both}
-use Rattle.geometry_laws.proofs.Ints.{range-fits}
-use Rattle.geometry_laws.proofs.Measures.{Valid, valid-parts}
+use Rattle.rules_laws.proofs.Ints.{range-fits}
+use Rattle.rules_laws.proofs.Measures.{Valid, valid-parts}
 use Rattle.survey_laws.specs.Sizes.{spans, BoxWithin}
 use Rattle.survey_laws.proofs.Floors.{floor-is, ceiling-is}
 use Rattle.survey_laws.proofs.Finished.{GoodRect, finished-good, finished-parts, not-finished}

@@ -15,7 +15,7 @@ use Rattle.rules.specs.Doubles.{millimetres, exactOf}
 use Rattle.rules.specs.Survey.{pointBox, inOrder, goodBox, boxWindow, discWindow, queryWindow, ExactBox, exactBox, exactDisc, RoundedOutward, HoldsBox}
 use Rattle.rules_laws.proofs.Bools.{and-both}
 use Rattle.rules_laws.proofs.Orders.{at-most-on}
-use Rattle.geometry_laws.proofs.Measures.{parts-valid}
+use Rattle.rules_laws.proofs.Measures.{parts-valid}
 use Rattle.survey_laws.specs.Queries.{OfDoubles, meetsExactly}
 use Rattle.survey_laws.proofs.Linear.{le-parts, parts-le, sum-parts, over-neg, under-neg}
 use Rattle.survey_laws.proofs.Ranges.{whole-le, order-parts}

@@ -1,5 +1,5 @@
 use mathlib.Core.Path.{refl}
-use Rattle.geometry_laws.proofs.Rules.{by-rule}
+use Rattle.rules_laws.proofs.Rules.{by-rule}
 use borrow.Author.Needs.{needs}
 use Rattle.choose.proofs.is_better.Statement.{statement}
 use Rattle.choose.proofs.is_better.Tie as tie

@@ -4,8 +4,8 @@ use lib.IntN.{pos, _*ℤ_}
 use native.Mathlib.Nat.{mul-le-mul, lt-of-le-of-lt}
 use native.Mathlib.Omega.{arith}
 use Rattle.rules.specs.Geometry.{area}
-use Rattle.geometry_laws.proofs.Ints.{read-back}
-use Rattle.geometry_laws.proofs.Measures.{valid-parts, area-small}
+use Rattle.rules_laws.proofs.Ints.{read-back}
+use Rattle.rules_laws.proofs.Measures.{valid-parts, area-small}
 use Rattle.geometry.proofs.area.Statement.{statement}
 use Rattle.geometry.proofs.area.Tie as tie
 

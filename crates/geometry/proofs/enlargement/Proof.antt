@@ -2,8 +2,8 @@ use mathlib.Core.Path.{sym, ap₂, _∙_}
 use lib.IntN.{_-ℤ_}
 use native.Mathlib.Omega.{arith}
 use Rattle.rules.specs.Geometry.{enlargement}
-use Rattle.geometry_laws.proofs.Ints.{sub-pos, pos-minus}
-use Rattle.geometry_laws.proofs.Measures.{cover-valid, area-grows}
+use Rattle.rules_laws.proofs.Ints.{sub-pos, pos-minus}
+use Rattle.rules_laws.proofs.Measures.{cover-valid, area-grows}
 use borrow.Author.Needs.{needs}
 use Rattle.geometry.proofs.enlargement.Statement.{statement}
 use Rattle.geometry.proofs.enlargement.Tie as tie

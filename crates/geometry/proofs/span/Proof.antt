@@ -1,7 +1,7 @@
 use mathlib.Core.Path.{refl}
 use native.Mathlib.Omega.{arith}
 use mir.Facts.{toZ-ofZ}
-use Rattle.geometry_laws.proofs.Ints.{read-back, span-fits, sub-off, off-order, off-le}
+use Rattle.rules_laws.proofs.Ints.{read-back, span-fits, sub-off, off-order, off-le}
 use Rattle.geometry.proofs.span.Statement.{statement}
 use Rattle.geometry.proofs.span.Tie as tie
 

@@ -3,8 +3,8 @@ use Prim.Native.Nat.{_+_, _-_}
 use lib.IntN.{_-ℤ_}
 use native.Mathlib.Omega.{arith}
 use Rattle.rules.specs.Geometry.{waste}
-use Rattle.geometry_laws.proofs.Ints.{sub-same, sub-minus, pos-minus}
-use Rattle.geometry_laws.proofs.Measures.{cover-valid, area-small}
+use Rattle.rules_laws.proofs.Ints.{sub-same, sub-minus, pos-minus}
+use Rattle.rules_laws.proofs.Measures.{cover-valid, area-small}
 use borrow.Author.Needs.{needs}
 use Rattle.geometry.proofs.waste.Statement.{statement}
 use Rattle.geometry.proofs.waste.Tie as tie

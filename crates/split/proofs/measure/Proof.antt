@@ -1,7 +1,7 @@
 -- `split::measure` meets its contract: a turn measures the enlargement for one place more.
 use Prim.Native.Nat.{_-_}
 use native.Mathlib.Omega.{arith}
-use Rattle.geometry_laws.proofs.Measures.{cover-valid}
+use Rattle.rules_laws.proofs.Measures.{cover-valid}
 use Rattle.split.specs.State.{rectsIn}
 use Rattle.split.proofs.Lefts.{left-inside, MeasuredTo, measured-more, measured-all}
 use Rattle.split.proofs.Nexts.{no-less, enlarged}

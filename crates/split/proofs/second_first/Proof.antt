@@ -1,6 +1,6 @@
 -- `split::second_first` meets its contract: three rules, one after another.
 use mathlib.Core.Path.{refl}
-use Rattle.geometry_laws.proofs.Rules.{by-rule}
+use Rattle.rules_laws.proofs.Rules.{by-rule}
 use borrow.Author.Needs.{needs}
 use Rattle.split.proofs.second_first.Statement.{statement}
 use Rattle.split.proofs.second_first.Tie as tie

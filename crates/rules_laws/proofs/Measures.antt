@@ -12,9 +12,9 @@ use borrow.Author.Tests.{leb-true, leb-false, le-leb}
 use Rattle.rules.specs.declared.Rect.{Rect}
 use Rattle.rules.specs.Numbers.{inRange}
 use Rattle.rules.specs.Geometry.{valid, smaller, larger, cover, area}
 use Rattle.rules_laws.proofs.Bools.{and-both, leb-same}
-use Rattle.geometry_laws.proofs.Rules.{chosen}
-use Rattle.geometry_laws.proofs.Ints.{off, off-le, off-order, le-off, sub-off, sub-lt}
+use Rattle.rules_laws.proofs.Rules.{chosen}
+use Rattle.rules_laws.proofs.Ints.{off, off-le, off-order, le-off, sub-off, sub-lt}
 
 -- ---- the parts of `valid`
 

@@ -1,4 +1,0 @@
--- Laws of coordinates, of measures and of a rule and the next.
-pub mod Ints
-pub mod Measures
-pub mod Rules

@@ -1,1 +1,0 @@
-// No code: what rectangles measure, for the crates above.
