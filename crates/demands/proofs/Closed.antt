@@ -25,6 +25,7 @@ use Rattle.in_force_laws.specs.Shows.{High}
 use Rattle.in_force_laws.specs.Batch.{Told}
 use Rattle.demands.specs.Steps.{Step, Blank, Call, poolAfter, History, inForceAfter}
 use Rattle.promises.specs.Calls.{Allowed}
+use Rattle.promises.proofs.Once.{allowed}
 use Rattle.demands.specs.Demands.{after, answerAfter, withRequests, SameWithout, NoChange}
 use Rattle.demands.proofs.Demands.{demand-1, demand-2, demand-3, demand-height}
 use Rattle.demands.proofs.Sites.{planners-site}
@@ -126,9 +127,6 @@ unfolding document01 poolAfter inForceAfter forceAfter forceBy inForce change le
 closed-high = demand-height 0 (Call last (call last) ∷ before-last) closed-history
 
 -- ---- the first two demands
-
-allowed : (l : Lent) → Allowed l (call l)
-allowed l = record { number = refl; pool = refl; workspace = refl; answers = refl; found = refl }
 
 -- the last search fills the two places after those of the others
 pub closed-lists : slice 3 5 (call last .found)

@@ -47,7 +47,7 @@ use Rattle.in_force_laws.proofs.Sounds.{sound-fit, sound-tree}
 use Rattle.in_force_laws.proofs.Asks.{asks-something}
 use Rattle.demands.specs.Steps.{Step, Call, poolAfter, History, inForceAfter}
 use Rattle.promises.specs.Calls.{Allowed}
-use Rattle.promises.proofs.Once.{once}
+use Rattle.promises.proofs.Once.{allowed, once}
 use Rattle.demands.specs.Demands.{after, turnAfter, answerAfter, withRequests, Untouched, Ends, SameWithout, NoChange, Refuses}
 use Rattle.demands.specs.Demands.{Accepted, Lists, Does, Shows}
 use Rattle.demands.proofs.Holds.{history-holds}
@@ -60,8 +60,8 @@ use Rattle.demands.proofs.Unasked.{two-after, bare, passed, first-fine,
 pub demand-ends : (l : Lent) → Ends l
 demand-ends l = record {
   outcome = call l;
-  allowed = record { number = refl; pool = refl; workspace = refl; answers = refl; found = refl };
-  only = λ o k. once l o (call l) k (record { number = refl; pool = refl; workspace = refl; answers = refl; found = refl });
+  allowed = allowed l;
+  only = λ o k. once l o (call l) k (allowed l);
 }
 
 -- ---- a request in its call

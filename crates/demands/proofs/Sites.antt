@@ -32,7 +32,7 @@ use Rattle.search_laws.specs.Window.{wholeSite}
 use Rattle.search_laws.proofs.Site.{whole-site}
 use Rattle.in_force_laws.proofs.Call.{callBy-refused, callBy-served}
 use Rattle.promises.specs.Calls.{Allowed}
-use Rattle.promises.proofs.Once.{once}
+use Rattle.promises.proofs.Once.{allowed, once}
 use Rattle.demands.specs.Demands.{after, withRequests}
 use Rattle.demands.proofs.Demands.{first-whole, all-whole}
 use Rattle.demands.proofs.Unasked.{two-after}
@@ -59,10 +59,6 @@ same-every : (q s : Request) → isRequest q ≡ true → isRequest s ≡ true �
 unfolding every
 same-every q s a b [] rest = rw (a, b)
 same-every q s a b (x ∷ done) rest = ap (λ (t : Bool). isRequest x && t) (same-every q s a b done rest)
-
--- what `call` gives is allowed
-itself : (l : Lent) → Allowed l (call l)
-itself l = record { number = refl; pool = refl; workspace = refl; answers = refl; found = refl }
 
 module _ (l : Lent) (done : List Request) (q s : Request) (rest : List Request) (all : l .requests ≡ done ++ q ∷ rest)
     (inside : asked q ≡ some (Search OnlyInside wholeSite)) (meeting : asked s ≡ some (Search Meeting wholeSite)) where
@@ -115,4 +111,4 @@ module _ (l : Lent) (done : List Request) (q s : Request) (rest : List Request) 
 
   -- whatever is lent, all that comes back is the same
   pub planners-site : (o x : Left) → Allowed l o → Allowed other x → o ≡ x
-  planners-site o x k m = once l o (call l) k (itself l) ∙ same-call ∙ once other (call other) x (itself other) m
+  planners-site o x k m = once l o (call l) k (allowed l) ∙ same-call ∙ once other (call other) x (allowed other) m

@@ -19,7 +19,7 @@ pub struct FreeSlots {
 }
 
 // "the lowest free slot", of the slots from a given one on: the lowest of all where every slot below is in use.
-pub fn lowest_free_from(pool: &[i32], from: SlotNumber) -> FreeSlot
+fn lowest_free_from(pool: &[i32], from: SlotNumber) -> FreeSlot
     requires { ⌜ L.validLength (now pool) ≡ true ⌝ }
     requires { ⌜ 1 ≤ from .0 ⌝ }
     ensures { λ r. ⌜ r ≡ P.freeFrom (from .0) (drop (from .0 - 1) (L.read (now (pool .entry)) .slots)) ⌝ }
@@ -33,14 +33,6 @@ pub fn lowest_free_from(pool: &[i32], from: SlotNumber) -> FreeSlot
         s += 1;
     }
     FreeSlot::Nowhere
-}
-
-// "the lowest free slot", of all.
-pub fn lowest_free(pool: &[i32]) -> FreeSlot
-    requires { ⌜ L.validLength (now pool) ≡ true ⌝ }
-    ensures { λ r. ⌜ r ≡ P.lowestFree (L.read (now (pool .entry))) ⌝ }
-{
-    lowest_free_from(pool, SlotNumber(1))
 }
 
 // "Level 0 is free": 1 for a free slot, 0 for one in use.

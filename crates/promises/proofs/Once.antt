@@ -1,7 +1,11 @@
--- "any pair of outcomes allowed by it is equal"
-use mathlib.Core.Path.{_≡_, sym, _∙_}
-use Rattle.rules.specs.Call.{Lent, Left}
+-- "any pair of outcomes allowed by it is equal": there is one, and no other.
+use mathlib.Core.Path.{_≡_, refl, sym, _∙_}
+use Rattle.rules.specs.Call.{Lent, Left, call}
 use Rattle.promises.specs.Calls.{Allowed}
+
+-- what the definition gives is allowed
+pub allowed : (l : Lent) → Allowed l (call l)
+allowed l = record { number = refl; pool = refl; workspace = refl; answers = refl; found = refl }
 
 -- whatever two runs of the call leave, it is the same
 pub once : (l : Lent) (o o′ : Left) → Allowed l o → Allowed l o′ → o ≡ o′

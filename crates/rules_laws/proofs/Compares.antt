@@ -133,18 +133,18 @@ module _ (a b : Rect) where
 -- ---- questions
 
 -- of two that meet: each question by the two answers
-pub record Answers (i e : Bool) : Type 0 where
+pub record EachQuestion (i e : Bool) : Type 0 where
   pub meeting : isMeeting (meetingAs i e) ≡ true
   pub inside : isInside (meetingAs i e) ≡ i
   pub enclosing : isEnclosing (meetingAs i e) ≡ e
   pub equal : isEqual (meetingAs i e) ≡ (i && e)
 
-answers : (i e : Bool) → Answers i e
+each-question : (i e : Bool) → EachQuestion i e
 unfolding isMeeting isInside isEnclosing isEqual meetingAs
-answers true true = record { meeting = refl; inside = refl; enclosing = refl; equal = refl }
-answers true false = record { meeting = refl; inside = refl; enclosing = refl; equal = refl }
-answers false true = record { meeting = refl; inside = refl; enclosing = refl; equal = refl }
-answers false false = record { meeting = refl; inside = refl; enclosing = refl; equal = refl }
+each-question true true = record { meeting = refl; inside = refl; enclosing = refl; equal = refl }
+each-question true false = record { meeting = refl; inside = refl; enclosing = refl; equal = refl }
+each-question false true = record { meeting = refl; inside = refl; enclosing = refl; equal = refl }
+each-question false false = record { meeting = refl; inside = refl; enclosing = refl; equal = refl }
 
 -- a question that is no of two that are apart
 module _ (asks : Relation → Bool) (says : Bool → Bool → Bool) (each : (i e : Bool) → asks (meetingAs i e) ≡ says i e) (no : asks Apart ≡ false)
@@ -160,7 +160,7 @@ module _ (a b : Rect) where
   -- meeting is all but apart
   pub meeting-is : isMeeting (compared a b) ≡ meets a b
   unfolding isMeeting
-  meeting-is = asked-of isMeeting (λ i e. true) (λ i e. answers i e .meeting) refl a b ∙ still (meets a b)
+  meeting-is = asked-of isMeeting (λ i e. true) (λ i e. each-question i e .meeting) refl a b ∙ still (meets a b)
     where
       still : (t : Bool) → (t && true) ≡ t
       still true = refl
@@ -168,15 +168,15 @@ module _ (a b : Rect) where
 
   pub inside-is : isInside (compared a b) ≡ (meets a b && liesIn a b)
   unfolding isInside
-  inside-is = asked-of isInside (λ i e. i) (λ i e. answers i e .inside) refl a b
+  inside-is = asked-of isInside (λ i e. i) (λ i e. each-question i e .inside) refl a b
 
   pub enclosing-is : isEnclosing (compared a b) ≡ (meets a b && liesIn b a)
   unfolding isEnclosing
-  enclosing-is = asked-of isEnclosing (λ i e. e) (λ i e. answers i e .enclosing) refl a b
+  enclosing-is = asked-of isEnclosing (λ i e. e) (λ i e. each-question i e .enclosing) refl a b
 
   equal-is : isEqual (compared a b) ≡ (meets a b && (liesIn a b && liesIn b a))
   unfolding isEqual
-  equal-is = asked-of isEqual (λ i e. i && e) (λ i e. answers i e .equal) refl a b
+  equal-is = asked-of isEqual (λ i e. i && e) (λ i e. each-question i e .equal) refl a b
 
   -- equal are the same
   pub equal-same : isEqual (compared a b) ≡ true → a ≡ b
