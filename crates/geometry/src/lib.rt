@@ -200,7 +200,7 @@ pub fn exact_pair(a: Record, b: Record) -> bool
     is_equal(compare(a.rect, b.rect))
 }
 
-// ---- covers
+// ---- covers. The kit's library has no smaller and no larger of two numbers
 
 fn smaller(a: i32, b: i32) -> i32
     ensures { λ r. ⌜ r ≡ G.smaller a b ⌝ }
@@ -214,19 +214,15 @@ fn larger(a: i32, b: i32) -> i32
     if le(a, b) { b } else { a }
 }
 
-// The smallest rectangle holding both.
+// Req 04: the smallest rectangle holding both, "a smaller low and a larger high for each axis". Every cover is made here.
 pub fn cover(a: Rect, b: Rect) -> Rect
     ensures { λ r. ⌜ r ≡ G.cover a b ⌝ }
 {
-    let lowX = smaller(a.lowX, b.lowX);
-    let lowY = smaller(a.lowY, b.lowY);
-    let highX = larger(a.highX, b.highX);
-    let highY = larger(a.highY, b.highY);
     Rect {
-        lowX,
-        lowY,
-        highX,
-        highY,
+        lowX: smaller(a.lowX, b.lowX),
+        lowY: smaller(a.lowY, b.lowY),
+        highX: larger(a.highX, b.highX),
+        highY: larger(a.highY, b.highY),
     }
 }
 
