@@ -24,7 +24,6 @@ use Rattle.in_force_laws.specs.Force.{lessPair, change, inForce, forceBy, force
 use Rattle.in_force_laws.specs.Shows.{High}
 use Rattle.in_force_laws.specs.Batch.{Told}
 use Rattle.demands.specs.Steps.{Step, Blank, Call, poolAfter, History, inForceAfter}
-use Rattle.promises.specs.Calls.{Allowed}
 use Rattle.promises.proofs.Once.{allowed}
 use Rattle.demands.specs.Demands.{after, answerAfter, withRequests, SameWithout, NoChange}
 use Rattle.demands.proofs.Demands.{demand-1, demand-2, demand-3, demand-height}

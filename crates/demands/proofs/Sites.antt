@@ -1,12 +1,12 @@
 -- For planners: over the whole site, a search inside is a search that meets the window. In a whole pool the two find the same records and open
 -- the same nodes, so that a call with the one in the other's place is the same call: refused alike, and otherwise with the same turn there.
-use mathlib.Core.Path.{_≡_, refl, sym, ap, ap₂, _∙_}
-use mathlib.Core.Bool.{Bool, true, not, _&&_, _||_}
+use mathlib.Core.Path.{_≡_, refl, sym, ap, _∙_}
+use mathlib.Core.Bool.{Bool, true, not, _&&_}
 use mathlib.Core.List.{List, [], _∷_, _++_}
 use mathlib.Core.Option.{Option, none, some}
 use Prim.Native.Nat.{ℕ, suc}
 use lib.ListN.{length, length-append}
-use lib.Dec.{ltb, eqb}
+use lib.Dec.{ltb}
 use Rattle.rules.specs.declared.Rect.{Rect}
 use Rattle.rules.specs.declared.Record.{Record}
 use Rattle.rules.specs.declared.Reply.the-variants.{Listed, BadRectangle, NoRoom}
@@ -15,14 +15,10 @@ use Rattle.rules.specs.declared.Asked.{Asked}
 use Rattle.rules.specs.declared.Asked.the-variants.{Search}
 use Rattle.rules.specs.declared.Mode.the-variants.{Meeting, OnlyInside}
 use Rattle.rules.specs.declared.Verdict.{Verdict}
-use Rattle.rules.specs.declared.Verdict.the-variants.{BadLists, BadLength, NotSound, NoRequest}
 use Rattle.rules.specs.Lists.{every}
-use Rattle.rules.specs.Numbers.{mostRequests}
 use Rattle.rules.specs.Geometry.{valid}
 use Rattle.rules.specs.Pool.{Pool}
 use Rattle.rules.specs.Search.{opened}
-use Rattle.rules.specs.Layout.{validLength}
-use Rattle.rules.specs.Sound.{sound}
 use Rattle.rules.specs.Insert.{ours}
 use Rattle.rules.specs.Answers.{row, firstRow}
 use Rattle.rules.specs.Request.{Turn, turn, asked, searchFault, request}
@@ -65,19 +61,9 @@ module _ (l : Lent) (done : List Request) (q s : Request) (rest : List Request) 
   abbrev other : Lent
   other = withRequests l (done ++ s ∷ rest) (l .answers)
 
-  -- what refuses the call, by how many requests there are and whether all of them are some
-  refusedBy : ℕ → Bool → Option Verdict
-  refusedBy n are =
-      firstRow (
-      row (ltb mostRequests n || not (eqb (length (l .answers)) n)) BadLists
-      ∷ row (not (validLength (l .pool)) || not (eqb (length (l .workspace)) (length (l .pool)))) BadLength
-      ∷ row (not (sound (l .pool))) NotSound
-      ∷ row (not are) NoRequest
-      ∷ [])
-
   same-fault : callFault l ≡ callFault other
-  unfolding callFault refusedBy
-  same-fault = ap₂ refusedBy many are
+  unfolding callFault
+  same-fault = rw (callFault, many, are)
     where
       many : length (l .requests) ≡ length (done ++ s ∷ rest)
       many = ap length all ∙ length-append done (q ∷ rest) ∙ sym (length-append done (s ∷ rest))
