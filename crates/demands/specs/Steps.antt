@@ -17,7 +17,7 @@ use Rattle.promises.specs.Files.{Reads}
 use Rattle.promises.specs.Calls.{Allowed}
 
 -- what `dustmap_blank` promises about the words lent and what it returns and leaves. (What `dustmap_call` promises is `Allowed` of crate
--- map)
+-- promises)
 pub record Blanks (w : List ℤ) (b : Blanked) : Type 0 where
   pub number : b .number ≡ blank w .number
   pub pool : b .pool ≡ blank w .pool
