@@ -33,6 +33,14 @@ const PLAN: [(usize, usize, u64); 13] = [
 /// The largest pool is slow in the second program, which copies it for every change: one history, in batches of these sizes.
 const LARGEST: [usize; 5] = [1_024, 1, 0, 5, 200];
 
+/// Roads and points once more, in batches long enough for hundreds of records: so that half perimeters decide in inner nodes too.
+const FLAT: [Style; 4] = [Style::Points, Style::Lines, Style::Road, Style::Roads];
+const FLAT_SLOTS: usize = 128;
+const FLAT_BATCHES: [usize; 4] = [600, 9, 400, 1];
+
+/// Added to the seed, so that these are not the histories of the plan over again.
+const FLAT_SEED: u64 = 1_000;
+
 /// After so many calls in a hundred the map is carried to other offices.
 const CARRIED: u64 = 10;
 
@@ -52,6 +60,12 @@ pub fn all(seed: u64, tally: &mut Tally, seen: &mut Seen) {
                 }
             }
         }
+    }
+    for style in FLAT {
+        let seed = seed + FLAT_SEED;
+        let title = format!("{style:?}, {FLAT_SLOTS} slots, long batches, seed {seed}");
+        let mut history = History::new(title, style, seed, FLAT_SLOTS);
+        FLAT_BATCHES.iter().for_each(|&size| history.step(size, tally, seen));
     }
     let (name, style) = STYLES[(seed % 2) as usize];
     let mut history = History::new(format!("{name}, 4096 slots, seed {seed}"), style, seed, 4_096);

@@ -14,6 +14,7 @@ mod lent;
 mod modes;
 mod offices;
 mod pools;
+mod roads;
 mod scripts;
 mod seen;
 mod sizes;
@@ -40,6 +41,7 @@ fn main() {
     for round in 0..rounds {
         checks::pools(&mut dice, &mut tally, &mut seen);
         histories::all(seed.wrapping_add(round << 20), &mut tally, &mut seen);
+        roads::all(&mut dice, &mut tally, &mut seen);
         modes::all(&mut dice, &mut tally, &mut seen);
         twice::all(&mut dice, &mut tally, &mut seen);
         sizes::all(&mut dice, &mut tally, &mut seen);

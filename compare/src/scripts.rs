@@ -7,10 +7,16 @@ use crate::tally::Tally;
 use second::script::parse;
 use second::{Answer, Found};
 
-const SCRIPTS: [(&str, &str); 7] = [
+const SCRIPTS: [(&str, &str); 13] = [
     ("delete-refused-7", include_str!("../../second/examples/delete-refused-7.script")),
     ("mixed", include_str!("../../second/examples/mixed.script")),
     ("modes", include_str!("../../second/examples/modes.script")),
+    ("roads", include_str!("../../second/examples/roads.script")),
+    ("roads-blocks", include_str!("../../second/examples/roads-blocks.script")),
+    ("roads-crossing", include_str!("../../second/examples/roads-crossing.script")),
+    ("roads-far", include_str!("../../second/examples/roads-far.script")),
+    ("roads-redrawn", include_str!("../../second/examples/roads-redrawn.script")),
+    ("roads-upright", include_str!("../../second/examples/roads-upright.script")),
     ("two-levels", include_str!("../../second/examples/two-levels.script")),
     ("two-levels-pool", include_str!("../../second/examples/two-levels-pool.script")),
     ("two-levels-split", include_str!("../../second/examples/two-levels-split.script")),

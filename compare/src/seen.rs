@@ -15,7 +15,7 @@ use std::collections::BTreeMap;
 const CALL_REFUSALS: [i32; 4] = [9, 1, 2, NO_SUCH_KIND];
 
 /// Everything that has to be met, by name.
-const WANTED: [&str; 97] = [
+const WANTED: [&str; 98] = [
     "check said 0",
     "check said 1",
     "check said 2",
@@ -113,6 +113,7 @@ const WANTED: [&str; 97] = [
     "every size found inside, one record in the other",
     "every size found enclosing, one record in the other",
     "every way for a record to lie to a window",
+    "tree of four levels without area",
 ];
 
 #[derive(Default)]

@@ -2,8 +2,32 @@
 
 use std::collections::BTreeSet;
 
-use crate::geometry::{compare, Comparison, Rect};
+use crate::geometry::{area, compare, Comparison, Rect};
 use crate::mode::Mode;
+
+/// Choices of insert that a half perimeter decided (document 02, Req 05): with that comparison left
+/// out of its rule, and all others kept, another would have been chosen.
+#[derive(Clone, Debug, Default, PartialEq, Eq)]
+pub struct Decided {
+    pub choose_leaf_by_half_enlargement: u64,
+    pub choose_leaf_by_half_perimeter: u64,
+    pub pick_seeds_by_half_d: u64,
+    pub pick_next_by_half_difference: u64,
+    pub group_by_half_enlargement: u64,
+    pub group_by_half_perimeter: u64,
+}
+
+impl Decided {
+    /// Adds the counts of another.
+    fn add(&mut self, other: &Decided) {
+        self.choose_leaf_by_half_enlargement += other.choose_leaf_by_half_enlargement;
+        self.choose_leaf_by_half_perimeter += other.choose_leaf_by_half_perimeter;
+        self.pick_seeds_by_half_d += other.pick_seeds_by_half_d;
+        self.pick_next_by_half_difference += other.pick_next_by_half_difference;
+        self.group_by_half_enlargement += other.group_by_half_enlargement;
+        self.group_by_half_perimeter += other.group_by_half_perimeter;
+    }
+}
 
 /// What one request did to the tree. Levels are counted from the leaves, leaf 1.
 #[derive(Clone, Debug, Default)]
@@ -14,6 +38,28 @@ pub struct Trace {
     pub levels_condensed: BTreeSet<i64>,
     pub split_by_entry_set_aside: bool,
     pub root_shortened: bool,
+    pub decided: Decided,
+    /// As in the events of the same names.
+    pub flat_inner_chosen: u64,
+    pub flat_inner_split: u64,
+}
+
+impl Trace {
+    /// Takes in the choice of a child, whose level and cover are given, and what decided it.
+    pub fn note_choice(&mut self, level: i64, chosen: &Rect, decided: &Decided) {
+        let flat_inner = level > 1 && area(chosen) == 0 && *decided != Decided::default();
+        self.flat_inner_chosen += u64::from(flat_inner);
+        self.decided.add(decided);
+    }
+
+    /// Takes in the split of a node of a level, and what decided how its nine entries are divided.
+    pub fn note_split(&mut self, level: i64, nine: &[Rect], decided: &Decided) {
+        self.splits += 1;
+        self.levels_split.insert(level);
+        let flat_inner = level > 1 && nine.iter().all(|rect| area(rect) == 0);
+        self.flat_inner_split += u64::from(flat_inner);
+        self.decided.add(decided);
+    }
 }
 
 /// What one search met: the covers of the children that it opened, and the rectangles of all
@@ -41,6 +87,12 @@ pub struct Events {
     pub set_aside_split: u64,
     /// Requests in which an inner root with one child was freed.
     pub root_shortened: u64,
+    /// Choices that a half perimeter decided (several may be in one request).
+    pub decided: Decided,
+    /// Of ChooseLeaf's, those that took an inner node with a cover of no area.
+    pub flat_inner_chosen: u64,
+    /// Inner nodes split whose nine covers all have no area.
+    pub flat_inner_split: u64,
     pub refused_7_insert: u64,
     pub refused_7_delete: u64,
     pub refused_7_update: u64,
@@ -74,6 +126,9 @@ impl Events {
         self.condense_two_levels += u64::from(trace.levels_condensed.len() >= 2);
         self.set_aside_split += u64::from(trace.split_by_entry_set_aside);
         self.root_shortened += u64::from(trace.root_shortened);
+        self.decided.add(&trace.decided);
+        self.flat_inner_chosen += trace.flat_inner_chosen;
+        self.flat_inner_split += trace.flat_inner_split;
     }
 
     /// Takes in what an accepted search met.
@@ -111,7 +166,7 @@ impl Events {
     }
 
     /// Each counter with its name, in a fixed order.
-    pub fn named(&self) -> [(&'static str, u64); 21] {
+    pub fn named(&self) -> [(&'static str, u64); 29] {
         [
             ("node_split", self.node_split),
             ("split_two_levels", self.split_two_levels),
@@ -120,6 +175,14 @@ impl Events {
             ("condense_two_levels", self.condense_two_levels),
             ("set_aside_split", self.set_aside_split),
             ("root_shortened", self.root_shortened),
+            ("choose_leaf_by_half_enlargement", self.decided.choose_leaf_by_half_enlargement),
+            ("choose_leaf_by_half_perimeter", self.decided.choose_leaf_by_half_perimeter),
+            ("pick_seeds_by_half_d", self.decided.pick_seeds_by_half_d),
+            ("pick_next_by_half_difference", self.decided.pick_next_by_half_difference),
+            ("group_by_half_enlargement", self.decided.group_by_half_enlargement),
+            ("group_by_half_perimeter", self.decided.group_by_half_perimeter),
+            ("flat_inner_chosen", self.flat_inner_chosen),
+            ("flat_inner_split", self.flat_inner_split),
             ("refused_7_insert", self.refused_7_insert),
             ("refused_7_delete", self.refused_7_delete),
             ("refused_7_update", self.refused_7_update),
@@ -146,6 +209,9 @@ impl Events {
         self.condense_two_levels += other.condense_two_levels;
         self.set_aside_split += other.set_aside_split;
         self.root_shortened += other.root_shortened;
+        self.decided.add(&other.decided);
+        self.flat_inner_chosen += other.flat_inner_chosen;
+        self.flat_inner_split += other.flat_inner_split;
         self.refused_7_insert += other.refused_7_insert;
         self.refused_7_delete += other.refused_7_delete;
         self.refused_7_update += other.refused_7_update;

@@ -5,7 +5,7 @@ use crate::dice::Dice;
 use crate::geometry::{joint_cover, Rect, COORDINATE_LIMIT};
 use crate::pool::{Pair, RecordNumber};
 use crate::script::{blank_pool, request_line};
-use crate::style::{whole_site, window_one_off, window_within, Style};
+use crate::style::{whole_site, window_one_off, window_within, Style, STYLES};
 
 /// A search of a window.
 type Search = fn([i32; 4]) -> Request;
@@ -26,7 +26,8 @@ pub struct Generator {
 
 impl Generator {
     pub fn new(style: Style, seed: u64, slots: usize) -> Generator {
-        let mut dice = Dice::new(seed.wrapping_mul(8).wrapping_add(style as u64));
+        // Dice of its own for each style and seed.
+        let mut dice = Dice::new(seed.wrapping_mul(STYLES.len() as u64).wrapping_add(style as u64));
         // `duplicates` has 36 pairs in all.
         let most_records = if style == Style::Duplicates { slots.min(4) * 8 } else { slots * 8 };
         let mark = dice.between(6, most_records.max(7) as i64) as usize;

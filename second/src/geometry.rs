@@ -1,7 +1,7 @@
 //! "Two dimensions, whole millimetres, closed rectangles."
 //!
-//! Coordinates are kept in 64 bits and areas in 128, so that nothing here can wrap, not even
-//! for rectangles that a request is refused for.
+//! Coordinates are kept in 64 bits, areas and half perimeters in 128, so that nothing here can
+//! wrap, not even for rectangles that a request is refused for.
 
 /// "Coordinates: -1,000,000,000 to 1,000,000,000."
 pub const COORDINATE_LIMIT: i64 = 1_000_000_000;
@@ -85,6 +85,12 @@ pub fn area(a: &Rect) -> i128 {
     i128::from(a.high_x - a.low_x) * i128::from(a.high_y - a.low_y)
 }
 
+/// "half perimeter (width plus height)" (document 02, Req 05). A road drawn as a line has no area,
+/// but it has this: its length.
+pub fn half_perimeter(a: &Rect) -> i128 {
+    i128::from(a.high_x - a.low_x) + i128::from(a.high_y - a.low_y)
+}
+
 /// The smallest rectangle holding both.
 pub fn joint_cover(a: &Rect, b: &Rect) -> Rect {
     Rect {
@@ -106,7 +112,18 @@ pub fn enlargement(a: &Rect, b: &Rect) -> i128 {
     area(&joint_cover(a, b)) - area(a)
 }
 
+/// The enlargement of A for B, "the same quantity in half perimeter" (Req 05).
+pub fn half_enlargement(a: &Rect, b: &Rect) -> i128 {
+    half_perimeter(&joint_cover(a, b)) - half_perimeter(a)
+}
+
 /// PS1: "d = area of joint cover less both areas, possibly negative".
 pub fn waste(a: &Rect, b: &Rect) -> i128 {
     area(&joint_cover(a, b)) - area(a) - area(b)
+}
+
+/// d, "the same quantity in half perimeter" (Req 05). As d it is "possibly negative": two roads
+/// that lie on each other waste less than nothing.
+pub fn half_waste(a: &Rect, b: &Rect) -> i128 {
+    half_perimeter(&joint_cover(a, b)) - half_perimeter(a) - half_perimeter(b)
 }

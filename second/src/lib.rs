@@ -1,9 +1,9 @@
 //! A second, independent program for the dust map: an R-tree in a pool of 32-bit words.
 //!
 //! Written from the documents (01, and of 02 the zones wholly inside, the map carried between
-//! offices and the surveyor's boxes) and Guttman's 1984 paper alone, plainly and without care for
-//! speed, so that others can be compared with it. Sentences in quotes are the documents'; names
-//! such as CL3 or CT6 are the paper's steps.
+//! offices, the surveyor's boxes and the flat roads) and Guttman's 1984 paper alone, plainly and
+//! without care for speed, so that others can be compared with it. Sentences in quotes are the
+//! documents'; names such as CL3 or CT6 are the paper's steps.
 
 #![forbid(unsafe_code)]
 
@@ -38,7 +38,8 @@ pub use choose::{choose_child, pick_seeds, split_nine};
 pub use events::Events;
 pub use exact::Exact;
 pub use geometry::{
-    area, compare, cover, enlargement, joint_cover, meets, waste, Comparison, Rect,
+    area, compare, cover, enlargement, half_enlargement, half_perimeter, half_waste, joint_cover,
+    meets, waste, Comparison, Rect,
 };
 pub use mode::Mode;
 pub use pool::{blank, pairs_in_leaves, Pair, RecordNumber, Slot};

@@ -15,7 +15,7 @@ const USAGE: &str = "usage: second dustmap
        second carry
        second carry SEED COUNT
        second selftest
-styles: random clustered grid points lines duplicates limits churn";
+styles: random clustered grid points lines duplicates limits churn road roads";
 
 fn main() -> ExitCode {
     let arguments: Vec<String> = std::env::args().skip(1).collect();

@@ -13,10 +13,12 @@ pub enum Style {
     Duplicates,
     Limits,
     Churn,
+    Road,
+    Roads,
 }
 
 /// Every style with its name on the command line.
-pub const STYLES: [(&str, Style); 8] = [
+pub const STYLES: [(&str, Style); 10] = [
     ("random", Style::Random),
     ("clustered", Style::Clustered),
     ("grid", Style::Grid),
@@ -25,6 +27,8 @@ pub const STYLES: [(&str, Style); 8] = [
     ("duplicates", Style::Duplicates),
     ("limits", Style::Limits),
     ("churn", Style::Churn),
+    ("road", Style::Road),
+    ("roads", Style::Roads),
 ];
 
 /// Coordinates at the limits and around the middle.
@@ -47,6 +51,8 @@ impl Style {
             Style::Duplicates => duplicate(dice),
             Style::Limits => at_the_limits(dice),
             Style::Churn => sized(dice, 40, 6),
+            Style::Road => piece_of_road(dice),
+            Style::Roads => piece_of_grid(dice),
         }
     }
 
@@ -130,10 +136,31 @@ fn unit_square(dice: &mut Dice) -> Rect {
 /// A level or upright line, without area.
 fn line(dice: &mut Dice) -> Rect {
     let (x, y, length) = (dice.between(-50, 50), dice.between(-50, 50), dice.between(0, 40));
-    if dice.chance(50) {
-        Rect::new(x, y, x + length, y)
-    } else {
-        Rect::new(x, y, x, y + length)
+    dice.pick(&lines_from(x, y, length))
+}
+
+/// The level and the upright line of a length, by their low end.
+fn lines_from(x: i64, y: i64, length: i64) -> [Rect; 2] {
+    [Rect::new(x, y, x + length, y), Rect::new(x, y, x, y + length)]
+}
+
+/// A piece or a point of one of two long roads, a level and an upright one, that cross in the
+/// middle. So many lie on one line that nodes of several levels have covers without area.
+fn piece_of_road(dice: &mut Dice) -> Rect {
+    let (along, length) = (20 * dice.between(-4, 4), dice.pick(&[0, 0, 0, 20, 20, 40, 100]));
+    dice.pick(&[Rect::new(along, 0, along + length, 0), Rect::new(0, along, 0, along + length)])
+}
+
+/// A piece of a grid of roads: from one crossing to the next, or to the one after; a crossing
+/// alone; a road from end to end. One in eight is a block between roads, with area.
+fn piece_of_grid(dice: &mut Dice) -> Rect {
+    let (x, y) = (10 * dice.between(0, 5), 10 * dice.between(0, 5));
+    match dice.below(8) {
+        0 => Rect::new(x, y, x + dice.pick(&[10, 20]), y + 10),
+        1 => dice.pick(&[Rect::new(0, y, 50, y), Rect::new(x, 0, x, 50)]),
+        2 | 3 => Rect::new(x, y, x, y),
+        4 => dice.pick(&lines_from(x, y, 20)),
+        _ => dice.pick(&lines_from(x, y, 10)),
     }
 }
 

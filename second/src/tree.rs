@@ -2,8 +2,8 @@
 //!
 //! Guttman's steps are named beside the lines that render them.
 
-use crate::choose::{choose_child, split_nine, LEAST_ENTRIES, MOST_ENTRIES};
-use crate::events::Sight;
+use crate::choose::{choose_child_counting, split_nine_counting, LEAST_ENTRIES, MOST_ENTRIES};
+use crate::events::{Decided, Sight};
 use crate::geometry::{compare, Comparison, Rect};
 use crate::mode::Mode;
 use crate::pool::{Entry, Map, Node, Pair, Pointer, Slot};
@@ -148,11 +148,15 @@ impl Map {
     }
 
     /// CL1 to CL4, down to the level asked for: the steps on the way and the node chosen.
-    fn choose_node(&self, rect: &Rect, level: i64) -> (Vec<Step>, Slot) {
+    fn choose_node(&mut self, rect: &Rect, level: i64) -> (Vec<Step>, Slot) {
         let mut path = Vec::new();
         let mut slot = self.root;
         while self.node(slot).level > level {
-            let place = choose_child(&self.node(slot).rects(), rect);
+            let covers = self.node(slot).rects();
+            let mut decided = Decided::default();
+            let place = choose_child_counting(&covers, rect, &mut decided);
+            let level_below = self.node(slot).level - 1;
+            self.trace.note_choice(level_below, &covers[place - 1], &decided);
             path.push(Step { node: slot, place });
             slot = self.node(slot).entries[place - 1].child();
         }
@@ -174,14 +178,14 @@ impl Map {
     /// "Group 1 stays in the old slot. Group 2 takes the lowest free slot."
     fn split(&mut self, slot: Slot, nine: &[Entry]) -> Result<Slot, NoSlotFree> {
         let rects: Vec<Rect> = nine.iter().map(|e| e.rect).collect();
-        let (group_1, group_2) = split_nine(&rects);
+        let mut decided = Decided::default();
+        let (group_1, group_2) = split_nine_counting(&rects, &mut decided);
         let members = |group: Vec<usize>| group.into_iter().map(|p| nine[p - 1]).collect();
         let level = self.node(slot).level;
         let partner = self.lowest_free_slot()?;
         self.node_mut(slot).entries = members(group_1);
         *self.node_mut(partner) = Node { level, entries: members(group_2) };
-        self.trace.splits += 1;
-        self.trace.levels_split.insert(level);
+        self.trace.note_split(level, &rects, &decided);
         Ok(partner)
     }
 

@@ -68,30 +68,35 @@ fn damaged_pools() {
     assert!((1..200).contains(&refused));
 }
 
+/// A script kept beside the program, and what is due.
+macro_rules! kept {
+    ($name:literal) => {
+        (
+            $name,
+            include_str!(concat!("../examples/", $name, ".script")),
+            include_str!(concat!("../examples/", $name, ".out")),
+        )
+    };
+}
+
 #[test]
 fn the_examples_kept() {
     let kept = [
-        (include_str!("../examples/two-levels.script"), include_str!("../examples/two-levels.out")),
-        (
-            include_str!("../examples/two-levels-split.script"),
-            include_str!("../examples/two-levels-split.out"),
-        ),
-        (
-            include_str!("../examples/two-levels-pool.script"),
-            include_str!("../examples/two-levels-pool.out"),
-        ),
-        (
-            include_str!("../examples/delete-refused-7.script"),
-            include_str!("../examples/delete-refused-7.out"),
-        ),
-        (
-            include_str!("../examples/update-refused-7.script"),
-            include_str!("../examples/update-refused-7.out"),
-        ),
-        (include_str!("../examples/mixed.script"), include_str!("../examples/mixed.out")),
-        (include_str!("../examples/modes.script"), include_str!("../examples/modes.out")),
+        kept!("two-levels"),
+        kept!("two-levels-split"),
+        kept!("two-levels-pool"),
+        kept!("delete-refused-7"),
+        kept!("update-refused-7"),
+        kept!("mixed"),
+        kept!("modes"),
+        kept!("roads"),
+        kept!("roads-upright"),
+        kept!("roads-redrawn"),
+        kept!("roads-crossing"),
+        kept!("roads-blocks"),
+        kept!("roads-far"),
     ];
-    for (script, due) in kept {
-        assert_eq!(output(script), due);
+    for (name, script, due) in kept {
+        assert_eq!(output(script), due, "{name}");
     }
 }

@@ -1,4 +1,4 @@
-//! The site examples 1 to 13 of document 01.
+//! The site examples 1 to 13 of document 01, example 8 as document 02 has it.
 
 mod common;
 
@@ -67,10 +67,11 @@ fn example_7_row_and_one_far_off() {
     assert_eq!(split_nine(&nine), (vec![1, 2, 3, 4, 5, 6], vec![9, 7, 8]));
 }
 
+/// "Example 8 becomes groups 1 to 6, then 9, 7, 8" (Req 05).
 #[test]
 fn example_8_nine_points() {
     let nine: Vec<Rect> = (0..9).map(|k| rect([10 * k, 0, 10 * k, 0])).collect();
-    assert_eq!(split_nine(&nine), (vec![1, 3, 5, 7, 9], vec![2, 4, 6, 8]));
+    assert_eq!(split_nine(&nine), (vec![1, 2, 3, 4, 5, 6], vec![9, 7, 8]));
 }
 
 #[test]

@@ -5,6 +5,7 @@ pub mod Unasked
 pub mod Demands
 pub mod Sites
 pub mod Closed
+pub mod ClosedRoads
 pub mod Surveys
 pub mod Files
 pub mod ClosedFiles

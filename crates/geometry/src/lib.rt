@@ -37,6 +37,19 @@ pub fn less_then(less: bool, more: bool, next: bool) -> bool
     or(less, and(!more, next))
 }
 
+// One of two by a test, with no branch: the processor would guess the test wrong too often.
+pub fn place_by(t: bool, a: usize, b: usize) -> usize
+    ensures { λ r. ⌜ r ≡ cond t a b ⌝ }
+{
+    if t { a } else { b }
+}
+
+pub fn key_by(t: bool, m: u64, n: u64) -> u64
+    ensures { λ r. ⌜ r ≡ cond t m n ⌝ }
+{
+    if t { m } else { n }
+}
+
 // 1 where it is so, 0 where it is not: a sum in place of a branch.
 pub fn one_if(b: bool) -> usize
     ensures is { λ r. ⌜ r ≡ cond b 1 0 ⌝ }
@@ -265,4 +278,33 @@ pub fn waste(a: Rect, b: Rect, m: u64, n: u64) -> u64
     ensures { λ s. ⌜ subℕ s 8000000000000000000 ≡ G.waste a b ⌝ }
 {
     area(cover(a, b)) + (8000000000000000000 - (m + n))
+}
+
+// ---- Req 05: the same in half perimeter, asked for only where the areas tie
+
+// Width plus height, 4,000,000,000 at most.
+pub fn half_perimeter(r: Rect) -> u64
+    requires { ⌜ G.valid r ≡ true ⌝ }
+    ensures is { λ s. ⌜ pos s ≡ G.halfPerimeter r ⌝ }
+    ensures small { λ s. ⌜ s ≤ 4000000000 ⌝ }
+{
+    span(r.lowX, r.highX) + span(r.lowY, r.highY)
+}
+
+// The half perimeter of the joint cover less a's.
+pub fn half_enlargement(a: Rect, b: Rect) -> u64
+    requires { ⌜ G.valid a ≡ true ⌝ }
+    requires { ⌜ G.valid b ≡ true ⌝ }
+    ensures { λ s. ⌜ pos s ≡ G.halfEnlargement a b ⌝ }
+{
+    half_perimeter(cover(a, b)) - half_perimeter(a)
+}
+
+// d in half perimeter. It may be negative, and is counted from -8,000,000,000.
+pub fn half_waste(a: Rect, b: Rect) -> u64
+    requires { ⌜ G.valid a ≡ true ⌝ }
+    requires { ⌜ G.valid b ≡ true ⌝ }
+    ensures { λ s. ⌜ subℕ s 8000000000 ≡ G.halfWaste a b ⌝ }
+{
+    half_perimeter(cover(a, b)) + (8000000000 - (half_perimeter(a) + half_perimeter(b)))
 }

@@ -8,14 +8,14 @@ use Rattle.rules.specs.declared.Query.{Query}
 use Rattle.rules.specs.declared.Surveyed.{Surveyed}
 use Rattle.rules.specs.Lists.{those, every, oneOf, joined, without, earliestBest, total, upFrom, same, lessThen}
 use Rattle.rules.specs.Numbers.{inRange, goodNumber}
-use Rattle.rules.specs.Geometry.{valid, meets, smaller, larger, cover, coverAll, area, enlargement, waste, sameRect, samePair}
+use Rattle.rules.specs.Geometry.{valid, meets, smaller, larger, cover, coverAll, area, enlargement, waste, halfPerimeter, halfEnlargement, halfWaste, sameRect, samePair}
 use Rattle.rules.specs.Compare.{liesIn, meetingAs, compared, isMeeting, isInside, isEnclosing, isEqual, wanted, exactPair}
 use Rattle.rules.specs.Pool.{sameSlot, slotNumbers, nodeAt, entriesAt, entryFrom, entryAt, childOf, numberOf, recordOf, leafEntry, rects, coverOf, entryFor, isLeaf, stored, held, freeFrom, lowestFree, freeCount, putNode, putEntries, zeroSlot, putRoot, putRecords, tighten, blankPool}
 use Rattle.rules.specs.Layout.{slotCount, validLength, pointerWord, entryWords, padded, nodeWords, headWords, words, natural, wordAt, runs, pointerOf, rectOf, entryOf, nodeOf, read, sameWords, blank}
 use Rattle.rules.specs.Sound.{isSlot, inUse, isRoot, heightSound, rootSound, levelsSound, fewest, countSound, innerEntries, parents, oneParent, freeEmpty, recordsSound, leafEntrySound, innerEntrySound, nodeSound, usedSound, shapeSound, soundPool, nothingElse, sound}
 use Rattle.rules.specs.Search.{meeting, listedBy, foundIn, openedIn, before, placed, ordered, found, opened}
 use Rattle.rules.specs.Choose.{rectFrom, takesBetter, earliest, chooseChild}
-use Rattle.rules.specs.Split.{pairsFrom, wasteOf, pickSeeds, coverGroup, leaving, opening, joinOne, joinTwo, allJoinOne, allJoinTwo, needsAll, distribute, preference, mostPreferring, pickNext, secondFirst, joinsTwo, quadraticGroups, halves, quadraticSplit}
+use Rattle.rules.specs.Split.{pairsFrom, wasteOf, halfWasteOf, wastesMore, pickSeeds, coverGroup, leaving, opening, joinOne, joinTwo, allJoinOne, allJoinTwo, needsAll, distribute, preference, halfPreference, prefersMore, mostPreferring, pickNext, secondFirst, joinsTwo, quadraticGroups, halves, quadraticSplit}
 use Rattle.rules.specs.Insert.{splitInto, newRoot, growTree, install, adjust, insertBelow, insertAt, insertRecord}
 use Rattle.rules.specs.Delete.{findEntry, orLater, findChild, findLeaf, takeOut, asides, relieve, condense, shorten, shortened, reinsert, putBack, deleteRecord, updateRecord}
 use Rattle.rules.specs.Answers.{answerOf, verdictNumber, firstRow}
@@ -27,7 +27,7 @@ use Rattle.rules.specs.Doubles.{unit, isNumber, exactOf, valueOf, floorO
 use Rattle.rules.specs.Survey.{outward, spread, further, inOrder, goodBox, notNegative, moderate, goodDisc, finish, boxWindow, discWindow, queryWindow, surveyNumber, surveyWords}
 
 unfoldable pub document01 : List ℕ → List ℕ
-unfolding those every oneOf joined without earliestBest total upFrom same lessThen inRange goodNumber valid meets smaller larger cover coverAll area enlargement waste sameRect samePair liesIn meetingAs compared isMeeting isInside isEnclosing isEqual wanted exactPair sameSlot slotNumbers nodeAt entriesAt entryFrom entryAt childOf numberOf recordOf leafEntry rects coverOf entryFor isLeaf stored held freeFrom lowestFree freeCount putNode putEntries zeroSlot putRoot putRecords tighten blankPool slotCount validLength pointerWord entryWords padded nodeWords headWords words natural wordAt runs pointerOf rectOf entryOf nodeOf read sameWords blank isSlot inUse isRoot heightSound rootSound levelsSound fewest countSound innerEntries parents oneParent freeEmpty recordsSound leafEntrySound innerEntrySound nodeSound usedSound shapeSound soundPool nothingElse sound meeting listedBy foundIn openedIn before placed ordered found opened rectFrom takesBetter earliest chooseChild pairsFrom wasteOf pickSeeds coverGroup leaving opening joinOne joinTwo allJoinOne allJoinTwo needsAll distribute preference mostPreferring pickNext secondFirst joinsTwo quadraticGroups halves quadraticSplit splitInto newRoot growTree install adjust insertBelow insertAt insertRecord findEntry orLater findChild findLeaf takeOut asides relieve condense shorten shortened reinsert putBack deleteRecord updateRecord answerOf verdictNumber firstRow asked afterChange insertFault deleteFault updateFault searchFault request afterTurn doRequest doRequests isRequest callFault refused served starting callBy call byteAt pairValue signed wordValue wordValues frameOf nextFrame rectIn requestIn ofKind windowIn frameRequest digits natShown intShown line answerLine recordLine listedOf replyLines badLine frameCall callPrinted printed dustmap
+unfolding those every oneOf joined without earliestBest total upFrom same lessThen inRange goodNumber valid meets smaller larger cover coverAll area enlargement waste halfPerimeter halfEnlargement halfWaste sameRect samePair liesIn meetingAs compared isMeeting isInside isEnclosing isEqual wanted exactPair sameSlot slotNumbers nodeAt entriesAt entryFrom entryAt childOf numberOf recordOf leafEntry rects coverOf entryFor isLeaf stored held freeFrom lowestFree freeCount putNode putEntries zeroSlot putRoot putRecords tighten blankPool slotCount validLength pointerWord entryWords padded nodeWords headWords words natural wordAt runs pointerOf rectOf entryOf nodeOf read sameWords blank isSlot inUse isRoot heightSound rootSound levelsSound fewest countSound innerEntries parents oneParent freeEmpty recordsSound leafEntrySound innerEntrySound nodeSound usedSound shapeSound soundPool nothingElse sound meeting listedBy foundIn openedIn before placed ordered found opened rectFrom takesBetter earliest chooseChild pairsFrom wasteOf halfWasteOf wastesMore pickSeeds coverGroup leaving opening joinOne joinTwo allJoinOne allJoinTwo needsAll distribute preference halfPreference prefersMore mostPreferring pickNext secondFirst joinsTwo quadraticGroups halves quadraticSplit splitInto newRoot growTree install adjust insertBelow insertAt insertRecord findEntry orLater findChild findLeaf takeOut asides relieve condense shorten shortened reinsert putBack deleteRecord updateRecord answerOf verdictNumber firstRow asked afterChange insertFault deleteFault updateFault searchFault request afterTurn doRequest doRequests isRequest callFault refused served starting callBy call byteAt pairValue signed wordValue wordValues frameOf nextFrame rectIn requestIn ofKind windowIn frameRequest digits natShown intShown line answerLine recordLine listedOf replyLines badLine frameCall callPrinted printed dustmap
 document01 bytes = dustmap bytes
 
 unfoldable pub document02 : Query → Surveyed

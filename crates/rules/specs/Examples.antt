@@ -34,7 +34,7 @@ pub data Says : Type 0 where
   theAnswers : List Answer → Says
   theAnswer : Answer → List Record → Says
 
--- an example's number, what the rules say about it, and what document 01 says
+-- an example's number, what the rules say about it, and what document 01 says (of example 8, Req 05)
 pub record Example : Type 0 where
   pub number : ℕ
   pub rules : Says
@@ -97,7 +97,8 @@ table =
     ∷ record { number = 6; rules = amount (waste square square); document = amount (negsuc 99) }
     ∷ record { number = 6; rules = amount (waste square (box 20 0 30 10)); document = amount (pos 100) }
     ∷ record { number = 7; rules = split row7; document = theGroups (1 ∷ 2 ∷ 3 ∷ 4 ∷ 5 ∷ 6 ∷ []) (9 ∷ 7 ∷ 8 ∷ []) }
-    ∷ record { number = 8; rules = split points; document = theGroups (1 ∷ 3 ∷ 5 ∷ 7 ∷ 9 ∷ []) (2 ∷ 4 ∷ 6 ∷ 8 ∷ []) }
+    -- "Example 8 becomes groups 1 to 6, then 9, 7, 8." (Req 05)
+    ∷ record { number = 8; rules = split points; document = theGroups (1 ∷ 2 ∷ 3 ∷ 4 ∷ 5 ∷ 6 ∷ []) (9 ∷ 7 ∷ 8 ∷ []) }
     ∷ record { number = 9; rules = levelsOf (read (then 0 [] .pool)); document = theLevels 3 (1 ∷ 1 ∷ 2 ∷ []) }
     ∷ record {
       number = 9;
@@ -137,7 +138,7 @@ table =
     }
     ∷ []
 
--- "Site examples": the rules say what document 01 says, in every row
+-- "Site examples": the rules say what the documents say, in every row
 pub site-examples : map (λ (e : Example). e .rules) table ≡ map (λ (e : Example). e .document) table
 unfolding document01
 site-examples = refl

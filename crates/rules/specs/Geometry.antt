@@ -1,7 +1,7 @@
 -- "Geometry": closed rectangles in whole millimetres. Areas and differences are whole numbers that may be negative.
 use mathlib.Core.Bool.{Bool, cond, _&&_}
 use mathlib.Core.List.{List, [], _∷_, foldl}
-use lib.IntN.{ℤ, pos, _-ℤ_, _*ℤ_}
+use lib.IntN.{ℤ, pos, _+ℤ_, _-ℤ_, _*ℤ_}
 use lib.Signed.{leZ}
 use Rattle.rules.specs.declared.Rect.{Rect}
 use Rattle.rules.specs.declared.Record.{Record}
@@ -55,6 +55,16 @@ enlargement a b = area (cover a b) -ℤ area a
 -- PS1: "d = area of joint cover less both areas, possibly negative"
 unfoldable pub waste : Rect → Rect → ℤ
 waste a b = area (cover a b) -ℤ area a -ℤ area b
+
+-- Req 05: "half perimeter (width plus height)", and the same quantities in it: its enlargement, and its d
+unfoldable pub halfPerimeter : Rect → ℤ
+halfPerimeter r = (r .highX -ℤ r .lowX) +ℤ (r .highY -ℤ r .lowY)
+
+unfoldable pub halfEnlargement : Rect → Rect → ℤ
+halfEnlargement a b = halfPerimeter (cover a b) -ℤ halfPerimeter a
+
+unfoldable pub halfWaste : Rect → Rect → ℤ
+halfWaste a b = halfPerimeter (cover a b) -ℤ halfPerimeter a -ℤ halfPerimeter b
 
 -- the same rectangle; the same pair of number and rectangle
 unfoldable pub sameRect : Rect → Rect → Bool

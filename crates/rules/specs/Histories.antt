@@ -4,6 +4,8 @@ pub mod TwoLevels
 pub mod DeleteRefused
 pub mod UpdateRefused
 pub mod Modes
+pub mod Flat
+pub mod Upright
 use mathlib.Core.List.{List, _++_, map}
 use Prim.Native.Nat.{ℕ}
 use lib.ListN.{length, take, replicate}

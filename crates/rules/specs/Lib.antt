@@ -1,5 +1,5 @@
 -- Document 01 as definitions, in the document's order. `call` in Call.antt is the top, and everything else is a part of it; of document 02,
--- Compare is Req 01, File is Req 02, and Doubles and Survey are Req 03.
+-- Compare is Req 01, File is Req 02, Doubles and Survey are Req 03, and Req 05 is in Geometry, Choose and Split.
 pub mod Lists
 pub mod Numbers
 pub mod Geometry
@@ -24,5 +24,6 @@ pub mod Computed
 pub mod Histories
 pub mod Examples
 pub mod ModeExamples
+pub mod RoadExamples
 pub mod FileExamples
 pub mod SurveyExamples

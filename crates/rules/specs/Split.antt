@@ -5,13 +5,12 @@ use mathlib.Core.List.{List, [], _∷_, _++_, map}
 use Prim.Native.Nat.{ℕ, zero, suc, _+_, _-_}
 use lib.ListN.{length}
 use lib.Dec.{ltb, eqb}
-use lib.IntN.{ℤ, natAbs, _-ℤ_}
-use lib.Signed.{ltZ}
+use lib.IntN.{ℤ, pos, natAbs, _-ℤ_}
 use Rattle.rules.specs.declared.Rect.{Rect}
 use Rattle.rules.specs.declared.Entry.{Entry}
 use Rattle.rules.specs.Lists.{those, earliestBest, upFrom, lessThen}
 use Rattle.rules.specs.Numbers.{least}
-use Rattle.rules.specs.Geometry.{coverAll, area, enlargement, waste}
+use Rattle.rules.specs.Geometry.{coverAll, area, enlargement, waste, halfPerimeter, halfEnlargement, halfWaste}
 use Rattle.rules.specs.Pool.{entryFrom, rects}
 use Rattle.rules.specs.Choose.{rectFrom, earliest}
 
@@ -30,13 +29,20 @@ unfoldable pub pairsFrom : ℕ → ℕ → List Seeds
 pairsFrom i zero = []
 pairsFrom i (suc n) = map (seeds i) (upFrom (suc i) n) ++ pairsFrom (suc i) n
 
--- d of a pair
+-- d of a pair, and its d in half perimeter
 unfoldable pub wasteOf : List Rect → Seeds → ℤ
 wasteOf rs a = waste (rectFrom rs (a .first)) (rectFrom rs (a .second))
 
--- PS2: "largest d, then earliest first member, then earliest second"
+unfoldable pub halfWasteOf : List Rect → Seeds → ℤ
+halfWasteOf rs a = halfWaste (rectFrom rs (a .first)) (rectFrom rs (a .second))
+
+-- PS2: "largest d"; Req 05: where it ties, d in half perimeter. The pair a wastes more than b
+unfoldable pub wastesMore : List Rect → Seeds → Seeds → Bool
+wastesMore rs a b = lessThen (wasteOf rs b) (wasteOf rs a) (lessThen (halfWasteOf rs b) (halfWasteOf rs a) false)
+
+-- PS2: ".. then earliest first member, then earliest second"
 unfoldable pub pickSeeds : List Rect → Seeds
-pickSeeds rs = earliestBest (λ a b. ltZ (wasteOf rs b) (wasteOf rs a)) (seeds 0 1) (pairsFrom 0 (length rs))
+pickSeeds rs = earliestBest (wastesMore rs) (seeds 0 1) (pairsFrom 0 (length rs))
 
 -- ---- the groups
 
@@ -93,21 +99,32 @@ distribute next toTwo (suc n) g =
 
 -- ---- PickNext
 
--- PN1: the "absolute difference of the two enlargements", of groups with covers a and b
-unfoldable pub preference : List Rect → Rect → Rect → ℕ → ℕ
-preference rs a b i = natAbs (enlargement a (rectFrom rs i) -ℤ enlargement b (rectFrom rs i))
+-- PN1: the "absolute difference of the two enlargements" for r, of groups with covers a and b; and that in half perimeter
+unfoldable pub preference : Rect → Rect → Rect → ℤ
+preference a b r = pos (natAbs (enlargement a r -ℤ enlargement b r))
 
--- PN2: "largest .., then earliest"
+unfoldable pub halfPreference : Rect → Rect → Rect → ℤ
+halfPreference a b r = pos (natAbs (halfEnlargement a r -ℤ halfEnlargement b r))
+
+-- PN2: "largest .."; Req 05: where it ties, that in half perimeter. r prefers one of the groups more than s does
+unfoldable pub prefersMore : Rect → Rect → Rect → Rect → Bool
+prefersMore a b r s = lessThen (preference a b s) (preference a b r) (lessThen (halfPreference a b s) (halfPreference a b r) false)
+
+-- PN2: ".. then earliest"
 unfoldable pub mostPreferring : List Rect → Rect → Rect → List ℕ → ℕ
-mostPreferring rs a b left = earliest (λ i j. ltb (preference rs a b j) (preference rs a b i)) left
+mostPreferring rs a b left = earliest (λ i j. prefersMore a b (rectFrom rs i) (rectFrom rs j)) left
 
 unfoldable pub pickNext : List Rect → Groups → ℕ
 pickNext rs g = mostPreferring rs (coverGroup rs (g .one)) (coverGroup rs (g .two)) (g .left)
 
--- "It joins the group of least enlargement, then smaller area, then fewer entries, then group 1.": whether group 2, of cover b and n
--- entries, goes before group 1, of cover a and m entries
+-- "It joins the group of least enlargement, then smaller area, then fewer entries, then group 1."; Req 05: where one of the first two ties,
+-- "the same quantity in half perimeter": whether group 2, of cover b and n entries, goes before group 1, of cover a and m entries
 unfoldable pub secondFirst : Rect → Rect → ℕ → ℕ → Rect → Bool
-secondFirst a b m n r = lessThen (enlargement b r) (enlargement a r) (lessThen (area b) (area a) (ltb n m))
+secondFirst a b m n r =
+    lessThen (enlargement b r) (enlargement a r)
+    (lessThen (halfEnlargement b r) (halfEnlargement a r)
+    (lessThen (area b) (area a)
+    (lessThen (halfPerimeter b) (halfPerimeter a) (ltb n m))))
 
 unfoldable pub joinsTwo : List Rect → Groups → ℕ → Bool
 joinsTwo rs g i =

@@ -3,18 +3,18 @@
 use mathlib.Core.Path.{_≡_, refl, sym, ap, ap₂, _∙_}
 use mathlib.Core.Bool.{Bool, true, false, cond}
 use Prim.Native.Nat.{ℕ, suc, _≤_, _<_, _*_, _-_, _+_, min, max}
-use native.Mathlib.Nat.{mul-le-mul}
+use native.Mathlib.Nat.{mul-le-mul, add-le-add}
 use native.Mathlib.Omega.{arith}
 use lib.Dec.{ltb}
-use lib.IntN.{ℤ, pos, subℕ}
+use lib.IntN.{ℤ, pos, subℕ, _-ℤ_}
 use lib.Signed.{leZ, ltZ}
 use borrow.Author.Tests.{leb-true, leb-false, le-leb}
 use Rattle.rules.specs.declared.Rect.{Rect}
 use Rattle.rules.specs.Numbers.{inRange}
-use Rattle.rules.specs.Geometry.{valid, smaller, larger, cover, area}
+use Rattle.rules.specs.Geometry.{valid, smaller, larger, cover, area, halfPerimeter}
 use Rattle.rules_laws.proofs.Bools.{and-both, leb-same}
-use Rattle.rules_laws.proofs.Rules.{chosen}
-use Rattle.rules_laws.proofs.Ints.{off, off-le, off-order, le-off, sub-off, sub-lt}
+use Rattle.rules_laws.proofs.Rules.{Alike, chosen}
+use Rattle.rules_laws.proofs.Ints.{off, off-le, off-order, le-off, sub-off, sub-lt, sub-pos, sub-same, sub-minus, pos-minus}
 
 -- ---- the parts of `valid`
 
@@ -63,6 +63,9 @@ both a b = record { lx = min (a .lx) (b .lx); ly = min (a .ly) (b .ly); hx = max
 size : Box → ℕ
 size b = (b .hx - b .lx) * (b .hy - b .ly)
 
+half : Box → ℕ
+half b = (b .hx - b .lx) + (b .hy - b .ly)
+
 box-good : {r : Rect} → Valid r → Good (boxOf r)
 unfolding boxOf
 box-good {r} v = record {
@@ -83,6 +86,14 @@ size-bound g = mul-le-mul {n₂ = 2000000000} {m₂ = 2000000000} (omega arith) 
 size-grows : {a b : Box} → Good a → Good b → size a ≤ size (both a b)
 unfolding size both
 size-grows g h = mul-le-mul (omega arith) (omega arith)
+
+half-bound : {b : Box} → Good b → half b ≤ 4000000000
+unfolding half
+half-bound g = omega arith
+
+half-grows : {a b : Box} → Good a → Good b → half a ≤ half (both a b)
+unfolding half both
+half-grows g h = add-le-add (omega arith) (omega arith)
 
 -- ---- carried over
 
@@ -134,31 +145,63 @@ area-box : {r : Rect} → Valid r → area r ≡ pos (size (boxOf r))
 unfolding boxOf size area
 area-box {r} v = rw (sub-off (r .highX) (r .lowX) (v .highX) (v .lowX) (box-good v .x), sub-off (r .highY) (r .lowY) (v .highY) (v .lowY) (box-good v .y))
 
+half-box : {r : Rect} → Valid r → halfPerimeter r ≡ pos (half (boxOf r))
+unfolding boxOf half halfPerimeter
+half-box {r} v = rw (sub-off (r .highX) (r .lowX) (v .highX) (v .lowX) (box-good v .x), sub-off (r .highY) (r .lowY) (v .highY) (v .lowY) (box-good v .y))
+
 -- ---- what the code and the crates above need
 
 pub cover-valid : (a b : Rect) → valid a ≡ true → valid b ≡ true → valid (cover a b) ≡ true
 cover-valid a b v w = parts-valid (cover-parts (valid-parts a v) (valid-parts b w))
 
--- a natural that is an area is at most 4,000,000,000,000,000,000
-pub area-small : (r : Rect) (n : ℕ) → valid r ≡ true → pos n ≡ area r → n ≤ 4000000000000000000
-area-small r n v e =
-    let q = area-box (valid-parts r v) in
-    let same : n ≡ size (boxOf r) = cc in
-    rw same (size-bound (box-good (valid-parts r v)))
+-- a measure of valid rectangles: a natural that is one is at most k, and no more than that of a cover
+pub record Measure (k : ℕ) (measure : Rect → ℤ) : Type 0 where
+  pub small : (r : Rect) (n : ℕ) → valid r ≡ true → pos n ≡ measure r → n ≤ k
+  pub grows : (a b : Rect) (n m : ℕ) → valid a ≡ true → valid b ≡ true → pos n ≡ measure a → pos m ≡ measure (cover a b) → n ≤ m
 
--- .. and no more than that of a cover
-pub area-grows : (a b : Rect) (n m : ℕ) → valid a ≡ true → valid b ≡ true → pos n ≡ area a → pos m ≡ area (cover a b) → n ≤ m
-area-grows a b n m v w e f =
-    let va = valid-parts a v in
-    let vb = valid-parts b w in
-    let q = area-box va in
-    let k = area-box (cover-parts va vb) ∙ ap (λ c. pos (size c)) (cover-box va vb) in
-    let small : n ≡ size (boxOf a) = cc in
-    let large : m ≡ size (both (boxOf a) (boxOf b)) = cc in
-    rw (small, large) (size-grows (box-good va) (box-good vb))
+-- .. from that of boxes
+module _ {k : ℕ} {measure : Rect → ℤ} {f : Box → ℕ} (is : (r : Rect) → Valid r → measure r ≡ pos (f (boxOf r)))
+    (bound : (b : Box) → Good b → f b ≤ k) (larger : (a b : Box) → Good a → Good b → f a ≤ f (both a b)) where
+  of-boxes : Measure k measure
+  of-boxes = record { small = small; grows = grows }
+    where
+      small : (r : Rect) (n : ℕ) → valid r ≡ true → pos n ≡ measure r → n ≤ k
+      small r n v e =
+          let q = is r (valid-parts r v) in
+          let same : n ≡ f (boxOf r) = cc in
+          rw same (bound _ (box-good (valid-parts r v)))
 
--- d counted from -8,000,000,000,000,000,000 compares as d does
-pub waste-lt : (m n : ℕ) (d e : ℤ) → subℕ m 8000000000000000000 ≡ d → subℕ n 8000000000000000000 ≡ e → ltZ d e ≡ ltb m n
-waste-lt m n d e p q =
-    ap₂ ltZ (sym p) (sym q) ∙ sub-lt m 8000000000000000000 n 8000000000000000000
-    ∙ leb-same (suc (m + 8000000000000000000)) (n + 8000000000000000000) (suc m) n (omega arith) (omega arith)
+      grows : (a b : Rect) (n m : ℕ) → valid a ≡ true → valid b ≡ true → pos n ≡ measure a → pos m ≡ measure (cover a b) → n ≤ m
+      grows a b n m v w e h =
+          let va = valid-parts a v in
+          let vb = valid-parts b w in
+          let q = is a va in
+          let r = is (cover a b) (cover-parts va vb) ∙ ap (λ c. pos (f c)) (cover-box va vb) in
+          let less : n ≡ f (boxOf a) = cc in
+          let more : m ≡ f (both (boxOf a) (boxOf b)) = cc in
+          rw (less, more) (larger _ _ (box-good va) (box-good vb))
+
+pub areas : Measure 4000000000000000000 area
+areas = of-boxes (λ r. area-box) (λ b. size-bound) (λ a b. size-grows)
+
+pub halves : Measure 4000000000 halfPerimeter
+halves = of-boxes (λ r. half-box) (λ b. half-bound) (λ a b. half-grows)
+
+-- two rectangles by a measure, and their cover: the enlargement; and d, counted from -2k
+module _ {k : ℕ} {measure : Rect → ℤ} (s : Measure k measure) (a b : Rect) (v : valid a ≡ true) (w : valid b ≡ true) (n m : ℕ)
+    (p : pos n ≡ measure a) (q : pos m ≡ measure (cover a b)) where
+  pub enlarged : pos (m - n) ≡ measure (cover a b) -ℤ measure a
+  enlarged = sym (sub-pos m n (s .grows a b n m v w p q)) ∙ sym (pos-minus m n) ∙ ap₂ _-ℤ_ q p
+
+  pub wasted : (l : ℕ) → pos l ≡ measure b → subℕ (m + (2 * k - (n + l))) (2 * k) ≡ measure (cover a b) -ℤ measure a -ℤ measure b
+  wasted l e =
+      sub-same (m + (2 * k - (n + l))) (2 * k) m (n + l) (omega (arith, s .small a n v p, s .small b l w e))
+      ∙ sym (sub-minus m n l) ∙ ap₂ _-ℤ_ (sym (pos-minus m n) ∙ ap₂ _-ℤ_ q p) e
+
+-- d counted from -k compares as d does
+waste-lt : (k m n : ℕ) (d e : ℤ) → subℕ m k ≡ d → subℕ n k ≡ e → ltZ d e ≡ ltb m n
+waste-lt k m n d e p q =
+    ap₂ ltZ (sym p) (sym q) ∙ sub-lt m k n k ∙ leb-same (suc (m + k)) (n + k) (suc m) n (omega arith) (omega arith)
+
+pub as-wastes : (k : ℕ) {m n : ℕ} {d e : ℤ} → subℕ m k ≡ d → subℕ n k ≡ e → Alike m n d e
+as-wastes k {m} {n} {d} {e} p q = record { less = waste-lt k m n d e p q; more = waste-lt k n m e d q p }

@@ -128,6 +128,9 @@ unfolding lessThen
 then-same a b next p = rw (p, not-itself ltZ-strict b)
 
 -- not better: at most as good by the one rule, and where that knows no difference, not better by the next
+pub not-next : {a b : ℤ} {next : Bool} → b ≡ a → lessThen a b next ≡ false → next ≡ false
+not-next {a} {b} {next} e h = sym (then-same a b next (sym e)) ∙ h
+
 pub at-most : (a b : ℤ) (next : Bool) → lessThen a b next ≡ false → leZ b a ≡ true
 at-most a b next h = go (ltZ a b) refl
   where

@@ -6,24 +6,19 @@ use mathlib.Core.List.{List, _∷_}
 use Prim.Native.Nat.{ℕ, suc, _+_, _-_, _≤_, _<_}
 use native.Mathlib.Omega.{arith}
 use native.Mathlib.Decide.{ℕ-discrete}
-use lib.Dec.{ltb}
 use lib.ListN.{length, take, getD, set}
 use lib.Seq.{length-take-le, getD-take}
-use lib.IntN.{pos}
 use Rattle.rules.specs.declared.Rect.{Rect}
-use Rattle.rules.specs.Lists.{without, lessThen}
-use Rattle.rules.specs.Geometry.{area, enlargement}
+use Rattle.rules.specs.Lists.{without}
 use Rattle.rules.specs.Choose.{rectFrom}
 use Rattle.rules.specs.Split as S
 use Rattle.rules_laws.proofs.Orders.{never-both}
 use Rattle.rules_laws.proofs.Parts.{length-without}
-use Rattle.rules_laws.proofs.Places.{each-at}
 use Rattle.split.specs.declared.Extent.{Extent}
 use Rattle.split.specs.declared.Extents.{Extents}
 use Rattle.split.specs.declared.Joining.{Joining}
 use Rattle.split.specs.State.{ClosedUp, Left, Grows, ExtentOk, groupsOf, Assigned, Next, ends}
 use Rattle.split.proofs.Lefts.{leaving-at, first-left, closed-left, closed-leaving, closed-grows}
-use Rattle.split.proofs.Nexts.{preferred}
 use Rattle.split.proofs.Joins.{more-places}
 use Rattle.split.proofs.Steps.{needs-not, next-one, next-two, forced-one, forced-two}
 
@@ -61,26 +56,17 @@ module _ {rs : List Rect} {t : Extents} {left : List ℕ} {n : ℕ} {one two gro
   rest-size : length (without 0 places) ≡ n - 1
   rest-size = omega (arith, length-without places 0 (omega (arith, size-left)), size-left)
 
-  -- PickNext and the choice of group, on what is kept
+  -- PickNext and the choice of group, of the covers that are kept
   next-is : (k : ℕ) → k ≡ S.mostPreferring rs (t .one .cover) (t .two .cover) places → k ≡ S.pickNext rs g
   unfolding S.pickNext groupsOf
   next-is k e = e ∙ ap₂ (λ a b. S.mostPreferring rs a b places) (o .first .cover) (o .second .cover)
 
-  choice-is : (at : ℕ) → at < n
-      → lessThen (pos (getD growTwo (getD left at 0) 0)) (pos (getD growOne (getD left at 0) 0))
-      (lessThen (pos (t .two .area)) (pos (t .one .area)) (ltb (t .two .count) (t .one .count))) ≡ S.joinsTwo rs g (getD left at 0)
-  unfolding S.joinsTwo S.secondFirst groupsOf
-  choice-is at l =
-      let k = getD left at 0 in
-      let e = getD-take n left at 0 l in
-      let m : at < length places = omega (arith, size-left) in
-      let p = subst (λ (i : ℕ). pos (getD growOne i 0) ≡ enlargement (t .one .cover) (rectFrom rs i)) e
-      (each-at (λ i. pos (getD growOne i 0) ≡ enlargement (t .one .cover) (rectFrom rs i)) places at 0 m (o .growsOne .is)) in
-      let q = subst (λ (i : ℕ). pos (getD growTwo i 0) ≡ enlargement (t .two .cover) (rectFrom rs i)) e
-      (each-at (λ i. pos (getD growTwo i 0) ≡ enlargement (t .two .cover) (rectFrom rs i)) places at 0 m (o .growsTwo .is)) in
-      rw (p, q, o .first .area, o .second .area, size-one, size-two, ← o .first .cover, ← o .second .cover)
+  choice-is : (k : ℕ)
+      → S.secondFirst (t .one .cover) (t .two .cover) (t .one .count) (t .two .count) (rectFrom rs k) ≡ S.joinsTwo rs g k
+  unfolding S.joinsTwo groupsOf
+  choice-is k = rw (size-one, size-two, ← o .first .cover, ← o .second .cover)
 
-  module _ {r : Joining} (x : Next t left n growOne growTwo r) where
+  module _ {r : Joining} (x : Next rs t left n r) where
     abbrev place : ℕ
     place = getD left (r .at) 0
 
@@ -97,10 +83,10 @@ module _ {rs : List Rect} {t : Extents} {left : List ℕ} {n : ℕ} {one two gro
       not-two = needs-not (take (t .two .count) two) places (λ e. q (sym (ap₂ _+_ size-two size-left) ∙ e))
 
       next-place : place ≡ S.pickNext rs g
-      next-place = next-is place (x .place p q ∙ preferred (o .growsOne) (o .growsTwo))
+      next-place = next-is place (x .place p q)
 
       next-group : r .second ≡ S.joinsTwo rs g (S.pickNext rs g)
-      next-group = x .group p q ∙ choice-is (r .at) (x .there) ∙ ap (S.joinsTwo rs g) next-place
+      next-group = x .group p q ∙ choice-is place ∙ ap (S.joinsTwo rs g) next-place
 
     pub one-ends : r .second ≡ false → ends rs n g ≡ ends rs (n - 1) (S.joinOne place g)
     unfolding ends groupsOf

@@ -4,17 +4,16 @@ use mathlib.Core.Path.{_≡_}
 use mathlib.Core.Bool.{Bool, true, false}
 use mathlib.Core.List.{List, map}
 use Prim.Native.Nat.{ℕ, suc, _+_, _-_, _*_, _≤_, _<_}
-use lib.Dec.{ltb}
-use lib.ListN.{length, take, getD, set}
+use lib.ListN.{length, take, drop, getD, set}
 use lib.IntN.{ℤ, pos, subℕ}
-use lib.Signed.{ltZ}
 use Rattle.rules.specs.declared.Rect.{Rect}
-use Rattle.rules.specs.Lists.{upFrom, lessThen}
+use Rattle.rules.specs.Lists.{upFrom, earliestBest}
 use Rattle.rules.specs.Geometry.{valid, area, enlargement}
-use Rattle.rules.specs.Choose.{rectFrom, earliest}
+use Rattle.rules.specs.Choose.{rectFrom}
 use Rattle.rules.specs.Split as S
 use Rattle.rules_laws.proofs.Places.{Each, Ordered}
 use Rattle.split.specs.declared.KeyedSeeds.{KeyedSeeds}
+use Rattle.split.specs.declared.KeyedPlace.{KeyedPlace}
 use Rattle.split.specs.declared.Extent.{Extent}
 use Rattle.split.specs.declared.Extents.{Extents}
 use Rattle.split.specs.declared.Joining.{Joining}
@@ -54,9 +53,6 @@ pub record Areas (rs : List Rect) (areas : List ℕ) : Type 0 where
   pub nine : length areas ≡ 9
   pub is : (i : ℕ) → i < 9 → pos (getD areas i 0) ≡ area (rectFrom rs i)
 
-abbrev pub wastesMore : List Rect → S.Seeds → S.Seeds → Bool
-wastesMore rs a b = ltZ (S.wasteOf rs b) (S.wasteOf rs a)
-
 abbrev pub seedsOf : KeyedSeeds → S.Seeds
 seedsOf p = S.seeds (p .first) (p .second)
 
@@ -65,6 +61,10 @@ pub record Keyed (rs : List Rect) (p : KeyedSeeds) : Type 0 where
   pub order : p .first < p .second
   pub inside : p .second < 9
   pub key : subℕ (p .key) 8000000000000000000 ≡ S.wasteOf rs (seedsOf p)
+
+-- the best of s and the pairs of i with the places from j on
+abbrev pub row : List Rect → ℕ → S.Seeds → ℕ → S.Seeds
+row rs i s j = earliestBest (S.wastesMore rs) s (map (S.seeds i) (upFrom j (9 - j)))
 
 -- ---- the places left
 
@@ -91,8 +91,28 @@ pub record Grows (rs : List Rect) (cover : Rect) (places grows : List ℕ) : Typ
 unfoldable pub keyOf : List ℕ → List ℕ → ℕ → ℕ
 keyOf growOne growTwo k = (getD growOne k 0 - getD growTwo k 0) + (getD growTwo k 0 - getD growOne k 0)
 
-abbrev pub widerBy : List ℕ → List ℕ → ℕ → ℕ → Bool
-widerBy growOne growTwo i j = ltb (keyOf growOne growTwo j) (keyOf growOne growTwo i)
+-- a place of the nine, by its position among those left, and the key is its preference between the covers a and b
+pub record Preferring (rs : List Rect) (a b : Rect) (left : List ℕ) (p : KeyedPlace) : Type 0 where
+  pub there : p .at < 9
+  pub inside : getD left (p .at) 0 < 9
+  pub key : pos (p .key) ≡ S.preference a b (rectFrom rs (getD left (p .at) 0))
+
+-- PN2 of two places
+abbrev pub prefers : List Rect → Rect → Rect → ℕ → ℕ → Bool
+prefers rs a b i j = S.prefersMore a b (rectFrom rs i) (rectFrom rs j)
+
+-- PickNext has come to the position i: the best place so far is keyed, and it and the places from i on give what all give
+pub record Looking (rs : List Rect) (a b : Rect) (left : List ℕ) (n : ℕ) (best : KeyedPlace) (i : ℕ) : Type 0 where
+  pub most : i ≤ n
+  pub there : best .at < n
+  pub held : Preferring rs a b left best
+  pub rest : earliestBest (prefers rs a b) (getD left (best .at) 0) (drop i (take n left)) ≡ S.mostPreferring rs a b (take n left)
+
+-- what is known of a group beside its places is right, and so are its enlargements for those left
+pub record Sized (rs : List Rect) (x : Extent) (places grows : List ℕ) : Type 0 where
+  pub ok : valid (x .cover) ≡ true
+  pub area : pos (x .area) ≡ area (x .cover)
+  pub growth : Grows rs (x .cover) places grows
 
 -- ---- groups
 
@@ -120,15 +140,15 @@ pub record Assigned (rs : List Rect) (t : Extents) (left : List ℕ) (n : ℕ) (
   pub growsOne : Grows rs (t .one .cover) (take n left) growOne
   pub growsTwo : Grows rs (t .two .cover) (take n left) growTwo
 
--- the rules for the next joining, on the numbers that are kept
-pub record Next (t : Extents) (left : List ℕ) (n : ℕ) (growOne growTwo : List ℕ) (r : Joining) : Type 0 where
+-- the rules for the next joining
+pub record Next (rs : List Rect) (t : Extents) (left : List ℕ) (n : ℕ) (r : Joining) : Type 0 where
   pub there : r .at < n
   pub one : t .one .count + n ≡ 3 → (r .at ≡ 0) × (r .second ≡ false)
   pub two : (t .one .count + n ≡ 3 → ⊥) → t .two .count + n ≡ 3 → (r .at ≡ 0) × (r .second ≡ true)
-  pub place : (t .one .count + n ≡ 3 → ⊥) → (t .two .count + n ≡ 3 → ⊥) → getD left (r .at) 0 ≡ earliest (widerBy growOne growTwo) (take n left)
+  pub place : (t .one .count + n ≡ 3 → ⊥) → (t .two .count + n ≡ 3 → ⊥)
+      → getD left (r .at) 0 ≡ S.mostPreferring rs (t .one .cover) (t .two .cover) (take n left)
   pub group : (t .one .count + n ≡ 3 → ⊥) → (t .two .count + n ≡ 3 → ⊥)
-      → r .second ≡ lessThen (pos (getD growTwo (getD left (r .at) 0) 0)) (pos (getD growOne (getD left (r .at) 0) 0))
-      (lessThen (pos (t .two .area)) (pos (t .one .area)) (ltb (t .two .count) (t .one .count)))
+      → r .second ≡ S.secondFirst (t .one .cover) (t .two .cover) (t .one .count) (t .two .count) (rectFrom rs (getD left (r .at) 0))
 
 -- what the groups are when all have joined
 unfoldable pub ends : List Rect → ℕ → S.Groups → S.Groups

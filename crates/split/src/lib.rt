@@ -1,19 +1,19 @@
-// Guttman's quadratic split of nine rectangles into two groups, with the ties of document 01. It knows nothing of pools: a place is a
-// position among the nine, from 0. What is measured is kept: after a place has joined a group, only that group's enlargements are measured
-// again. The arrays stand in `split_nine` alone and are lent; no function copies one.
+// Guttman's quadratic split of nine rectangles into two groups, with the ties of document 01 and the half perimeters of Req 05. It knows nothing
+// of pools: a place is a position among the nine, from 0. What is measured is kept: after a place has joined a group, only that group's
+// enlargements are measured again. The arrays stand in `split_nine` alone and are lent; no function copies one.
 ghost use mathlib.Core.Path.{_≡_};
 ghost use mathlib.Core.Bool.{true, cond};
-ghost use mathlib.Core.List.{map};
 ghost use Prim.Native.Nat.{_+_, _-_, _<_, _≤_};
 ghost use lib.Dec.{ltb};
 ghost use lib.ListN.{length, take, getD, set, replicate};
-ghost use lib.IntN.{pos};
-ghost use Rattle.rules.specs.Choose.{rectFrom, earliest};
-ghost use Rattle.rules.specs.Lists.{earliestBest, upFrom, lessThen};
+ghost use lib.IntN.{pos, subℕ};
+ghost use Rattle.rules.specs.Choose.{rectFrom};
+ghost use Rattle.rules.specs.Lists.{upFrom};
 ghost use Rattle.rules.specs.Geometry as G;
 ghost use Rattle.rules.specs.Split as S;
-ghost use Rattle.split.specs.State.{AllValid, rectsIn, putRect, Corners, Areas, Keyed, wastesMore, seedsOf, ClosedUp, Left, Grows, keyOf, widerBy, ExtentOk, groupsOf, Assigned, Next, ends, GroupsWhole};
-use geometry::less_then;
+ghost use Rattle.split.specs.State.{AllValid, rectsIn, putRect, Corners, Areas, Keyed, seedsOf, row, ClosedUp, Left, Grows, Sized, keyOf, Preferring, prefers, Looking, ExtentOk, groupsOf, Assigned, Next, ends, GroupsWhole};
+use geometry::key_by;
+use geometry::place_by;
 use rules::LEAST;
 use rules::NINE;
 use rules::Rect;
@@ -83,20 +83,6 @@ fn rect_at(w: &[i32; CORNERS], i: usize) -> Rect
     }
 }
 
-// ---- one of two by a test, with no branch: the processor would guess the test wrong too often
-
-fn place_by(t: bool, a: usize, b: usize) -> usize
-    ensures { λ r. ⌜ r ≡ cond t a b ⌝ }
-{
-    if t { a } else { b }
-}
-
-fn key_by(t: bool, a: u64, b: u64) -> u64
-    ensures { λ r. ⌜ r ≡ cond t a b ⌝ }
-{
-    if t { a } else { b }
-}
-
 // ---- PickSeeds
 
 // The areas of the nine.
@@ -113,39 +99,73 @@ fn areas_of(w: &[i32; CORNERS]) -> [u64; NINE]
     areas
 }
 
-// Two places, the earlier first, and their d as `geometry::waste` counts it.
+// PS1: d of two places, as `geometry::waste` counts it.
+fn d_of(w: &[i32; CORNERS], areas: &[u64; NINE], i: usize, j: usize) -> u64
+    requires { ⌜ Corners (now w) ⌝ }
+    requires { ⌜ Areas (rectsIn (now w)) (now areas) ⌝ }
+    requires { ⌜ (i < 9) × (j < 9) ⌝ }
+    ensures { λ r. ⌜ subℕ r 8000000000000000000 ≡ S.wasteOf (rectsIn (now (w .entry))) (S.seeds i j) ⌝ }
+{
+    geometry::waste(rect_at(w, i), rect_at(w, j), areas[i], areas[j])
+}
+
+// Two places, the earlier first, and their d as `d_of` has it.
 pub struct KeyedSeeds {
     pub first: usize,
     pub second: usize,
     pub key: u64,
 }
 
-// PS2: largest d; a tie stays with the earlier.
-fn keep(best: KeyedSeeds, other: KeyedSeeds) -> KeyedSeeds
-    ensures { λ r. ⌜ r ≡ cond (ltb (best .key) (other .key)) other best ⌝ }
+// PS2 with Req 05: whether the pair p wastes more than q, by d and then by d in half perimeter, which is measured only where d ties.
+fn wastes_more(w: &[i32; CORNERS], p: KeyedSeeds, q: KeyedSeeds) -> bool
+    requires { ⌜ Corners (now w) ⌝ }
+    requires { ⌜ Keyed (rectsIn (now w)) p ⌝ }
+    requires { ⌜ Keyed (rectsIn (now w)) q ⌝ }
+    ensures { λ r. ⌜ r ≡ S.wastesMore (rectsIn (now (w .entry))) (seedsOf p) (seedsOf q) ⌝ }
 {
-    let more = best.key < other.key;
-    let first = place_by(more, other.first, best.first);
-    let second = place_by(more, other.second, best.second);
-    let key = key_by(more, other.key, best.key);
-    KeyedSeeds { first, second, key }
+    if p.key != q.key {
+        return q.key < p.key;
+    }
+    let own = geometry::half_waste(rect_at(w, p.first), rect_at(w, p.second));
+    let other = geometry::half_waste(rect_at(w, q.first), rect_at(w, q.second));
+    other < own
 }
 
-// PS1 for one first member: the best pair so far, and those of the place i with each later one.
-fn pairs_of(w: &[i32; CORNERS], areas: &[u64; NINE], i: usize, best: KeyedSeeds) -> KeyedSeeds
+// The pair that wastes more; a tie stays with the earlier.
+fn keep(w: &[i32; CORNERS], best: KeyedSeeds, other: KeyedSeeds) -> KeyedSeeds
+    requires { ⌜ Corners (now w) ⌝ }
+    requires { ⌜ Keyed (rectsIn (now w)) best ⌝ }
+    requires { ⌜ Keyed (rectsIn (now w)) other ⌝ }
+    ensures { λ r. ⌜ r ≡ cond (S.wastesMore (rectsIn (now (w .entry))) (seedsOf other) (seedsOf best)) other best ⌝ }
+{
+    if wastes_more(w, other, best) {
+        other
+    } else {
+        best
+    }
+}
+
+// PS1 for one first member, where d has tied: the best pair so far, and those of the place i with each from `from` on.
+fn tied_pairs_of(
+    w: &[i32; CORNERS],
+    areas: &[u64; NINE],
+    i: usize,
+    from: usize,
+    best: KeyedSeeds,
+) -> KeyedSeeds
     requires { ⌜ Corners (now w) ⌝ }
     requires { ⌜ Areas (rectsIn (now w)) (now areas) ⌝ }
-    requires { ⌜ i < 9 ⌝ }
+    requires { ⌜ (i < from) × (from ≤ 9) ⌝ }
     requires { ⌜ Keyed (rectsIn (now w)) best ⌝ }
-    ensures is { λ r. ⌜ seedsOf r ≡ earliestBest (wastesMore (rectsIn (now (w .entry)))) (seedsOf best) (map (S.seeds i) (upFrom (i + 1) (9 - (i + 1)))) ⌝ }
+    ensures is { λ r. ⌜ seedsOf r ≡ row (rectsIn (now (w .entry))) i (seedsOf best) from ⌝ }
     ensures keyed { λ r. ⌜ Keyed (rectsIn (now (w .entry))) r ⌝ }
 {
-    let a = rect_at(w, i);
     let mut b = best;
-    let mut j = i + 1;
+    let mut j = from;
     while j < NINE {
-        let key = geometry::waste(a, rect_at(w, j), areas[i], areas[j]);
+        let key = d_of(w, areas, i, j);
         b = keep(
+            w,
             b,
             KeyedSeeds {
                 first: i,
@@ -158,22 +178,70 @@ fn pairs_of(w: &[i32; CORNERS], areas: &[u64; NINE], i: usize, best: KeyedSeeds)
     b
 }
 
-// Largest d, then earliest first member, then earliest second.
+// Of two pairs whose d differ, the one with the larger.
+fn larger_d(best: KeyedSeeds, other: KeyedSeeds) -> KeyedSeeds
+    ensures { λ r. ⌜ r ≡ cond (ltb (best .key) (other .key)) other best ⌝ }
+{
+    let more = best.key < other.key;
+    let first = place_by(more, other.first, best.first);
+    let second = place_by(more, other.second, best.second);
+    let key = key_by(more, other.key, best.key);
+    KeyedSeeds { first, second, key }
+}
+
+// PS1 for one first member: the best pair so far, and those of the place i with each from `from` on. Only d is asked, as long as none ties
+// with the best: what is asked in a tie stands in another loop, so that this one stays short.
+fn pairs_of(
+    w: &[i32; CORNERS],
+    areas: &[u64; NINE],
+    i: usize,
+    from: usize,
+    best: KeyedSeeds,
+) -> KeyedSeeds
+    requires { ⌜ Corners (now w) ⌝ }
+    requires { ⌜ Areas (rectsIn (now w)) (now areas) ⌝ }
+    requires { ⌜ (i < from) × (from ≤ 9) ⌝ }
+    requires { ⌜ Keyed (rectsIn (now w)) best ⌝ }
+    ensures is { λ r. ⌜ seedsOf r ≡ row (rectsIn (now (w .entry))) i (seedsOf best) from ⌝ }
+    ensures keyed { λ r. ⌜ Keyed (rectsIn (now (w .entry))) r ⌝ }
+{
+    let mut b = best;
+    let mut j = from;
+    while j < NINE {
+        let key = d_of(w, areas, i, j);
+        if key == b.key {
+            return tied_pairs_of(w, areas, i, j, b);
+        }
+        b = larger_d(
+            b,
+            KeyedSeeds {
+                first: i,
+                second: j,
+                key,
+            },
+        );
+        j += 1;
+    }
+    b
+}
+
+// Largest d, then largest d in half perimeter, then earliest first member, then earliest second. The first pair is in hand before the first row.
 fn pick_seeds(w: &[i32; CORNERS]) -> KeyedSeeds
     requires { ⌜ Corners (now w) ⌝ }
     ensures is { λ r. ⌜ seedsOf r ≡ S.pickSeeds (rectsIn (now (w .entry))) ⌝ }
     ensures keyed { λ r. ⌜ Keyed (rectsIn (now (w .entry))) r ⌝ }
 {
     let areas = areas_of(w);
-    let key = geometry::waste(rect_at(w, 0), rect_at(w, 1), areas[0], areas[1]);
-    let mut b = KeyedSeeds {
+    let key = d_of(w, &areas, 0, 1);
+    let first = KeyedSeeds {
         first: 0,
         second: 1,
         key,
     };
-    let mut i: usize = 0;
+    let mut b = pairs_of(w, &areas, 0, 2, first);
+    let mut i: usize = 1;
     while i < NINE {
-        b = pairs_of(w, &areas, i, b);
+        b = pairs_of(w, &areas, i, i + 1, b);
         i += 1;
     }
     b
@@ -273,8 +341,103 @@ pub struct KeyedPlace {
     pub key: u64,
 }
 
-// PN2: largest difference; a tie stays with the earlier.
-fn wider(best: KeyedPlace, at: usize, key: u64) -> KeyedPlace
+// PN1 with Req 05: the absolute difference of the two enlargements in half perimeter, of groups with covers a and b, for a place.
+fn half_preference(w: &[i32; CORNERS], a: Rect, b: Rect, at: usize) -> u64
+    requires { ⌜ Corners (now w) ⌝ }
+    requires { ⌜ (G.valid a ≡ true) × (G.valid b ≡ true) ⌝ }
+    requires { ⌜ at < 9 ⌝ }
+    ensures { λ r. ⌜ pos r ≡ S.halfPreference a b (rectFrom (rectsIn (now (w .entry))) at) ⌝ }
+{
+    let r = rect_at(w, at);
+    apart(
+        geometry::half_enlargement(a, r),
+        geometry::half_enlargement(b, r),
+    )
+}
+
+// PN2 with Req 05: whether the place at i prefers a group more than that at j, by the difference of enlargements and then by that in half
+// perimeter, which is measured only where the first ties.
+fn prefers_more(
+    w: &[i32; CORNERS],
+    a: Rect,
+    b: Rect,
+    left: &[usize; NINE],
+    i: KeyedPlace,
+    j: KeyedPlace,
+) -> bool
+    requires { ⌜ Corners (now w) ⌝ }
+    requires { ⌜ (G.valid a ≡ true) × (G.valid b ≡ true) ⌝ }
+    requires { ⌜ length (now left) ≡ 9 ⌝ }
+    requires { ⌜ Preferring (rectsIn (now w)) a b (now left) i ⌝ }
+    requires { ⌜ Preferring (rectsIn (now w)) a b (now left) j ⌝ }
+    ensures { λ r. ⌜ r ≡ prefers (rectsIn (now (w .entry))) a b (getD (now (left .entry)) (i .at) 0) (getD (now (left .entry)) (j .at) 0) ⌝ }
+{
+    if i.key != j.key {
+        return j.key < i.key;
+    }
+    let at = i.at;
+    let than = j.at;
+    let more = half_preference(w, a, b, left[at]);
+    let less = half_preference(w, a, b, left[than]);
+    less < more
+}
+
+// The place that prefers a group more; a tie stays with the earlier.
+fn wider(
+    w: &[i32; CORNERS],
+    a: Rect,
+    b: Rect,
+    left: &[usize; NINE],
+    best: KeyedPlace,
+    other: KeyedPlace,
+) -> KeyedPlace
+    requires { ⌜ Corners (now w) ⌝ }
+    requires { ⌜ (G.valid a ≡ true) × (G.valid b ≡ true) ⌝ }
+    requires { ⌜ length (now left) ≡ 9 ⌝ }
+    requires { ⌜ Preferring (rectsIn (now w)) a b (now left) best ⌝ }
+    requires { ⌜ Preferring (rectsIn (now w)) a b (now left) other ⌝ }
+    ensures { λ r. ⌜ r ≡ cond (prefers (rectsIn (now (w .entry))) a b (getD (now (left .entry)) (other .at) 0) (getD (now (left .entry)) (best .at) 0)) other best ⌝ }
+{
+    if prefers_more(w, a, b, left, other, best) {
+        other
+    } else {
+        best
+    }
+}
+
+// PickNext where the differences have tied: the best place so far, and those at `from` and later.
+fn tied_next(
+    w: &[i32; CORNERS],
+    a: Rect,
+    b: Rect,
+    left: &[usize; NINE],
+    n: usize,
+    growOne: &[u64; NINE],
+    growTwo: &[u64; NINE],
+    from: usize,
+    first: KeyedPlace,
+) -> usize
+    requires { ⌜ Corners (now w) ⌝ }
+    requires { ⌜ (G.valid a ≡ true) × (G.valid b ≡ true) ⌝ }
+    requires { ⌜ Left (now left) n ⌝ }
+    requires { ⌜ Grows (rectsIn (now w)) a (take n (now left)) (now growOne) ⌝ }
+    requires { ⌜ Grows (rectsIn (now w)) b (take n (now left)) (now growTwo) ⌝ }
+    requires { ⌜ Looking (rectsIn (now w)) a b (now left) n first from ⌝ }
+    ensures there { λ r. ⌜ r < n ⌝ }
+    ensures is { λ r. ⌜ getD (now (left .entry)) r 0 ≡ S.mostPreferring (rectsIn (now (w .entry))) a b (take n (now (left .entry))) ⌝ }
+{
+    let mut best = first;
+    let mut i = from;
+    while i < n {
+        let key = preference(left[i], growOne, growTwo);
+        best = wider(w, a, b, left, best, KeyedPlace { at: i, key });
+        i += 1;
+    }
+    best.at
+}
+
+// Of two places whose differences differ, the one with the larger.
+fn larger_difference(best: KeyedPlace, at: usize, key: u64) -> KeyedPlace
     ensures { λ r. ⌜ r ≡ cond (ltb (best .key) key) (record { at = at; key = key }) best ⌝ }
 {
     let more = best.key < key;
@@ -286,20 +449,35 @@ fn wider(best: KeyedPlace, at: usize, key: u64) -> KeyedPlace
     }
 }
 
-// Largest absolute difference of the two enlargements, then earliest: where it stands among the n places left.
-fn pick_next(left: &[usize; NINE], n: usize, growOne: &[u64; NINE], growTwo: &[u64; NINE]) -> usize
+// Largest absolute difference of the two enlargements, then largest in half perimeter, then earliest, of groups with covers a and b: where it
+// stands among the n places left. As in PickSeeds, what is asked in a tie stands in another loop.
+fn pick_next(
+    w: &[i32; CORNERS],
+    a: Rect,
+    b: Rect,
+    left: &[usize; NINE],
+    n: usize,
+    growOne: &[u64; NINE],
+    growTwo: &[u64; NINE],
+) -> usize
+    requires { ⌜ Corners (now w) ⌝ }
+    requires { ⌜ (G.valid a ≡ true) × (G.valid b ≡ true) ⌝ }
     requires { ⌜ Left (now left) n ⌝ }
     requires { ⌜ 0 < n ⌝ }
-    requires { ⌜ (length (now growOne) ≡ 9) × (length (now growTwo) ≡ 9) ⌝ }
+    requires { ⌜ Grows (rectsIn (now w)) a (take n (now left)) (now growOne) ⌝ }
+    requires { ⌜ Grows (rectsIn (now w)) b (take n (now left)) (now growTwo) ⌝ }
     ensures there { λ r. ⌜ r < n ⌝ }
-    ensures is { λ r. ⌜ getD (now (left .entry)) r 0 ≡ earliest (widerBy (now (growOne .entry)) (now (growTwo .entry))) (take n (now (left .entry))) ⌝ }
+    ensures is { λ r. ⌜ getD (now (left .entry)) r 0 ≡ S.mostPreferring (rectsIn (now (w .entry))) a b (take n (now (left .entry))) ⌝ }
 {
     let key = preference(left[0], growOne, growTwo);
     let mut best = KeyedPlace { at: 0, key };
     let mut i: usize = 1;
     while i < n {
-        let other = preference(left[i], growOne, growTwo);
-        best = wider(best, i, other);
+        let key = preference(left[i], growOne, growTwo);
+        if key == best.key {
+            return tied_next(w, a, b, left, n, growOne, growTwo, i, best);
+        }
+        best = larger_difference(best, i, key);
         i += 1;
     }
     best.at
@@ -307,18 +485,32 @@ fn pick_next(left: &[usize; NINE], n: usize, growOne: &[u64; NINE], growTwo: &[u
 
 // ---- the groups grow
 
-// Least enlargement, then smaller area, then fewer entries, then group 1: whether group 2 goes before group 1.
-fn second_first(growOne: u64, growTwo: u64, one: Extent, two: Extent) -> bool
-    ensures { λ s. ⌜ s ≡ lessThen (pos growTwo) (pos growOne) (lessThen (pos (two .area)) (pos (one .area)) (ltb (two .count) (one .count))) ⌝ }
+// Least enlargement, then least in half perimeter, then smaller area, then smaller half perimeter, then fewer entries, then group 1: whether
+// group 2 goes before group 1 for the rectangle r. A half perimeter is measured only where the rule before it ties.
+fn second_first(growOne: u64, growTwo: u64, one: Extent, two: Extent, r: Rect) -> bool
+    requires { ⌜ (G.valid (one .cover) ≡ true) × (G.valid (two .cover) ≡ true) ⌝ }
+    requires { ⌜ G.valid r ≡ true ⌝ }
+    requires { ⌜ (pos (one .area) ≡ G.area (one .cover)) × (pos (two .area) ≡ G.area (two .cover)) ⌝ }
+    requires { ⌜ (pos growOne ≡ G.enlargement (one .cover) r) × (pos growTwo ≡ G.enlargement (two .cover) r) ⌝ }
+    ensures { λ s. ⌜ s ≡ S.secondFirst (one .cover) (two .cover) (one .count) (two .count) r ⌝ }
 {
-    let less = two.area < one.area;
-    let more = one.area < two.area;
-    let fewer = two.count < one.count;
-    less_then(
-        growTwo < growOne,
-        growOne < growTwo,
-        less_then(less, more, fewer),
-    )
+    if growTwo != growOne {
+        return growTwo < growOne;
+    }
+    let halfOne = geometry::half_enlargement(one.cover, r);
+    let halfTwo = geometry::half_enlargement(two.cover, r);
+    if halfTwo != halfOne {
+        return halfTwo < halfOne;
+    }
+    if two.area != one.area {
+        return two.area < one.area;
+    }
+    let aroundOne = geometry::half_perimeter(one.cover);
+    let aroundTwo = geometry::half_perimeter(two.cover);
+    if aroundTwo != aroundOne {
+        return aroundTwo < aroundOne;
+    }
+    two.count < one.count
 }
 
 // Two groups.
@@ -335,17 +527,20 @@ pub struct Joining {
 
 // QS2 and QS3: which place joins which group. Where a group needs all that are left, the first of them joins it, and so on to the last.
 fn next_joining(
+    w: &[i32; CORNERS],
     t: Extents,
     left: &[usize; NINE],
     n: usize,
     growOne: &[u64; NINE],
     growTwo: &[u64; NINE],
 ) -> Joining
+    requires { ⌜ Corners (now w) ⌝ }
     requires { ⌜ Left (now left) n ⌝ }
     requires { ⌜ 0 < n ⌝ }
-    requires { ⌜ (length (now growOne) ≡ 9) × (length (now growTwo) ≡ 9) ⌝ }
+    requires { ⌜ Sized (rectsIn (now w)) (t .one) (take n (now left)) (now growOne) ⌝ }
+    requires { ⌜ Sized (rectsIn (now w)) (t .two) (take n (now left)) (now growTwo) ⌝ }
     requires { ⌜ (t .one .count ≤ 9) × (t .two .count ≤ 9) ⌝ }
-    ensures { λ r. ⌜ Next t (now (left .entry)) n (now (growOne .entry)) (now (growTwo .entry)) r ⌝ }
+    ensures { λ r. ⌜ Next (rectsIn (now (w .entry))) t (now (left .entry)) n r ⌝ }
 {
     let one = t.one;
     let two = t.two;
@@ -361,9 +556,9 @@ fn next_joining(
             second: true,
         };
     }
-    let at = pick_next(left, n, growOne, growTwo);
+    let at = pick_next(w, one.cover, two.cover, left, n, growOne, growTwo);
     let place = left[at];
-    let second = second_first(growOne[place], growTwo[place], one, two);
+    let second = second_first(growOne[place], growTwo[place], one, two, rect_at(w, place));
     Joining { at, second }
 }
 
@@ -422,7 +617,7 @@ fn assign(
     ensures is { λ r. ⌜ ends (rectsIn (now (w .entry))) (n - 1) (groupsOf r (now (one .exit)) (now (two .exit)) (now (left .exit)) (n - 1)) ≡ ends (rectsIn (now (w .entry))) n (groupsOf t (now (one .entry)) (now (two .entry)) (now (left .entry)) n) ⌝ }
     ensures ok { λ r. ⌜ Assigned (rectsIn (now (w .entry))) r (now (left .exit)) (n - 1) (now (one .exit)) (now (two .exit)) (now (growOne .exit)) (now (growTwo .exit)) ⌝ }
 {
-    let next = next_joining(t, left, n, growOne, growTwo);
+    let next = next_joining(w, t, left, n, growOne, growTwo);
     let first = t.one;
     let second = t.two;
     let at = next.at;

@@ -5,7 +5,7 @@ use native.Mathlib.Nat.{mul-le-mul, lt-of-le-of-lt}
 use native.Mathlib.Omega.{arith}
 use Rattle.rules.specs.Geometry.{area}
 use Rattle.rules_laws.proofs.Ints.{read-back}
-use Rattle.rules_laws.proofs.Measures.{valid-parts, area-small}
+use Rattle.rules_laws.proofs.Measures.{valid-parts, areas}
 use Rattle.geometry.proofs.area.Statement.{statement}
 use Rattle.geometry.proofs.area.Tie as tie
 
@@ -39,7 +39,7 @@ returns c =
     let r = start .args .r in
     let e : pos (span .result * c .span2 .result) ≡ area r = ap₂ _*ℤ_ (span .ensures .0) (c .span2 .ensures .0)
     ∙ rw (read-back (r .lowX) (v .lowX), read-back (r .highX) (v .highX), read-back (r .lowY) (v .lowY), read-back (r .highY) (v .highY)) in
-    (e, area-small r (span .result * c .span2 .result) (start .pre) e)
+    (e, areas .small r (span .result * c .span2 .result) (start .pre) e)
 
 pub area-spec : {M : Type 1} → statement M
 area-spec = tie.close (tie.spec span-requires span-requires-2 mul-result returns)

@@ -1,10 +1,6 @@
-use mathlib.Core.Path.{sym, ap₂, _∙_}
-use Prim.Native.Nat.{_+_, _-_}
-use lib.IntN.{_-ℤ_}
 use native.Mathlib.Omega.{arith}
 use Rattle.rules.specs.Geometry.{waste}
-use Rattle.rules_laws.proofs.Ints.{sub-same, sub-minus, pos-minus}
-use Rattle.rules_laws.proofs.Measures.{cover-valid, area-small}
+use Rattle.rules_laws.proofs.Measures.{cover-valid, areas, wasted}
 use borrow.Author.Needs.{needs}
 use Rattle.geometry.proofs.waste.Statement.{statement}
 use Rattle.geometry.proofs.waste.Tie as tie
@@ -17,8 +13,8 @@ add-result c =
     let start = c .before .before in
     omega (
       arith,
-      area-small (start .args .a) (start .args .m) (start .pre .0 .0) (start .pre .1 .0),
-      area-small (start .args .b) (start .args .n) (start .pre .0 .1) (start .pre .1 .1),
+      areas .small (start .args .a) (start .args .m) (start .pre .0 .0) (start .pre .1 .0),
+      areas .small (start .args .b) (start .args .n) (start .pre .0 .1) (start .pre .1 .1),
     )
 
 sub-result : tie.Need-sub-result
@@ -26,8 +22,8 @@ sub-result c =
     let start = c .before .before in
     omega (
       arith,
-      area-small (start .args .a) (start .args .m) (start .pre .0 .0) (start .pre .1 .0),
-      area-small (start .args .b) (start .args .n) (start .pre .0 .1) (start .pre .1 .1),
+      areas .small (start .args .a) (start .args .m) (start .pre .0 .0) (start .pre .1 .0),
+      areas .small (start .args .b) (start .args .n) (start .pre .0 .1) (start .pre .1 .1),
     )
 
 add-result-2 : tie.Need-add-result-2
@@ -37,18 +33,8 @@ returns : tie.Need-returns
 unfolding waste
 returns c =
     let start = c .before .before in
-    let m = c .area .result in
-    let n = start .args .m in
-    let k = start .args .n in
-    sub-same (m + (8000000000000000000 - (n + k))) 8000000000000000000 m (n + k)
-    (omega (
-      arith,
-      area-small (start .args .a) n (start .pre .0 .0) (start .pre .1 .0),
-      area-small (start .args .b) k (start .pre .0 .1) (start .pre .1 .1),
-    ))
-    ∙ sym (sub-minus m n k)
-    ∙ ap₂ _-ℤ_ (sym (pos-minus m n) ∙ ap₂ _-ℤ_ (rw (c .before .cover .ensures) at (c .area .ensures .0)) (start .pre .1 .0))
-    (start .pre .1 .1)
+    wasted areas (start .args .a) (start .args .b) (start .pre .0 .0) (start .pre .0 .1) (start .args .m) (c .area .result)
+    (start .pre .1 .0) (rw (c .before .cover .ensures) at (c .area .ensures .0)) (start .args .n) (start .pre .1 .1)
 
 pub waste-spec : {M : Type 1} → statement M
 waste-spec =

@@ -10,8 +10,19 @@ use Rattle.split.proofs.assign.Tie as tie
 next-joining-requires : tie.Need-next-joining-requires
 next-joining-requires c κs =
     let start = c .before .before .before in
-    let o = start .pre .1 .0 in
-    (o .places, (start .pre .1 .1, ((o .growsOne .nine, o .growsTwo .nine), (omega (arith, o .all), omega (arith, o .all)))))
+    let o = start .pre .1 .0 in (
+      start .pre .0,
+      (
+        o .places,
+        (
+          start .pre .1 .1,
+          (
+            record { ok = o .first .ok; area = o .first .area; growth = o .growsOne },
+            (record { ok = o .second .ok; area = o .second .area; growth = o .growsTwo }, (omega (arith, o .all), omega (arith, o .all))),
+          ),
+        ),
+      ),
+    )
 
 join-requires : tie.Need-join-requires
 join-requires c κs =

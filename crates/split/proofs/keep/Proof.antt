@@ -1,16 +1,14 @@
--- `split::keep` meets its contract: part by part it is one of the two.
-use lib.Dec.{ltb}
-use Rattle.split.proofs.Seeds.{kept-parts}
+-- `split::keep` meets its contract: it is the one of the two that wastes more.
+use mathlib.Core.Path.{sym, _∙_}
 use borrow.Author.Needs.{needs}
 use Rattle.split.proofs.keep.Statement.{statement}
 use Rattle.split.proofs.keep.Tie as tie
 
 returns : tie.Need-returns
-returns c =
-    let start = c .before .before .before .before .before in
-    let place-by = c .before .before .place-by in
-    rw (place-by .ensures, c .before .place-by2 .ensures, c .key-by .ensures)
-    (kept-parts (ltb (start .args .best .key) (start .args .other .key)) (start .args .other) (start .args .best))
+returns c = rw (sym (c .before .wastes-more .ensures) ∙ c .if1 .taken)
+
+returns-2 : tie.Need-returns-2
+returns-2 c = rw (sym (c .before .wastes-more .ensures) ∙ c .if1 .left)
 
 pub keep-spec : {M : Type 1} → statement M
-keep-spec = tie.close (tie.spec (λ c κs. search needs) (λ c κs. search needs) (λ c κs. search needs) returns)
+keep-spec = tie.close (tie.spec (λ c κs. search needs) returns returns-2)

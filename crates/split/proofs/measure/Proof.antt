@@ -1,10 +1,10 @@
 -- `split::measure` meets its contract: a turn measures the enlargement for one place more.
 use Prim.Native.Nat.{_-_}
 use native.Mathlib.Omega.{arith}
-use Rattle.rules_laws.proofs.Measures.{cover-valid}
+use Rattle.rules.specs.Geometry.{enlargement}
+use Rattle.rules_laws.proofs.Measures.{cover-valid, areas, enlarged}
 use Rattle.split.specs.State.{rectsIn}
 use Rattle.split.proofs.Lefts.{left-inside, MeasuredTo, measured-more, measured-all}
-use Rattle.split.proofs.Nexts.{no-less, enlarged}
 use borrow.Author.Needs.{needs}
 use Rattle.split.proofs.measure.Statement.{statement}
 use Rattle.split.proofs.measure.Tie as tie
@@ -46,7 +46,7 @@ sub-grows c =
     let loop = c .before .before .before .before .before .loop in
     let loop-test = c .before .before .before .before .loop-test in
     let rect-at = c .before .before .rect-at in
-    no-less _ _ (start .pre .1 .1 .0 .0) (start .pre .0 .all .ok _ (left-inside (start .pre .1 .0) (loop .i) (loop-test .taken))) _ _
+    areas .grows _ _ _ _ (start .pre .1 .1 .0 .0) (start .pre .0 .all .ok _ (left-inside (start .pre .1 .0) (loop .i) (loop-test .taken)))
     (start .pre .1 .1 .0 .1) (rw (c .before .cover .ensures, rect-at .ensures) at (c .area .ensures .0))
 
 mul-grows : tie.Need-mul-grows Inv-loop μ-loop
@@ -69,13 +69,14 @@ add-i c =
     omega (arith, start .pre .1 .0 .few)
 
 loop-again : tie.Need-loop-again Inv-loop μ-loop
+unfolding enlargement
 loop-again c =
     let start = c .before .before .before .before .before .before .before in
     let loop = c .before .before .before .before .before .loop in
     let loop-test = c .before .before .before .before .loop-test in
     let rect-at = c .before .before .rect-at in
     measured-more (loop .inv) (start .pre .1 .0) (loop-test .taken) _
-    (enlarged _ _ (start .pre .1 .1 .0 .0) (start .pre .0 .all .ok _ (left-inside (start .pre .1 .0) (loop .i) (loop-test .taken))) _ _
+    (enlarged areas _ _ (start .pre .1 .1 .0 .0) (start .pre .0 .all .ok _ (left-inside (start .pre .1 .0) (loop .i) (loop-test .taken))) _ _
     (start .pre .1 .1 .0 .1) (rw (c .before .cover .ensures, rect-at .ensures) at (c .area .ensures .0)))
 
 returns : tie.Need-returns Inv-loop μ-loop
