@@ -4,8 +4,8 @@
  * the pool is all that one call leaves to the next.
  *
  * The lists may hold any words: every input has an answer. The caller has to see to what C cannot check: each pointer is
- * valid for its length, even where that is 0, `rect[4]` for four words and `length` for one number; nothing that is written
- * overlaps another list; and nothing else writes to a list, or reads one that is written, during a call.
+ * valid for its length, even where that is 0, `rect[4]` for four words, `slots[2]` for two and `length` for one number; nothing that
+ * is written overlaps another list; and nothing else writes to a list, or reads one that is written, during a call.
  */
 #ifndef DUSTMAP_H
 #define DUSTMAP_H
@@ -81,7 +81,7 @@ enum dustmap_number {
     DUSTMAP_HELD = 6,
     /* Request or call refused: the rules call for a slot at a moment when none is free. What to do: delete what is no longer
      * needed and ask again, or blank a pool with more slots (4,096 at most) and insert every record there; N slots are enough for
-     * every file of up to 2N + 1 records. */
+     * every file of up to 2N + 1 records, and room (dustmap_room in C) tells beforehand whether an insert fits. */
     DUSTMAP_NO_SLOT = 7,
     /* Request or call refused: search: more found than places left in the found list; file: its buffer is short. What to do: ask
      * again with a longer found list (the answer says how many records this search finds), or with a smaller window; for a search
@@ -125,6 +125,20 @@ int32_t dustmap_call(int32_t *pool, size_t pool_len, int32_t *work, size_t work_
                      const struct dustmap_request *requests, size_t n_requests,
                      struct dustmap_answer *answers, size_t n_answers,
                      struct dustmap_found *found, size_t n_found);
+
+/* Tells beforehand whether an insert of that rectangle fits: sets `slots[0]` to the slots that it would need and `slots[1]` to those that
+ * are free, and returns 0. An insert that nothing else is wrong with (its number is 1 or more, and the pair is not held) is refused 7
+ * exactly where it needs more than are free.
+ *
+ * It needs one for each node of the run of full nodes from the leaf that it would go to upward, and one more where the run includes the
+ * root: none where that leaf is not full, and never more than the height plus one.
+ *
+ * Or it returns, checked in this order, 1 for a wrong length of the pool, 2 for a pool that is not sound, or 3 for a bad rectangle: then
+ * `slots` is as it was. The pool is never changed. The words of `rect` lie as in struct dustmap_rect.
+ *
+ * It tells of the pool as it is. A change that is made before the insert, in the same batch too, may take slots or free them, and fill
+ * nodes or part them: then ask again. */
+int32_t dustmap_room(const int32_t *pool, size_t pool_len, const int32_t rect[4], uint32_t slots[2]);
 
 /* The next three make a rectangle of doubles, in millimetres: a surveyor's box, or the window of a query. Each writes low x, low y,
  * high x, high y to `rect` and returns 0, and no request is refused 3 for that rectangle; or it returns 12, and then nothing is

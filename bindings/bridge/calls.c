@@ -49,7 +49,7 @@ static enum bridge_function function; /* of the call that is being made */
 
 static _Noreturn void fail(const char *what, int error)
 {
-    static const char *const names[] = {"blank", "check", "call", "box", "point", "disc", "write", "read"};
+    static const char *const names[] = {"blank", "check", "call", "room", "box", "point", "disc", "write", "read"};
     fprintf(stderr, "dustmap_%s, through the bridge: %s%s%s\n", names[function], what, error ? ": " : "", error ? strerror(error) : "");
     abort();
 }
@@ -276,6 +276,16 @@ int32_t dustmap_call(int32_t *pool, size_t pool_len, int32_t *work, size_t work_
         WRITTEN(struct dustmap_found, found, n_found),
     };
     return make((struct bridge_call){.function = BRIDGE_CALL}, lists);
+}
+
+int32_t dustmap_room(const int32_t *pool, size_t pool_len, const int32_t rect[4], uint32_t slots[2])
+{
+    struct list lists[BRIDGE_LISTS] = {
+        READ(int32_t, pool, pool_len),
+        READ(int32_t, rect, 4),
+        WRITTEN(uint32_t, slots, 2),
+    };
+    return make((struct bridge_call){.function = BRIDGE_ROOM}, lists);
 }
 
 /* a function of doubles, which writes a rectangle */

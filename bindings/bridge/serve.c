@@ -29,6 +29,8 @@ static int32_t made(const struct bridge_call *call)
         return dustmap_check(list[0], n[0]);
     case BRIDGE_CALL:
         return dustmap_call(list[0], n[0], list[1], n[1], list[2], n[2], list[3], n[3], list[4], n[4]);
+    case BRIDGE_ROOM:
+        return dustmap_room(list[0], n[0], list[1], list[2]);
     case BRIDGE_BOX:
         return dustmap_box(d[0], d[1], d[2], d[3], list[0]);
     case BRIDGE_POINT:

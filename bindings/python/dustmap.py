@@ -18,6 +18,11 @@ Rectangles are low x, low y, high x, high y in whole millimetres, and touching c
     m.search_inside((0, 0, 50, 50))
     m.search_enclosing((2, 2, 3, 3))
 
+Before the truck leaves, the map tells whether an insert will fit, by the slots that it needs and those that are free:
+
+    if m.room((20, 0, 30, 10)).fits:
+        m.insert(9, (20, 0, 30, 10))
+
 All the records go to another office as the bytes of one file, which a map there reads:
 
     file = m.write()
@@ -190,7 +195,7 @@ NUMBERS: dict[int, Meaning] = {
         "no slot",
         "request or call refused",
         "the rules call for a slot at a moment when none is free",
-        "delete what is no longer needed and ask again, or blank a pool with more slots (4,096 at most) and insert every record there; N slots are enough for every file of up to 2N + 1 records",
+        "delete what is no longer needed and ask again, or blank a pool with more slots (4,096 at most) and insert every record there; N slots are enough for every file of up to 2N + 1 records, and room (dustmap_room in C) tells beforehand whether an insert fits",
     ),
     NO_ROOM: Meaning(
         NO_ROOM,
@@ -238,6 +243,22 @@ class Record(NamedTuple):
 
     number: int
     rect: Rect
+
+
+class Room(NamedTuple):
+    """What an insert would need of a map, and what the map has: slots."""
+
+    needed: int
+    free: int
+
+    @property
+    def fits(self) -> bool:
+        """Whether the insert fits: it is not refused 7."""
+        return self.needed <= self.free
+
+    def __bool__(self) -> bool:
+        """The same, so that `if m.room(rect):` asks what it seems to ask."""
+        return self.fits
 
 
 WHOLE_SITE = Rect(-FARTHEST, -FARTHEST, FARTHEST, FARTHEST)
@@ -429,13 +450,14 @@ def library_path() -> Path:
     return Path(named).resolve() if named else Path(__file__).resolve().parents[2] / "target" / "sharedlib" / "libdustmap.so"
 
 
-# The functions of dustmap.h with their parameters: a list is a pointer and a count; a rectangle of four words is a pointer, and so is a number that is
-# written.
+# The functions of dustmap.h with their parameters: a list is a pointer and a count; the four words of a rectangle are a pointer, and so are the two that
+# `room` writes and a number that is written.
 _LIST, _DOUBLE, _WORDS, _NUMBER = [ctypes.c_void_p, ctypes.c_size_t], [ctypes.c_double], [ctypes.c_void_p], [ctypes.POINTER(ctypes.c_uint64)]
 _FUNCTIONS = {
     "dustmap_blank": _LIST,
     "dustmap_check": _LIST,
     "dustmap_call": _LIST * 5,
+    "dustmap_room": _LIST + _WORDS * 2,
     "dustmap_box": _DOUBLE * 4 + _WORDS,
     "dustmap_point": _DOUBLE * 2 + _WORDS,
     "dustmap_disc": _DOUBLE * 3 + _WORDS,
@@ -599,6 +621,19 @@ class Map:
     def _put_back(self, before: bytes) -> None:
         """The pool as it was before."""
         ctypes.memmove(self._pool, before, len(before))
+
+    def room(self, rect: Sequence[int]) -> Room:
+        """The slots that an insert of the rectangle would need, and those that are free, in the map as it is. Nothing is changed.
+
+        An insert that nothing else is wrong with is refused 7 exactly where it needs more than are free. A change that is made before it, in the same
+        batch too, may alter both. It needs one for each node of the run of full nodes from the leaf that it would go to upward, and one more where the
+        run includes the root: none where that leaf is not full, and never more than the height plus one. Refused 3 for a bad rectangle.
+        """
+        words = (ctypes.c_int32 * 4)(*_rect(rect, "rectangle"))
+        slots = (ctypes.c_uint32 * 2)()
+        with self._lock:
+            self._accept(self._library.dustmap_room(*_parts(self._pool, 1), words, slots))
+        return Room(*slots)
 
     def write(self) -> bytes:
         """The file that carries the map's records to another office, for `read` to take there: each pair once, in found order.

@@ -19,7 +19,7 @@ import unittest
 from decimal import Decimal
 from fractions import Fraction
 from pathlib import Path
-from typing import Any, Callable, Optional, TextIO
+from typing import Any, Callable, Optional, Sequence, TextIO
 from unittest import mock
 
 sys.dont_write_bytecode = True
@@ -27,15 +27,15 @@ ROOT = Path(__file__).resolve().parents[2]
 sys.path.insert(0, str(ROOT / "bindings" / "python"))
 
 import dustmap  # noqa: E402
-from dustmap import Answer, LibraryMissing, Map, Record, Rect, Refused, Request  # noqa: E402
+from dustmap import Answer, LibraryMissing, Map, Record, Rect, Refused, Request, Room  # noqa: E402
 
 ZONE = (0, 0, 10, 10)
 MOST = 1_000_000_000
 # the functions of dustmap.h
-FUNCTIONS = {f"dustmap_{name}" for name in ("blank", "check", "call", "box", "point", "disc", "write", "read")}
+FUNCTIONS = {f"dustmap_{name}" for name in ("blank", "check", "call", "room", "box", "point", "disc", "write", "read")}
 
 # Document 01's table and document 02's refusals, copied from them and not from bindings/numbers.txt, so that a slip there is seen. What refuses a
-# request in document 01's table refuses the call where a file is written or read.
+# request in document 01's table refuses the call where a file is written or read, or where it is asked whether an insert fits.
 DOCUMENT = {
     0: ("accepted", "as defined"),
     9: ("more than 1,024 requests, or answer list of another length than the request list", "call refused"),
@@ -117,7 +117,8 @@ class Case(unittest.TestCase):
 
 
 class Examples(Case):
-    """Document 01's own, what dispatch does with doubles, what a planner does with the modes of a search, and how a map is carried."""
+    """Document 01's own, what dispatch does with doubles, what a planner does with the modes of a search, how a map is carried, and what is asked
+    before an insert."""
 
     def test_as_a_user_writes_it(self) -> None:
         m = Map(slots=128)
@@ -130,7 +131,7 @@ class Examples(Case):
         self.assertFalse(m.search((11, 0, 20, 10)), "nothing found is an empty sequence")
 
     def test_the_scripts(self) -> None:
-        for name in ("document", "survey", "modes", "carry"):
+        for name in ("document", "survey", "modes", "carry", "room"):
             script = ROOT / "bindings" / "python" / f"{name}.py"
             run = subprocess.run([sys.executable, "-B", script], stdout=subprocess.PIPE, check=True, text=True)
             self.assertEqual(run.stdout, (ROOT / "examples" / f"{name}.lines").read_text())
@@ -351,6 +352,84 @@ class Refusals(Case):
     def test_a_refusal_can_be_sent_on(self) -> None:
         refusal = self.refused(5, lambda: Map().delete(8, ZONE))
         self.assertEqual(str(pickle.loads(pickle.dumps(refusal))), str(refusal))
+
+
+class Rooms(Case):
+    """Whether an insert will fit, told beforehand."""
+
+    def told(self, m: Map, rect: Sequence[int], needed: int, free: int) -> None:
+        """That this is what the map tells of an insert, and that telling changes nothing."""
+        before = m.words()
+        self.assertEqual(m.room(rect), Room(needed, free))
+        self.assertEqual((m.room(rect).fits, bool(m.room(rect))), (needed <= free, needed <= free))
+        self.assertEqual(m.words(), before)
+
+    def test_a_leaf_that_is_not_full_needs_none(self) -> None:
+        m = Map(1)
+        for request in nine()[:8]:
+            self.told(m, request.first, 0, 0)
+            m.insert(request.number, request.first)
+        self.told(m, nine()[8].first, 2, 0)
+
+    def test_a_full_root_needs_two(self) -> None:
+        for slots in (1, 2, 3, 12, 4096):
+            m = Map(slots)
+            m.batch(nine()[:8])
+            self.told(m, nine()[8].first, 2, slots - 1)
+            answer = m.batch([nine()[8]])[0]
+            self.assertEqual((answer.number, m.free_slots), (7, slots - 1) if slots < 3 else (0, slots - 3))
+
+    def test_the_chosen_leaf_decides(self) -> None:
+        m = Map(4)
+        m.batch(nine())
+        west, east = (5, 5, 5, 5), (500, 5, 500, 5)  # within the cover of slot 1, which has six records, and of slot 2, which has three
+        for number, needed in ((10, 0), (11, 0), (12, 1)):
+            self.told(m, west, needed, 1)
+            self.told(m, east, 0, 1)
+            m.insert(number, west)
+        self.assertEqual(m.free_slots, 0)
+
+    def test_a_batch_that_takes_the_slot_first(self) -> None:
+        m = Map(4)
+        m.batch(nine())
+        west, east = (5, 5, 5, 5), (500, 5, 500, 5)
+        m.batch([Request.insert(20 + k, west) for k in range(2)] + [Request.insert(30 + k, east) for k in range(5)])
+        self.told(m, west, 1, 1)
+        self.told(m, east, 1, 1)
+        answers = m.batch([Request.insert(40, west), Request.insert(41, east)])
+        self.assertEqual([a.number for a in answers], [0, 7], "each fits alone, and not both")
+        self.told(m, east, 1, 0)
+        m.delete(30, east)
+        self.told(m, east, 0, 0)
+
+    def test_a_pair_that_is_held(self) -> None:
+        """What is told is of slots alone: 6 comes before 7."""
+        m = Map(1)
+        m.batch(nine()[:8])
+        self.told(m, nine()[0].first, 2, 0)
+        self.refused_request(6, m, nine()[0])
+
+    def test_a_box_of_floats(self) -> None:
+        self.told(Map(3), Rect.from_box(-2.5, 0.25, 4.0, 8.75), 0, 2)
+
+    def test_3_bad_rectangle(self) -> None:
+        m = Map()
+        for rect in ((0, 0, MOST + 1, 0), (-MOST - 1, 0, 0, 0), (1, 0, 0, 0), (0, 1, 0, 0), (0, 0, 2**31 - 1, 0), (-(2**31),) * 4):
+            self.assertIsNone(self.refused(3, lambda rect=rect: m.room(rect)).request)
+        self.told(m, dustmap.WHOLE_SITE, 0, 127)
+
+    def test_a_refusal_writes_nothing(self) -> None:
+        """The call itself, 1 before 2 before 3; a pool of `Map` is sound, so that it is never refused 1 or 2."""
+        library = dustmap._library(str(dustmap.library_path()))
+        sound, unsound, good, bad = Map(2).words(), [3] * len(Map(2).words()), ZONE, (1, 0, 0, 0)
+        cases: list[tuple[int, list[int], tuple[int, ...]]] = [(1, [], good), (1, sound[1:], good), (1, sound[1:], bad), (1, unsound[1:], bad)]
+        cases += [(1, [0] * (8 + 42 * 4097), good), (2, unsound, good), (2, unsound, bad), (3, sound, bad), (0, sound, good)]
+        for number, pool, rect in cases:
+            words, four = (ctypes.c_int32 * len(pool))(*pool), (ctypes.c_int32 * 4)(*rect)
+            slots = (ctypes.c_uint32 * 2)(77, 88)
+            self.assertEqual(library.dustmap_room(words, len(pool), four, slots), number)
+            self.assertEqual(list(slots), [77, 88] if number else [0, 1])
+            self.assertEqual((list(words), tuple(four)), (pool, rect))
 
 
 def file_of(records: list[tuple[int, ...]], edition: int = 1, count: Optional[int] = None) -> bytes:
@@ -743,8 +822,10 @@ class WrongTypes(Case):
                 self.assertRaises(TypeError, ask, rect)
             for search in (m.search, m.search_inside, m.search_enclosing):
                 self.assertRaises(TypeError, search, rect)
+            self.assertRaises(TypeError, m.room, rect)
         for rect in ((), (0, 0, 1), (0, 0, 1, 1, 2), (0, 0, 2**31, 0), (0, -(2**31) - 1, 0, 0), (2**32, 2**32, 2**32, 2**32)):
             self.assertRaises(ValueError, m.insert, 1, rect)
+            self.assertRaises(ValueError, m.room, rect)
             for search in (m.search, m.search_inside, m.search_enclosing):
                 self.assertRaises(ValueError, search, rect)
         self.assertRaisesRegex(ValueError, "new rectangle, high x: 2147483648", m.update, 1, ZONE, (0, 0, 2**31, 0))
@@ -790,7 +871,8 @@ class Library(Case):
 
 
 class Model:
-    """The map as a plain set of pairs. What it cannot know is when a slot is wanted and none is free (7), and how many nodes are opened."""
+    """The map as a plain set of pairs. What it cannot know is when a slot is wanted and none is free (7; of an insert the map tells it beforehand), and
+    how many nodes are opened."""
 
     def __init__(self) -> None:
         self.pairs: set[Record] = set()
@@ -913,12 +995,26 @@ class Histories(Case):
         there.read(file)
         self.assertEqual((there.records(), there.write()), (m.records(), file))
 
+    def told(self, m: Map, insert: Request, due: int) -> tuple[int, int]:
+        """The answer to an insert, with 7 as the map tells it beforehand; and the slots that are free after it."""
+        if due == 3:
+            self.refused(3, lambda: m.room(insert.first))
+            return 3, m.free_slots
+        room = m.room(insert.first)
+        self.assertEqual(room.free, m.free_slots, insert)
+        self.assertLessEqual(room.needed, m.height + 1, insert)
+        number = due or (0 if room.fits else 7)
+        return number, room.free if number else room.free - room.needed
+
     def one(self, m: Map, model: Model, request: Request) -> Answer:
         """One request of both, compared; its answer."""
-        answer = m.batch([request])[0]
         due = model.refusal(request)
-        no_slot = due == 0 and request.kind not in dustmap.SEARCHES and answer.number == 7
+        due, left = self.told(m, request, due) if request.kind == dustmap.INSERT else (due, None)
+        answer = m.batch([request])[0]
+        no_slot = due == 0 and request.kind in (dustmap.DELETE, dustmap.UPDATE) and answer.number == 7
         self.assertEqual(answer.number, 7 if no_slot else due, request)
+        if left is not None:
+            self.assertEqual(m.free_slots, left, request)
         if request.kind in dustmap.SEARCHES and due == 0:
             self.assertEqual(answer.records, model.found(request), request)
             self.assertEqual((answer.found, answer.opened), (len(answer.records), opened(m.words(), request.first)), request)

@@ -187,7 +187,7 @@ fn full(leaves: usize, office: &mut Carrying) {
 }
 
 /// Eight records to a leaf, and eight nodes to the node above, up to one.
-fn packed(leaves: usize, record: fn(i32) -> Record) -> Vec<i32> {
+pub fn packed(leaves: usize, record: fn(i32) -> Record) -> Vec<i32> {
     let nodes = |&below: &usize| (below > 1).then_some(below.div_ceil(8));
     let slots = std::iter::successors(Some(leaves), nodes).sum();
     let mut pool = blank_pool(slots);

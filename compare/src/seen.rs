@@ -2,6 +2,7 @@
 
 use crate::carry_met;
 use crate::lent::Lent;
+use crate::room_met;
 use crate::survey_met::Met;
 use crate::tally::Tally;
 use second::call::{
@@ -234,8 +235,9 @@ impl Seen {
         let met = |name: &str| self.counts.get(name).copied().unwrap_or(0);
         let all = WANTED.iter().map(|&name| (name, met(name))).chain(self.events.named());
         let all = all.chain(self.survey.named()).map(|(name, count)| (name.to_string(), count));
-        let carried = carry_met::wanted().into_iter().map(|name| (name.clone(), met(&name)));
-        for (name, count) in all.chain(carried) {
+        let wanted = carry_met::wanted().into_iter().chain(room_met::wanted());
+        let more = wanted.map(|name| (name.clone(), met(&name)));
+        for (name, count) in all.chain(more) {
             println!("  {count:>9}  {}", name.replace('_', " "));
             tally.hold(count > 0, || format!("{name}: not met"));
         }

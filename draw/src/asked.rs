@@ -1,4 +1,5 @@
-//! The window as the command asks for it: four whole numbers; or a box, a point or a disc, in numbers that need not be whole.
+//! What the command asks to be shown: a window, as four whole numbers, or as a box, a point or a disc in numbers that need not be
+//! whole; or an insert, as four whole numbers.
 
 use crate::mode::Mode;
 use crate::USAGE;
@@ -7,8 +8,14 @@ use dustmap::Rect;
 use std::fmt;
 use std::str::FromStr;
 
+pub enum Asked {
+    Nothing,
+    Window(Query),
+    Insert(Rect),
+}
+
 /// A window and the mode of its search; and the disc that it is around, where it was asked for by one.
-pub struct Asked {
+pub struct Query {
     pub window: Rect,
     pub mode: Mode,
     pub disc: Option<Disc>,
@@ -21,13 +28,28 @@ pub struct Disc {
     pub radius: f64,
 }
 
-/// What the words after the name of the file ask for, in the mode that is named, if one is: nothing where there are none.
-pub fn asked(mode: Option<Mode>, words: &[&str]) -> Result<Option<Asked>, String> {
+/// What the words after the name of the file ask for, in the mode that is named, if one is.
+pub fn asked(mode: Option<Mode>, words: &[&str]) -> Result<Asked, String> {
+    match (words, mode) {
+        ([], None) => Ok(Asked::Nothing),
+        ([], Some(mode)) => Err(format!("--{mode}: there is no window\n{USAGE}")),
+        _ if words.contains(&"--insert") => insert(mode, words).map(Asked::Insert),
+        _ => query(mode.unwrap_or(Mode::Meeting), words).map(Asked::Window),
+    }
+}
+
+/// The rectangle of an insert. Whether its numbers are those of a rectangle is for the library to say.
+fn insert(mode: Option<Mode>, words: &[&str]) -> Result<Rect, String> {
+    match (mode, words) {
+        (None, ["--insert", sides @ ..]) if sides.len() == 4 => four(sides),
+        _ => Err(format!(
+            "--insert: four whole numbers, and neither a window nor a mode beside them\n{USAGE}"
+        )),
+    }
+}
+
+fn query(mode: Mode, words: &[&str]) -> Result<Query, String> {
     let (window, disc) = match *words {
-        [] => match mode {
-            Some(mode) => return Err(format!("--{mode}: there is no window\n{USAGE}")),
-            None => return Ok(None),
-        },
         ["--point", x, y] => (Rect::from_point(number(x)?, number(y)?), None),
         ["--box", low_x, low_y, high_x, high_y] => {
             (Rect::from_box(number(low_x)?, number(low_y)?, number(high_x)?, number(high_y)?), None)
@@ -37,13 +59,19 @@ pub fn asked(mode: Option<Mode>, words: &[&str]) -> Result<Option<Asked>, String
             (Rect::from_disc(disc.x, disc.y, disc.radius), Some(disc))
         }
         [option, ..] if option.starts_with("--") => return Err(USAGE.to_string()),
-        [low_x, low_y, high_x, high_y] => {
-            (Ok(Rect::new(number(low_x)?, number(low_y)?, number(high_x)?, number(high_y)?)), None)
-        }
-        _ => return Err(USAGE.to_string()),
+        _ => (Ok(four(words)?), None),
     };
-    let mode = mode.unwrap_or(Mode::Meeting);
-    Ok(Some(Asked { window: window.map_err(refused)?, mode, disc }))
+    Ok(Query { window: window.map_err(|number| refused("window", number))?, mode, disc })
+}
+
+/// Low x, low y, high x, high y.
+fn four(words: &[&str]) -> Result<Rect, String> {
+    match *words {
+        [low_x, low_y, high_x, high_y] => {
+            Ok(Rect::new(number(low_x)?, number(low_y)?, number(high_x)?, number(high_y)?))
+        }
+        _ => Err(USAGE.to_string()),
+    }
 }
 
 /// A whole number or a double. What is read as a double may be infinite, or no number: the library refuses it.
@@ -51,9 +79,9 @@ fn number<T: FromStr>(text: &str) -> Result<T, String> {
     text.parse().map_err(|_| format!("not a number: {text}\n{USAGE}"))
 }
 
-/// A refusal of the window, in the words for its number.
-pub fn refused(number: i32) -> String {
-    format!("the window was refused, {}", meaning(number).expect("a number of the library"))
+/// That the window or the rectangle is refused, in the words for the number.
+pub fn refused(what: &str, number: i32) -> String {
+    format!("the {what} was refused, {}", meaning(number).expect("a number of the library"))
 }
 
 impl fmt::Display for Disc {

@@ -1,15 +1,18 @@
-//! The legend beside the map: what the colours stand for, and what the window found and opened.
+//! The legend beside the map: what the colours stand for, what the window found and opened, and what the insert needs.
 
 use crate::asked::{shortest, Disc};
-use crate::look::{colour, EDGE, FOUND, RECORD};
+use crate::insert::Insert;
+use crate::look::{colour, new_record, EDGE, FOUND, FULL, RECORD};
+use crate::shown::Shown;
 use crate::svg::{circle, rect, text, Place};
 use crate::tree::{Node, Tree};
-use crate::window::{is_opened, Shown};
+use crate::window::Searched;
 use dustmap::Rect;
 use std::iter::once;
 
 const PLAIN: &str = "font-size=\"13\" fill=\"#333333\"";
 const SMALL: &str = "font-size=\"11\" fill=\"#595959\"";
+const BOLD: &str = "font-size=\"13\" font-weight=\"bold\" fill=\"#222222\"";
 const INDENT: f64 = 34.0;
 
 /// How wide a line with a box to tick is.
@@ -72,6 +75,22 @@ impl Legend {
         rect(Place { x: self.x, y: self.y, width: 24.0, height: 14.0 }, look)
     }
 
+    /// The root and the chosen leaf within it as a sample, as they are drawn; where the root is that leaf, a box.
+    fn nested(&self, insert: &Insert) -> String {
+        let height = insert.path.len() as i32;
+        let root = if insert.splits_root() { FULL } else { colour(height) };
+        let leaf = if insert.run > 0 { FULL } else { colour(1) };
+        let within = Place { x: self.x + 5.0, y: self.y + 4.0, width: 14.0, height: 6.0 };
+        match height {
+            1 => self.boxed(&marked(leaf)),
+            _ => {
+                let outer =
+                    format!("rx=\"3\" fill=\"none\" stroke=\"{root}\" stroke-width=\"2.2\"");
+                self.boxed(&outer) + &rect(within, &marked(leaf))
+            }
+        }
+    }
+
     /// A circle as a sample, likewise.
     fn ring(&self, look: &str) -> String {
         circle((self.x + 12.0, self.y + 7.0), 7.0, look)
@@ -79,7 +98,7 @@ impl Legend {
 }
 
 /// The legend, and where it ends on the sheet.
-pub fn legend(tree: &Tree, shown: Option<&Shown>, x: f64) -> (String, f64) {
+pub fn legend(tree: &Tree, shown: &Shown, x: f64) -> (String, f64) {
     let mut legend = Legend { x, y: EDGE - 12.0, out: String::new() };
     legend.heading("The map");
     legend.line(
@@ -89,7 +108,7 @@ pub fn legend(tree: &Tree, shown: Option<&Shown>, x: f64) -> (String, f64) {
     );
     legend.line(&format!("{} of {} slots in use", tree.nodes.len(), tree.slots), PLAIN, 0.0);
     let record = format!("fill=\"{RECORD}\" fill-opacity=\"0.22\" stroke=\"{RECORD}\"");
-    let words = match shown {
+    let words = match shown.window() {
         Some(s) => {
             let others = tree.records().len() - s.found.len();
             format!("{} not found", counted(others, "record", "records"))
@@ -104,8 +123,10 @@ pub fn legend(tree: &Tree, shown: Option<&Shown>, x: f64) -> (String, f64) {
         legend.switch(&format!("level-{level}"), &look, &level_line(tree, shown, level));
     }
     legend.line("each level is drawn a little wider", SMALL, 0.0);
-    if let Some(shown) = shown {
-        window_lines(&mut legend, shown);
+    match shown {
+        Shown::Nothing => (),
+        Shown::Window(searched) => window_lines(&mut legend, searched),
+        Shown::Insert(insert) => insert_lines(&mut legend, insert),
     }
     help(&mut legend);
     (legend.out, legend.y)
@@ -127,7 +148,7 @@ fn help(legend: &mut Legend) {
 }
 
 /// How many nodes a level has, and how many of them the search opens.
-fn level_line(tree: &Tree, shown: Option<&Shown>, level: i32) -> String {
+fn level_line(tree: &Tree, shown: &Shown, level: i32) -> String {
     let nodes: Vec<&Node> = tree.nodes.iter().filter(|node| node.level == level).collect();
     let what = match (level == tree.height, level) {
         (true, 1) => "the root, a leaf".to_string(),
@@ -135,15 +156,16 @@ fn level_line(tree: &Tree, shown: Option<&Shown>, level: i32) -> String {
         (false, 1) => format!("level 1, {} leaves", nodes.len()),
         (false, _) => format!("level {level}, {}", counted(nodes.len(), "node", "nodes")),
     };
-    let opened = nodes.iter().filter(|node| is_opened(node, shown)).count();
-    if shown.is_some() {
-        format!("{what}; {opened} opened")
-    } else {
-        what
+    match shown.window() {
+        Some(searched) => {
+            let opened = nodes.iter().filter(|node| searched.opens(node)).count();
+            format!("{what}; {opened} opened")
+        }
+        None => what,
     }
 }
 
-fn window_lines(legend: &mut Legend, shown: &Shown) {
+fn window_lines(legend: &mut Legend, shown: &Searched) {
     legend.heading("The window");
     let window =
         format!("fill=\"none\" stroke=\"{FOUND}\" stroke-width=\"2\" stroke-dasharray=\"6 4\"");
@@ -154,12 +176,8 @@ fn window_lines(legend: &mut Legend, shown: &Shown) {
     if let Some(disc) = &shown.disc {
         disc_lines(legend, disc);
     }
-    let opened = format!(
-        "rx=\"3\" fill=\"{0}\" fill-opacity=\"0.15\" stroke=\"{0}\" stroke-width=\"2.2\"",
-        colour(1)
-    );
     let words = format!("{} opened", counted(shown.opened.len(), "node", "nodes"));
-    legend.sample(&legend.boxed(&opened), &words);
+    legend.sample(&legend.boxed(&marked(colour(1))), &words);
     let found = format!("fill=\"{FOUND}\" fill-opacity=\"0.38\" stroke=\"{FOUND}\"");
     legend.switch(
         "found",
@@ -183,16 +201,67 @@ fn disc_lines(legend: &mut Legend, disc: &Disc) {
     }
 }
 
-/// The numbers found, in found order, as many as have room.
-fn number_lines(shown: &Shown) -> Vec<String> {
+/// The insert: the way that it would go, the run of full nodes, the slots, and how it would be answered.
+fn insert_lines(legend: &mut Legend, insert: &Insert) {
+    legend.heading("The insert");
+    let Rect { low_x, low_y, high_x, high_y } = insert.rect;
+    legend.switch("insert", &new_record(), "the new rectangle");
+    legend.line(&format!("from {low_x}, {low_y}"), PLAIN, INDENT);
+    legend.line(&format!("to {high_x}, {high_y}"), PLAIN, INDENT);
+    legend.sample(&legend.nested(insert), "the path to the chosen leaf:");
+    for words in path_lines(insert) {
+        legend.line(&words, SMALL, INDENT);
+        legend.y -= 6.0;
+    }
+    legend.y += 6.0;
+    run_lines(legend, insert);
+    legend.line(&insert.needs(), PLAIN, INDENT);
+    legend.line(&insert.answer(), BOLD, INDENT);
+}
+
+/// "slots 3, 1": those of the path, the root's first.
+fn path_lines(insert: &Insert) -> Vec<String> {
+    let slots: Vec<String> = insert.path.iter().map(usize::to_string).collect();
+    let words = format!("{} {}", if slots.len() == 1 { "slot" } else { "slots" }, slots.join(", "));
+    wrapped(words.split(' ').map(str::to_string))
+}
+
+/// The run of full nodes, each of which would be split.
+fn run_lines(legend: &mut Legend, insert: &Insert) {
+    if insert.run == 0 {
+        legend.line("the chosen leaf is not full", PLAIN, INDENT);
+        return;
+    }
+    let words = format!("{} in the run", counted(insert.run, "full node", "full nodes"));
+    legend.sample(&legend.boxed(&marked(FULL)), &words);
+    if insert.splits_root() {
+        legend.line("it includes the root: one more", PLAIN, INDENT);
+    }
+}
+
+/// How a node looks that the search opens, or that is on the path.
+fn marked(colour: &str) -> String {
+    format!(
+        "rx=\"3\" fill=\"{colour}\" fill-opacity=\"0.15\" stroke=\"{colour}\" stroke-width=\"2.2\""
+    )
+}
+
+/// The words on as many lines as they take.
+fn wrapped(words: impl Iterator<Item = String>) -> Vec<String> {
     let mut lines = vec![String::new()];
-    for number in shown.found.iter().map(|record| record.number.to_string()) {
-        if lines[lines.len() - 1].len() + number.len() > LINE {
+    for word in words {
+        if lines[lines.len() - 1].len() + word.len() > LINE {
             lines.push(String::new());
         }
         let last = lines.len() - 1;
-        lines[last] += &format!("{number} ");
+        lines[last] += &format!("{word} ");
     }
+    lines
+}
+
+/// The numbers found, in found order, as many as have room.
+fn number_lines(shown: &Searched) -> Vec<String> {
+    let mut lines = wrapped(shown.found.iter().map(|record| record.number.to_string()));
     if lines.len() > MOST_LINES {
         lines.truncate(MOST_LINES);
         let written: usize = lines.iter().map(|line| line.split_whitespace().count()).sum();

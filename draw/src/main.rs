@@ -1,16 +1,18 @@
 //! Draws the map that a file of frames leaves, as SVG on standard output.
 //!
-//! usage: draw [--slots N] FRAMES [WINDOW [--inside | --enclosing]]
+//! usage: draw [--slots N] FRAMES [WINDOW [--inside | --enclosing] | --insert LOW-X LOW-Y HIGH-X HIGH-Y]
 
 mod asked;
 mod batch;
 mod frames;
+mod insert;
 mod labels;
 mod legend;
 mod look;
 mod mode;
 mod page;
 mod picture;
+mod shown;
 mod svg;
 mod tree;
 mod window;
@@ -22,9 +24,12 @@ use std::process::ExitCode;
 const SLOTS: usize = 128;
 
 const USAGE: &str = "usage: tools/draw [--slots N] FRAMES [WINDOW [--inside | --enclosing]] > map.svg
+       tools/draw [--slots N] FRAMES --insert LOW-X LOW-Y HIGH-X HIGH-Y > map.svg
 FRAMES is a file as dustmap reads it, or - for standard input. WINDOW is in millimetres: LOW-X LOW-Y HIGH-X HIGH-Y, four whole numbers;
 or --box LOW-X LOW-Y HIGH-X HIGH-Y, --point X Y or --disc X Y RADIUS, whose numbers need not be whole.
 The records that meet the window are marked; with --inside those alone that lie inside it, with --enclosing those alone that enclose it.
+With --insert, whose four numbers are whole, the way is marked that an insert of that rectangle would go, and the full nodes that it would
+split; the legend says how many slots it needs, how many are free, and whether it fits.
 The pool has 128 slots, as that of dustmap, unless --slots says another number, 1 to 4096.";
 
 fn main() -> ExitCode {
@@ -44,12 +49,12 @@ fn run() -> Result<(), String> {
         ["--slots", number, rest @ ..] => (slots_of(number)?, rest),
         rest => (SLOTS, rest),
     };
-    let (file, window) = rest.split_first().ok_or(USAGE)?;
-    let asked = asked::asked(mode, window)?;
+    let (file, words) = rest.split_first().ok_or(USAGE)?;
+    let asked = asked::asked(mode, words)?;
     let mut pool = after(&bytes_of(file)?, slots);
     let tree = tree::read(&pool);
-    let shown = asked.map(|asked| window::look(&mut pool, &tree, asked)).transpose()?;
-    write(&picture::draw(&tree, shown.as_ref()))
+    let shown = shown::look(&mut pool, &tree, asked)?;
+    write(&picture::draw(&tree, &shown))
 }
 
 /// A reader that closes early is no fault of ours; a full disk is to be told.

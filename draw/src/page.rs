@@ -1,10 +1,12 @@
 //! What a browser adds to the picture: the parts that say what is pointed at, their style, and the script. All of it is hidden until
 //! the script runs, so that a viewer without scripts shows the picture and no control that does nothing.
 
+use crate::insert::Insert;
 use crate::legend::counted;
+use crate::shown::Shown;
 use crate::svg::{rect, Place};
 use crate::tree::Tree;
-use crate::window::Shown;
+use crate::window::Searched;
 
 const STYLE: &str = include_str!("page.css");
 const SCRIPT: &str = include_str!("page.js");
@@ -13,25 +15,39 @@ const SCRIPT: &str = include_str!("page.js");
 const HELP: &str = "Map. Arrow keys go from record to record, Home to the first, End to the last.";
 
 /// The name of the page, what it shows in a sentence, and how its parts look.
-pub fn head(tree: &Tree, shown: Option<&Shown>) -> String {
+pub fn head(tree: &Tree, shown: &Shown) -> String {
     let map = format!(
         "Map of {}, height {}",
         counted(tree.records().len(), "record", "records"),
         tree.height
     );
-    let window = shown.map(|s| {
-        let [low_x, low_y, high_x, high_y] = s.window.to_words();
-        let disc = s.disc.as_ref().map(|disc| format!(" of {disc}")).unwrap_or_default();
-        format!(
-            ", and the window {low_x}, {low_y} to {high_x}, {high_y}{disc}: {} found {} it, {} opened",
-            counted(s.found.len(), "record", "records"),
-            s.mode,
-            counted(s.opened.len(), "node", "nodes")
-        )
-    });
+    let more = match shown {
+        Shown::Nothing => String::new(),
+        Shown::Window(searched) => window_told(searched),
+        Shown::Insert(insert) => insert_told(insert),
+    };
     format!(
-        "<title id=\"name\">dustmap</title>\n<desc id=\"told\">{map}{}.</desc>\n<style>\n{STYLE}</style>\n",
-        window.unwrap_or_default()
+        "<title id=\"name\">dustmap</title>\n<desc id=\"told\">{map}{more}.</desc>\n<style>\n{STYLE}</style>\n"
+    )
+}
+
+fn window_told(s: &Searched) -> String {
+    let [low_x, low_y, high_x, high_y] = s.window.to_words();
+    let disc = s.disc.as_ref().map(|disc| format!(" of {disc}")).unwrap_or_default();
+    format!(
+        ", and the window {low_x}, {low_y} to {high_x}, {high_y}{disc}: {} found {} it, {} opened",
+        counted(s.found.len(), "record", "records"),
+        s.mode,
+        counted(s.opened.len(), "node", "nodes")
+    )
+}
+
+fn insert_told(i: &Insert) -> String {
+    let [low_x, low_y, high_x, high_y] = i.rect.to_words();
+    format!(
+        ", and the insert of {low_x}, {low_y} to {high_x}, {high_y}: it {}: {}",
+        i.needs(),
+        i.answer()
     )
 }
 

@@ -1,12 +1,13 @@
-//! The picture: covers by level, records with their numbers, the window and its disc, a scale bar and the legend.
+//! The picture: covers by level, records with their numbers, the window and its disc or the rectangle of an insert, a scale bar and the
+//! legend.
 
 use crate::labels::Labels;
 use crate::legend::{counted, legend};
-use crate::look::{colour, EDGE, FOUND, RECORD};
+use crate::look::{colour, new_record, EDGE, FOUND, FULL, RECORD};
 use crate::page;
+use crate::shown::{Mark, Shown};
 use crate::svg::{circle, layer, line, rect, text, titled, Place, Scale};
 use crate::tree::{joint, Held, Node, Tree};
-use crate::window::{is_found, is_opened, Shown};
 use dustmap::Rect;
 
 const SHEET: (f64, f64) = (1280.0, 860.0);
@@ -15,7 +16,7 @@ const LEGEND: f64 = 300.0;
 /// Between the map and its legend: room for the boxes to tick.
 const GUTTER: f64 = 36.0;
 
-/// With more records than this, a window's numbers would be lost among all the others.
+/// With more records than this, the numbers of those that a window or an insert is about would be lost among all the others.
 const CROWD: usize = 200;
 
 /// And with more found in such a crowd, their numbers would cover them.
@@ -27,7 +28,7 @@ const CROSS: f64 = 5.0;
 /// With more nodes than this, the pen is a finer one: they would lie on those beside them.
 const MANY_NODES: f64 = 100.0;
 
-pub fn draw(tree: &Tree, shown: Option<&Shown>) -> String {
+pub fn draw(tree: &Tree, shown: &Shown) -> String {
     let most_wide = SHEET.0 - LEGEND - GUTTER - 2.0 * EDGE;
     let mut scale = Scale::fit(extent(tree, shown), EDGE, EDGE, most_wide, SHEET.1 - 2.0 * EDGE);
     scale.pen = pen(tree);
@@ -47,6 +48,7 @@ pub fn draw(tree: &Tree, shown: Option<&Shown>) -> String {
     out += &records(tree, shown, &scale, sheet);
     out += &window(shown, &scale);
     out += &disc(shown, &scale);
+    out += &insert(shown, &scale);
     out += &bar(&scale);
     out += &page::glass(sheet, scale.pen);
     out += &legend;
@@ -58,18 +60,18 @@ fn pen(tree: &Tree) -> f64 {
     (MANY_NODES / tree.nodes.len() as f64).powf(0.25).min(1.0)
 }
 
-/// All records and the window; where there is neither, a square metre around the origin.
-fn extent(tree: &Tree, shown: Option<&Shown>) -> Rect {
+/// All records, and the window or the rectangle of the insert; where there is nothing, a square metre around the origin.
+fn extent(tree: &Tree, shown: &Shown) -> Rect {
     let covers = tree.nodes.iter().filter_map(|node| node.cover);
-    let all = covers.chain(shown.map(|s| s.window)).reduce(joint);
+    let all = covers.chain(shown.rect()).reduce(joint);
     all.unwrap_or(Rect::from_words([-500, -500, 500, 500]))
 }
 
-/// The covers, highest level first; in each level, those opened last, so that they lie on top.
-fn covers(tree: &Tree, shown: Option<&Shown>, scale: &Scale) -> String {
+/// The covers, highest level first; in each level, those marked last, so that they lie on top.
+fn covers(tree: &Tree, shown: &Shown, scale: &Scale) -> String {
     let of_level = |level: i32| {
         let mut nodes: Vec<&Node> = tree.nodes.iter().filter(|node| node.level == level).collect();
-        nodes.sort_by_key(|node| is_opened(node, shown));
+        nodes.sort_by_key(|node| shown.mark(node));
         let shapes: String =
             nodes.iter().filter_map(|node| Some(cover(node, node.cover?, shown, scale))).collect();
         let look = format!(
@@ -82,21 +84,27 @@ fn covers(tree: &Tree, shown: Option<&Shown>, scale: &Scale) -> String {
 }
 
 /// Each level is drawn a little wider than the one below, since tight covers share edges.
-fn cover(node: &Node, tight: Rect, shown: Option<&Shown>, scale: &Scale) -> String {
-    // Only leaves are tinted: all that lies below a higher node would take its colour too.
-    let (look, thick) = match (shown.is_some(), is_opened(node, shown), node.level) {
-        (true, true, 1) => ("fill-opacity=\"0.12\"", 2.2),
-        (true, true, _) => ("", 2.2),
-        (true, false, _) => ("stroke-opacity=\"0.6\"", 1.1),
-        (false, _, _) => ("stroke-opacity=\"0.9\"", 1.5),
-    };
+fn cover(node: &Node, tight: Rect, shown: &Shown, scale: &Scale) -> String {
+    let (look, thick) = outline(node, shown.mark(node));
     let (wider, thick) = (1.5 + 3.5 * f64::from(node.level), thick * scale.pen);
     let place = scale.place(&tight).wider_by(wider * scale.pen * scale.pen);
     let entries = counted(node.entries.len(), "entry", "entries");
-    let opened = if is_opened(node, shown) { ", opened" } else { "" };
+    let Node { slot, level, .. } = node;
     let words =
-        format!("slot {}, level {}{opened}: {}; {entries}", node.slot, node.level, sides(&tight));
+        format!("slot {slot}, level {level}{}: {}; {entries}", shown.said(node), sides(&tight));
     titled(&words, &rect(place, &format!("rx=\"3\" stroke-width=\"{thick:.2}\" {look}")))
+}
+
+/// How a node's outline looks, and how thick it is.
+fn outline(node: &Node, mark: Mark) -> (String, f64) {
+    // Only leaves are tinted: all that lies below a higher node would take its colour too.
+    let tint = if node.level == 1 { "fill-opacity=\"0.12\"" } else { "" };
+    match mark {
+        Mark::Plain => ("stroke-opacity=\"0.9\"".to_string(), 1.5),
+        Mark::Pale => ("stroke-opacity=\"0.6\"".to_string(), 1.1),
+        Mark::Marked => (tint.to_string(), 2.2),
+        Mark::Run => (format!("fill=\"{FULL}\" stroke=\"{FULL}\" {tint}"), 3.0),
+    }
 }
 
 fn sides(rect: &Rect) -> String {
@@ -105,11 +113,12 @@ fn sides(rect: &Rect) -> String {
 }
 
 /// The records, those found on top; then the numbers.
-fn records(tree: &Tree, shown: Option<&Shown>, scale: &Scale, sheet: Place) -> String {
+fn records(tree: &Tree, shown: &Shown, scale: &Scale, sheet: Place) -> String {
+    let window = shown.window();
     let mut all = tree.records();
     all.sort_by_key(|held| held.record);
     let (found, others): (Vec<Held>, Vec<Held>) =
-        all.into_iter().partition(|held| is_found(&held.record, shown));
+        all.into_iter().partition(|held| window.is_some_and(|w| w.finds(&held.record)));
     let shapes = |held: &[Held], words: &str| -> String {
         held.iter().map(|h| record(h, words, scale)).collect()
     };
@@ -120,17 +129,23 @@ fn records(tree: &Tree, shown: Option<&Shown>, scale: &Scale, sheet: Place) -> S
         )
     };
     let mut out = layer("records", &look(RECORD, 0.22), &shapes(&others, ""));
-    if shown.is_some() {
+    if window.is_some() {
         out += &layer("found", &look(FOUND, 0.38), &shapes(&found, ", found"));
     }
-    // A crowded map has only the numbers of those found, if they are few.
-    let crowded = shown.is_some() && found.len() + others.len() > CROWD;
-    let numbered = match (crowded, found.len() > MANY_FOUND) {
-        (false, _) => (&others[..], &found[..]),
-        (true, false) => (&[][..], &found[..]),
-        (true, true) => (&[][..], &[][..]),
-    };
-    out + &numbers(numbered.0, numbered.1, scale, sheet)
+    let crowded = found.len() + others.len() > CROWD;
+    let numbered = |held: &&Held| !crowded || stands_out(held, shown);
+    let others: Vec<&Held> = others.iter().filter(numbered).collect();
+    let found: Vec<&Held> = found.iter().filter(numbered).collect();
+    out + &numbers(&others, &found, scale, sheet)
+}
+
+/// Whether a record has its number in a crowd: a record that is found, if they are few, or one in the chosen leaf.
+fn stands_out(held: &Held, shown: &Shown) -> bool {
+    match shown {
+        Shown::Nothing => true,
+        Shown::Window(s) => s.found.len() <= MANY_FOUND && s.finds(&held.record),
+        Shown::Insert(insert) => insert.path.last() == Some(&held.slot),
+    }
 }
 
 /// A point is a dot, a line a line, all else a box.
@@ -156,9 +171,9 @@ fn record(held: &Held, found: &str, scale: &Scale) -> String {
 }
 
 /// The numbers, those found first, since a number is left out where it has no room; a layer of them goes with that of its records.
-fn numbers(others: &[Held], found: &[Held], scale: &Scale, sheet: Place) -> String {
+fn numbers(others: &[&Held], found: &[&Held], scale: &Scale, sheet: Place) -> String {
     let mut labels = Labels::new(sheet);
-    let mut of = |held: &[Held], found: bool| -> String {
+    let mut of = |held: &[&Held], found: bool| -> String {
         let mut out = String::new();
         for Held { record, .. } in held.iter().rev() {
             let words = record.number.to_string();
@@ -185,17 +200,18 @@ fn number(at: (f64, f64), words: &str, found: bool) -> String {
 }
 
 /// The window; one without area is made large enough to see.
-fn window(shown: Option<&Shown>, scale: &Scale) -> String {
+fn window(shown: &Shown, scale: &Scale) -> String {
     let look =
         format!("fill=\"none\" stroke=\"{FOUND}\" stroke-width=\"2\" stroke-dasharray=\"8 5\"");
     shown
+        .window()
         .map(|s| layer("window", "", &rect(scale.place(&s.window).at_least(12.0), &look)))
         .unwrap_or_default()
 }
 
 /// The disc that the window is around, and a cross at its centre: a dot there would look like a record.
-fn disc(shown: Option<&Shown>, scale: &Scale) -> String {
-    let Some(disc) = shown.and_then(|s| s.disc.as_ref()) else {
+fn disc(shown: &Shown, scale: &Scale) -> String {
+    let Some(disc) = shown.window().and_then(|s| s.disc.as_ref()) else {
         return String::new();
     };
     let (x, y) = scale.point(disc.x, disc.y);
@@ -204,6 +220,16 @@ fn disc(shown: Option<&Shown>, scale: &Scale) -> String {
         + &line((x, y - CROSS), (x, y + CROSS), "");
     let look = format!("fill=\"none\" stroke=\"{FOUND}\" stroke-width=\"1.5\"");
     layer("disc", &look, &titled(&disc.to_string(), &shapes))
+}
+
+/// The rectangle of an insert; one without area is made large enough to see.
+fn insert(shown: &Shown, scale: &Scale) -> String {
+    let Shown::Insert(insert) = shown else {
+        return String::new();
+    };
+    let shape = rect(scale.place(&insert.rect).at_least(12.0), "");
+    let words = format!("the new rectangle: {}", sides(&insert.rect));
+    layer("insert", &new_record(), &titled(&words, &shape))
 }
 
 /// The scale bar, in the lower left corner.

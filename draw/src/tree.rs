@@ -3,6 +3,9 @@
 
 use dustmap::{Found, Rect, HEAD_WORDS, SLOT_WORDS};
 
+/// "M = 8 entries in a node at most": a node that has them is full.
+const MOST: usize = 8;
+
 /// A node in use: its slot, its level (leaf 1), the smallest rectangle that holds its entries, and its entries.
 pub struct Node {
     pub slot: usize,
@@ -64,6 +67,12 @@ pub fn joint(a: Rect, b: Rect) -> Rect {
 /// "Two rectangles meet when on each axis each low is at most the other's high; touching counts."
 pub fn meets(a: &Rect, b: &Rect) -> bool {
     a.low_x <= b.high_x && b.low_x <= a.high_x && a.low_y <= b.high_y && b.low_y <= a.high_y
+}
+
+impl Node {
+    pub fn is_full(&self) -> bool {
+        self.entries.len() == MOST
+    }
 }
 
 impl Tree {

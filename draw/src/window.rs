@@ -1,12 +1,13 @@
 //! A window on the map: what the proved search finds in it, and the nodes that it opens on its way.
 
-use crate::asked::{refused, Asked, Disc};
+use crate::asked::{refused, Disc, Query};
 use crate::batch::one;
 use crate::mode::Mode;
 use crate::tree::{meets, Node, Tree};
 use dustmap::{Found, Rect};
 
-pub struct Shown {
+/// A window that has been searched.
+pub struct Searched {
     pub window: Rect,
     pub mode: Mode,
     /// What the window is around, where it was asked for by a disc.
@@ -19,12 +20,12 @@ pub struct Shown {
 
 /// Searches the pool. Which nodes are opened is read from the covers; the search says how many, and the two have to agree, in every
 /// mode.
-pub fn look(pool: &mut [i32], tree: &Tree, asked: Asked) -> Result<Shown, String> {
-    let Asked { window, mode, disc } = asked;
+pub fn look(pool: &mut [i32], tree: &Tree, asked: Query) -> Result<Searched, String> {
+    let Query { window, mode, disc } = asked;
     let mut found = vec![Found::default(); tree.slots * 8];
     let answer = one(pool, mode.search(window), &mut found);
     if answer.number != 0 {
-        return Err(refused(answer.number as i32));
+        return Err(refused("window", answer.number as i32));
     }
     found.truncate(answer.found as usize);
     let mut opened = Vec::new();
@@ -35,7 +36,7 @@ pub fn look(pool: &mut [i32], tree: &Tree, asked: Asked) -> Result<Shown, String
         "the covers that meet the window, and the root"
     );
     opened.sort_unstable();
-    Ok(Shown { window, mode, disc, found, opened })
+    Ok(Searched { window, mode, disc, found, opened })
 }
 
 /// "Search descends from the root and opens every child whose entry rectangle meets the window." "All modes open the nodes whose
@@ -51,12 +52,14 @@ fn open(tree: &Tree, slot: usize, window: &Rect, opened: &mut Vec<usize>) {
     }
 }
 
-/// Whether the search of the window, if there is one, opens the node.
-pub fn is_opened(node: &Node, shown: Option<&Shown>) -> bool {
-    shown.is_some_and(|s| s.opened.binary_search(&node.slot).is_ok())
-}
+impl Searched {
+    /// Whether the search opens the node.
+    pub fn opens(&self, node: &Node) -> bool {
+        self.opened.binary_search(&node.slot).is_ok()
+    }
 
-/// Whether the search of the window, if there is one, finds the record.
-pub fn is_found(record: &Found, shown: Option<&Shown>) -> bool {
-    shown.is_some_and(|s| s.found.binary_search(record).is_ok())
+    /// Whether the search finds the record.
+    pub fn finds(&self, record: &Found) -> bool {
+        self.found.binary_search(record).is_ok()
+    }
 }

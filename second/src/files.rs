@@ -40,15 +40,24 @@ pub fn cases(seed: u64, count: usize) -> String {
     kept().into_iter().chain(drawn).take(count).map(|case| answered(&case) + "\n").collect()
 }
 
-/// The cases of a text, each with what is due. An error names the line.
+/// The cases of a text, each with what is due.
 pub fn run(text: &str) -> Result<String, String> {
+    each_line(text, |line| parse(line).map(|case| answered(&case)))
+}
+
+/// The lines of a text, each as it is answered; those that start with `#` are skipped. An error
+/// names the line.
+pub(crate) fn each_line(
+    text: &str,
+    answered: impl Fn(&str) -> Result<String, String>,
+) -> Result<String, String> {
     let mut output = String::new();
     for (index, line) in text.lines().enumerate() {
         if line.trim().is_empty() || line.starts_with('#') {
             continue;
         }
-        let case = parse(line).map_err(|why| format!("line {}: {why}", index + 1))?;
-        output.push_str(&answered(&case));
+        let answered = answered(line).map_err(|why| format!("line {}: {why}", index + 1))?;
+        output.push_str(&answered);
         output.push('\n');
     }
     Ok(output)
@@ -89,7 +98,7 @@ pub fn parse(line: &str) -> Result<Case, String> {
 }
 
 /// Words in decimal, parted by commas; a lone dash for none.
-fn list(words: &[i32]) -> String {
+pub(crate) fn list(words: &[i32]) -> String {
     let words: Vec<String> = words.iter().map(i32::to_string).collect();
     or_dash(words.join(","))
 }
@@ -106,7 +115,7 @@ fn or_dash(text: String) -> String {
     text
 }
 
-fn words(text: &str) -> Result<Vec<i32>, String> {
+pub(crate) fn words(text: &str) -> Result<Vec<i32>, String> {
     if text == "-" {
         return Ok(Vec::new());
     }

@@ -1,9 +1,9 @@
 //! A second, independent program for the dust map: an R-tree in a pool of 32-bit words.
 //!
 //! Written from the documents (01, and of 02 the zones wholly inside, the map carried between
-//! offices, the surveyor's boxes and the flat roads) and Guttman's 1984 paper alone, plainly and
-//! without care for speed, so that others can be compared with it. Sentences in quotes are the
-//! documents'; names such as CL3 or CT6 are the paper's steps.
+//! offices, the surveyor's boxes, the flat roads and the room for an insert) and Guttman's 1984
+//! paper alone, plainly and without care for speed, so that others can be compared with it.
+//! Sentences in quotes are the documents'; names such as CL3 or CT6 are the paper's steps.
 
 #![forbid(unsafe_code)]
 
@@ -25,6 +25,11 @@ pub mod geometry;
 pub mod mode;
 pub mod pool;
 pub mod queries;
+pub mod room;
+pub mod room_told;
+pub mod rooms;
+pub mod rooms_drawn;
+pub mod rooms_kept;
 pub mod script;
 pub mod selftest;
 pub mod sound;
@@ -43,5 +48,6 @@ pub use geometry::{
 };
 pub use mode::Mode;
 pub use pool::{blank, pairs_in_leaves, Pair, RecordNumber, Slot};
+pub use room::room;
 pub use sound::sound;
 pub use survey::{box_window, disc_window, point_window, Query};

@@ -1,11 +1,11 @@
 //! `second dustmap | script | generate STYLE SEED N COUNT | damage SEED N | survey SEED COUNT |
-//! carry | carry SEED COUNT | selftest`
+//! carry | carry SEED COUNT | room | room SEED COUNT | selftest`
 
 use std::io::{Read, Write};
 use std::process::ExitCode;
 
 use second::style::Style;
-use second::{damage, dustmap, files, generate, queries, script, selftest};
+use second::{damage, dustmap, files, generate, queries, rooms, script, selftest};
 
 const USAGE: &str = "usage: second dustmap
        second script
@@ -14,6 +14,8 @@ const USAGE: &str = "usage: second dustmap
        second survey SEED COUNT
        second carry
        second carry SEED COUNT
+       second room
+       second room SEED COUNT
        second selftest
 styles: random clustered grid points lines duplicates limits churn road roads";
 
@@ -46,6 +48,8 @@ fn run(arguments: &[&str]) -> Result<(Vec<u8>, ExitCode), String> {
         ["survey", seed, count] => queries::cases(number(seed)?, number(count)? as usize),
         ["carry"] => files::run(&text_input()?)?,
         ["carry", seed, count] => files::cases(number(seed)?, number(count)? as usize),
+        ["room"] => rooms::run(&text_input()?)?,
+        ["room", seed, count] => rooms::cases(number(seed)?, number(count)? as usize),
         ["selftest"] => return Ok(tested()),
         _ => return Err(USAGE.to_string()),
     };

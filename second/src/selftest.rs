@@ -14,6 +14,7 @@ use crate::geometry::{cover, meets, Rect};
 use crate::pool::{
     entry_rect, entry_words, pairs_in_leaves, slot_words, slots_of, Pair, Slot, SLOT_WORDS,
 };
+use crate::room_told::Told;
 use crate::script::blank_pool;
 use crate::sound::sound;
 use crate::style::{Style, STYLES};
@@ -48,6 +49,8 @@ pub struct Report {
     /// Pools that were carried to another of the same length, and those that had no room there.
     carried: u64,
     carried_refused_7: u64,
+    /// The room that was told before inserts.
+    told: Told,
     events: Events,
 }
 
@@ -57,15 +60,17 @@ impl Report {
         let mut lines = self.failures.clone();
         let refused: Vec<String> =
             (3..=8).map(|n| format!("refused_{n}={}", self.refused[n])).collect();
+        let told = self.told.named().map(|(name, count)| format!("{name}={count}"));
         lines.push(format!(
-            "{} {} requests={} accepted={} tallest={} carried={} carried_refused_7={}",
+            "{} {} requests={} accepted={} tallest={} carried={} carried_refused_7={} {}",
             self.events.line(),
             refused.join(" "),
             self.requests,
             self.accepted,
             self.tallest,
             self.carried,
-            self.carried_refused_7
+            self.carried_refused_7,
+            told.join(" ")
         ));
         lines.push(format!("{} passed, {} failed\n", self.passed, self.failed));
         lines.join("\n")
@@ -104,13 +109,14 @@ pub fn run() -> Report {
     report
 }
 
-/// Every event and every refusal of a request has to have happened, and both ends of a carrying.
+/// Every event and every refusal of a request has to have happened, both ends of a carrying, and
+/// what a room can tell.
 fn check_all_happened(report: &mut Report) {
     let never = |count: u64| count == 0;
     let events = report.events.named();
     let carried = [("carried", report.carried), ("carried_refused_7", report.carried_refused_7)];
-    let refused: Vec<u64> = report.refused[3..=8].to_vec();
-    for (name, count) in events.into_iter().chain(carried) {
+    let (told, refused) = (report.told.named(), report.refused[3..=8].to_vec());
+    for (name, count) in events.into_iter().chain(carried).chain(told) {
         if never(count) {
             report.fail(format!("{name} never happened"));
         }
@@ -183,6 +189,9 @@ impl Trial {
             ensure(found.iter().all(|f| *f == UNTOUCHED), "a change wrote the found list")?;
             self.check_change(&before, request, &answer)?
         };
+        if request.kind == INSERT {
+            report.told.check(&before, request.first, answer.number, &self.pool)?;
+        }
         self.outcomes.push(outcome);
         self.generator.answered(&request, answer.number);
         check_pool(&self.pool, self.generator.in_force())

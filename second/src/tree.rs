@@ -123,6 +123,12 @@ impl Map {
         false
     }
 
+    /// ChooseLeaf for a new record: the nodes on the way, from the root to the leaf chosen.
+    pub fn way_to_leaf(&mut self, rect: &Rect) -> Vec<Slot> {
+        let (path, leaf) = self.choose_node(rect, 1);
+        path.iter().map(|step| step.node).chain([leaf]).collect()
+    }
+
     /// Insert of an entry into a node of the given level, by the insert rules.
     fn insert_entry(&mut self, entry: Entry, level: i64) -> Result<(), NoSlotFree> {
         // I1

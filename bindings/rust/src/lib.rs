@@ -1,8 +1,8 @@
 //! The proved map, for Rust: the functions of `bindings/dustmap.h` as safe ones.
 //!
 //! The numbers that come back are those of the header; `numbers` has a name and the words for each. A rectangle that a surveyor or
-//! dispatch gives in doubles is made by `Rect::from_box`, `Rect::from_point` and `Rect::from_disc`. `write` and `read` carry a map
-//! between offices, as one file of its records.
+//! dispatch gives in doubles is made by `Rect::from_box`, `Rect::from_point` and `Rect::from_disc`. `room` tells beforehand whether
+//! an insert fits. `write` and `read` carry a map between offices, as one file of its records.
 
 pub mod numbers;
 
@@ -58,6 +58,22 @@ pub struct Answer {
 pub struct Found {
     pub number: i32,
     pub rect: Rect,
+}
+
+/// What an insert would need of a pool, and what the pool has.
+#[derive(Clone, Copy, Debug, Default, PartialEq, Eq)]
+pub struct Room {
+    /// The run of full nodes from the chosen leaf upward, and one more where it includes the root. At most the height plus one.
+    pub needed: u32,
+    /// The slots of level 0.
+    pub free: u32,
+}
+
+impl Room {
+    /// Whether the insert fits: it is not refused 7.
+    pub fn fits(&self) -> bool {
+        self.needed <= self.free
+    }
 }
 
 impl Rect {
@@ -166,7 +182,8 @@ pub fn blank_pool(slots: usize) -> Option<Vec<i32>> {
 mod exported {
     use super::{Answer, Found, Request};
 
-    // A slice is passed as two parameters, a pointer and a count; four words, or a number to be written, as one pointer.
+    // A slice is passed as two parameters, a pointer and a count; four words, two words, or a number to be written, as one
+    // pointer.
     extern "C" {
         pub fn dustmap_blank(pool: *mut i32, pool_len: usize) -> i32;
         pub fn dustmap_check(pool: *const i32, pool_len: usize) -> i32;
@@ -181,6 +198,12 @@ mod exported {
             n_answers: usize,
             found: *mut Found,
             n_found: usize,
+        ) -> i32;
+        pub fn dustmap_room(
+            pool: *const i32,
+            pool_len: usize,
+            rect: *const [i32; 4],
+            slots: *mut [u32; 2],
         ) -> i32;
         pub fn dustmap_box(
             low_x: f64,
@@ -246,6 +269,26 @@ pub fn call(
             found.len(),
         )
     }
+}
+
+/// What an insert of this rectangle would need, and what there is, in the pool as it is: requests made before the insert, in the
+/// same batch too, may change both. An insert that nothing else is wrong with is refused 7 exactly where it does not fit.
+///
+/// The error is a number, checked in this order: 1 for a wrong length of the pool, 2 for a pool that is not sound, 3 for a bad
+/// rectangle.
+pub fn room(pool: &[i32], rect: &Rect) -> Result<Room, i32> {
+    let mut slots = [0; 2];
+    match room_into(pool, rect.to_words(), &mut slots) {
+        numbers::ACCEPTED => Ok(Room { needed: slots[0], free: slots[1] }),
+        refusal => Err(refusal),
+    }
+}
+
+/// As `room`, with the number as it comes back: the slots needed and the slots free are written beside 0, and nothing beside 1, 2
+/// and 3.
+pub fn room_into(pool: &[i32], rect: [i32; 4], slots: &mut [u32; 2]) -> i32 {
+    // SAFETY: as above, for one list and two arrays; the rectangle's words may be any.
+    unsafe { exported::dustmap_room(pool.as_ptr(), pool.len(), &rect, slots) }
 }
 
 /// Writes the records of a pool, in found order and each pair once, to the front of the list of bytes, and gives the length of the

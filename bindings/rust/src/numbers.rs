@@ -144,7 +144,7 @@ pub const NUMBERS: [Meaning; 14] = [
         name: "no slot",
         effect: "request or call refused",
         when: "the rules call for a slot at a moment when none is free",
-        what_to_do: "delete what is no longer needed and ask again, or blank a pool with more slots (4,096 at most) and insert every record there; N slots are enough for every file of up to 2N + 1 records",
+        what_to_do: "delete what is no longer needed and ask again, or blank a pool with more slots (4,096 at most) and insert every record there; N slots are enough for every file of up to 2N + 1 records, and room (dustmap_room in C) tells beforehand whether an insert fits",
     },
     Meaning {
         number: NO_ROOM,

@@ -10,8 +10,8 @@ use lib.ListN.{length}
 use Rattle.rules.specs.Pool.{Pool, freeCount}
 use Rattle.rules.specs.Insert.{Choice, Change, Done, NoneFree, insertAt}
 use Rattle.rules.specs.Lawful.{Lawful}
+use Rattle.rules.specs.Room.{slotsNeeded}
 use Rattle.rules.specs.Delete.{Aside, reinsert}
-use Rattle.insert_laws.specs.Slots.{slotsNeeded}
 use Rattle.insert_laws.proofs.Standing.{standing-once}
 use Rattle.insert_laws.proofs.Slots.{level-slots, level-takes, level-needs-few}
 use Rattle.delete_laws.specs.Shrunk.{slotsAside, Waiting, Sure, roomFor, SlotRoom}
@@ -34,7 +34,7 @@ module _ (c : Choice) (lawful : Lawful c) where
   -- the first of them
   module _ (p : Pool) (a : Aside) (rest : List Aside) (w : Waiting p (a ∷ rest)) where
     abbrev needed : ℕ
-    needed = slotsNeeded c (a .level) p (a .entry)
+    needed = slotsNeeded c (a .level) p (a .entry .rect)
 
     low : a .level ≤ p .height
     low = omega (arith, w .low a (List·Memᴰ·head refl))

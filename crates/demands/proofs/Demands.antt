@@ -74,11 +74,14 @@ module _ (l : Lent) where
   unfolding starting
   first-whole h = sound-tree (l .pool) (sound-first h)
 
+  pub first-right : callFault l ≡ none → validLength (l .pool) ≡ true
+  first-right h = not-false _ (or-neither (not (validLength (l .pool))) _ (passed l h .1) .0)
+
   -- the words lent are those of the pool that is read from them
   first-words : callFault l ≡ none → words (starting l .pool) ≡ l .pool
   unfolding starting
   first-words h =
-      sound-fit (l .pool) (not-false _ (or-neither (not (validLength (l .pool))) _ (passed l h .1) .0)) (sound-first h) .same
+      sound-fit (l .pool) (first-right h) (sound-first h) .same
 
   step-whole : (i : ℕ) (b : Batch) (o : Option Asked) → Whole (b .pool) → Whole (doRequest ours i b o .pool)
   unfolding doRequest afterTurn
@@ -155,7 +158,7 @@ module _ (l : Lent) where
 -- ---- D1
 
 module _ (l : Lent) (o : Left) (k : Allowed l o) where
-  fine : o .number ≡ pos 0 → callFault l ≡ none
+  pub fine : o .number ≡ pos 0 → callFault l ≡ none
   unfolding call
   fine z = no-fault ours l (sym (k .number) ∙ z)
 

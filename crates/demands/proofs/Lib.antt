@@ -9,3 +9,5 @@ pub mod ClosedRoads
 pub mod Surveys
 pub mod Files
 pub mod ClosedFiles
+pub mod Rooms
+pub mod ClosedRooms

@@ -13,20 +13,19 @@ use borrow.Author.Tests.{ltb-false, le-ltb, eq-eqb}
 use Rattle.rules.specs.declared.Request.{Request}
 use Rattle.rules.specs.declared.Asked.{Asked}
 use Rattle.rules.specs.declared.Answer.{Answer}
-use Rattle.rules.specs.declared.Verdict.{Verdict}
 use Rattle.rules.specs.declared.Verdict.the-variants.{BadLists, BadLength, NotSound, NoRequest}
 use Rattle.rules.specs.Lists.{every}
 use Rattle.rules.specs.Numbers.{mostRequests}
 use Rattle.rules.specs.Layout.{validLength}
 use Rattle.rules.specs.Sound.{sound}
 use Rattle.rules.specs.Insert.{ours}
-use Rattle.rules.specs.Answers.{answerOf, firstRow}
+use Rattle.rules.specs.Answers.{answerOf}
 use Rattle.rules.specs.Request.{asked, request}
 use Rattle.rules.specs.Call.{Lent, Batch, isRequest, callFault, call, afterTurn, doRequest, doRequests, starting}
 use Rattle.rules_laws.proofs.Everies.{every-less, every-first}
 use Rattle.rules_laws.proofs.Bools.{and-both, not-false, or-neither}
 use Rattle.layout_laws.proofs.Runs.{sets-all}
-use Rattle.in_force_laws.proofs.Faults.{no-row, row-passed}
+use Rattle.in_force_laws.proofs.Faults.{no-row, no-rows, row-passed}
 use Rattle.in_force_laws.proofs.Batch.{noAnswer, two-parts}
 use Rattle.in_force_laws.proofs.Call.{left-answers, answers-long}
 use Rattle.in_force_laws.proofs.Asks.{asks-something}
@@ -131,10 +130,6 @@ module _ {A : Type 0} where
   drop-past (x ∷ xs) y ys = drop-past xs y ys
 
 -- ---- a call that is not refused
-
-no-rows : firstRow {A = Verdict} [] ≡ none
-unfolding firstRow
-no-rows = refl
 
 module _ (l : Lent) (fine : callFault l ≡ none) where
   abbrev rows : Type 0

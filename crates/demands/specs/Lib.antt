@@ -3,3 +3,4 @@ pub mod Steps
 pub mod Demands
 pub mod Surveys
 pub mod Files
+pub mod Rooms

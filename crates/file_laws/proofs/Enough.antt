@@ -110,7 +110,7 @@ module _ (c : Choice) (lawful : Lawful c) where
       let pass = S.passes-fault last r (record { rect = g .0 .0; number = g .0 .1; after = f .0 }) in
       let w2 = insert-whole c lawful p w r (g .0 .0) (g .0 .1) q (i .1) in
       let rest = all-go-in rs (some r) q w2 (a .1) (g .1) (n .1) (unfold follows in a .0)
-      (omega (arith, h, same-slots c lawful p q w r (g .0 .0) (g .0 .1) (i .1), one-more p q w r (g .0) (i .1))) in
+      (omega (arith, h, same-slots c p q r (i .1), one-more p q w r (g .0) (i .1))) in
       let back = record-back r in (
         rest .0,
         S.load-next c (length rs) last p (rest-of (r ∷ rs)) d (next-due r rs (g .0) (n .0)) (ap (recordFault last) back ∙ pass) q (ap (insertRecord c p) back ∙ i .1)

@@ -9,9 +9,7 @@ use native.Mathlib.Omega.{arith}
 use lib.ListN.{length}
 use Rattle.rules.specs.declared.Record.{Record}
 use Rattle.rules.specs.Lists.{those}
-use Rattle.rules.specs.Numbers.{goodNumber}
-use Rattle.rules.specs.Geometry.{valid}
-use Rattle.rules.specs.Pool.{Pool, stored, putRecords, blankPool}
+use Rattle.rules.specs.Pool.{Pool, stored, blankPool}
 use Rattle.rules.specs.Search.{ordered}
 use Rattle.rules.specs.Insert.{Choice, Done, insertRecord}
 use Rattle.rules.specs.Lawful.{Lawful}
@@ -20,9 +18,10 @@ use Rattle.rules_laws.proofs.Places.{Each, each-among, each-of}
 use Rattle.rules_laws.proofs.Parts.{those-none, count-cons}
 use Rattle.sound_laws.specs.Tree.{Whole}
 use Rattle.search_laws.proofs.Order.{before-on}
-use Rattle.insert_laws.proofs.Whole.{insert-whole, insert-stored, insert-put-record}
+use Rattle.insert_laws.proofs.Whole.{insert-whole, insert-stored}
 use Rattle.in_force_laws.specs.Shows.{HoldsRecords}
 use Rattle.in_force_laws.proofs.Call.{blank-holds}
+use Rattle.in_force_laws.proofs.Many.{ChangeHas, insert-has}
 use Rattle.file_laws.specs.Ascending.{Ascending, GoodRecord, Carriable}
 use Rattle.file_laws.proofs.Distinct.{ascending-once, ascending-ordered}
 use Rattle.file_laws.proofs.Steps as S
@@ -55,10 +54,8 @@ follows-on none r x a b = refl
 follows-on (some l) r x a b = before-on l r x a b
 
 -- an insert leaves as many slots
-pub same-slots : (c : Choice) → Lawful c → (p q : Pool) → Whole p → (r : Record) → valid (r .rect) ≡ true → goodNumber (r .number) ≡ true
-    → insertRecord c p r ≡ Done q → length (p .slots) ≡ length (q .slots)
-unfolding putRecords
-same-slots c lawful p q w r v n i = insert-put-record c lawful p w r v n q i .grew .long
+pub same-slots : (c : Choice) (p q : Pool) (r : Record) → insertRecord c p r ≡ Done q → length (p .slots) ≡ length (q .slots)
+same-slots c p q r i = sym (subst (ChangeHas (length (p .slots))) i (insert-has (length (p .slots)) c p r refl))
 
 module _ (c : Choice) (lawful : Lawful c) where
   -- one more in front of the others
@@ -70,7 +67,7 @@ module _ (c : Choice) (lawful : Lawful c) where
       let all : recordsFrom (suc n) bs ≡ r ∷ rest = subst (λ (x : Record). recordsFrom (suc n) bs ≡ x ∷ rest) is (S.records-more n bs d e) in
       record {
         whole = t .whole;
-        slots = same-slots c lawful p q w r (h .rect) (h .number) i ∙ t .slots;
+        slots = same-slots c p q r i ∙ t .slots;
         stored-are = λ f.
             omega (
               arith,

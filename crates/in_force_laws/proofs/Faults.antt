@@ -26,6 +26,10 @@ module _ {A : Type 0} where
   no-row true a rows h = absurd (subst (EachGiven (λ x. ⊥)) (sym h) tt)
   no-row false a rows h = (refl, h)
 
+  pub no-rows : firstRow {A = A} [] ≡ none
+  unfolding firstRow
+  no-rows = refl
+
   pub row-passed : (b : Bool) (a : A) (rows : List (Row A)) → b ≡ false → firstRow rows ≡ none → firstRow (row b a ∷ rows) ≡ none
   unfolding firstRow
   row-passed b a rows e h = rw (e, firstRow) h

@@ -11,3 +11,4 @@ pub mod Pointers
 pub mod Written
 pub mod Sounds
 pub mod Call
+pub mod Many

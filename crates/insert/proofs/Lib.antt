@@ -2,6 +2,7 @@
 pub mod Fitted
 pub mod Nines
 pub mod Divided
+pub mod Ways
 pub mod Steps
 pub mod Roots
 pub mod Records

@@ -20,6 +20,7 @@ use Rattle.rules.specs.Numbers.{mostSlots}
 use Rattle.rules.specs.Pool.{Pool, node, entry, noEntry, entriesAt, coverOf, entryFor, lowestFree, freeCount, putNode, putRoot}
 use Rattle.rules.specs.Insert.{Grown, Kept, Split, Full, Change, Done, NoneFree, ours, newRoot, growTree, insertBelow, insertAt}
 use Rattle.rules.specs.Layout.{read}
+use Rattle.rules.specs.Room.{wayUp, fullRun, slotsNeeded}
 use Rattle.rules_laws.proofs.Splits.{ours-lawful}
 use Rattle.layout_laws.specs.Slots.{Fit, SmallAll, KindAll}
 use Rattle.free_slots.specs.declared.FreeSlots.{FreeSlots}
@@ -28,20 +29,19 @@ use Rattle.free_slots.proofs.Known.{known-less, known-head}
 use Rattle.sound_laws.specs.Tree.{slotsIn, treeSlots, Once, Slot, Tree}
 use Rattle.sound_laws.proofs.Walk.{tree-node}
 use Rattle.insert_laws.specs.Grown as G
-use Rattle.insert_laws.specs.Slots.{leading, isFull, wayUp, slotsNeeded}
 use Rattle.insert_laws.proofs.Under.{fits-level}
 use Rattle.insert_laws.proofs.Below.{below-grows}
 use Rattle.insert_laws.proofs.Root.{raisedTo, grow-kept, grow-split, grow-full, new-none, new-at}
-use Rattle.insert_laws.proofs.Taken.{way-length}
-use Rattle.insert_laws.proofs.Slots.{needed-all, needed-less, level-slots, level-needs-few}
+use Rattle.insert_laws.proofs.Runs.{run, needed-less, needed-all}
+use Rattle.insert_laws.proofs.Slots.{level-slots, level-needs-few}
 use Rattle.insert.specs.declared.Growth.{Growth}
 use Rattle.insert.specs.declared.Growth.the-variants.{One, Two, Stuck}
 use Rattle.insert.specs.declared.Outcome.{Outcome}
 use Rattle.insert.specs.declared.Outcome.the-variants.{Made, Refused}
 use Rattle.insert.specs.Left.{GrewTo, Leaves, Upright}
-use Rattle.insert.specs.State.{WayDown, Beside, Fitted, grownOf, Risen}
+use Rattle.insert.specs.State.{WayDown, GoesDown, Beside, Fitted, grownOf, Risen}
 use Rattle.nodes.proofs.Tight.{Stored, child-stored}
-use Rattle.insert.proofs.Fitted.{fits-stored}
+use Rattle.insert.proofs.Fitted.{fits-stored, fits-valid}
 use Rattle.insert.proofs.Steps.{grown-is, holds-ready}
 
 -- ---- a new root
@@ -138,24 +138,28 @@ module _ (p : Pool) (k : ℕ) (e : Entry) (low : 1 ≤ p .height) (high : p .hei
 
 -- ---- how many slots it takes
 
-module _ (level : ℕ) (p : Pool) (e : Entry) (n : ℕ) (levels : n ≡ p .height - level) (root : SlotNumber) (top : root ≡ p .root) (r : ℕ)
-    (is : r ≡ leading (isFull p) (wayUp ours n p root e)) where
-  abbrev whole-way : List SlotNumber
-  whole-way = wayUp ours (p .height - level) p (p .root) e
+module _ (level : ℕ) (p : Pool) (new : Rect) (h : WayDown p (p .height - level) (p .root) new) (n : ℕ) (levels : n ≡ p .height - level)
+    (root : SlotNumber) (top : root ≡ p .root) (r : ℕ) (is : r ≡ length (fullRun p (wayUp ours n p root new))) where
+  abbrev depth : ℕ
+  depth = p .height - level
 
-  run-is : r ≡ leading (isFull p) whole-way
-  run-is = is ∙ (λ i. leading (isFull p) (wayUp ours (levels i) p (top i) e))
+  run-is : r ≡ run ours depth p (p .root) new
+  unfolding run
+  run-is = is ∙ (λ i. length (fullRun p (wayUp ours (levels i) p (top i) new)))
 
-  long : length whole-way ≡ suc n
-  long = omega (arith, way-length ours (p .height - level) p (p .root) e)
-
-  pub needs-run : r ≤ n → r ≡ slotsNeeded ours level p e
+  pub needs-run : r ≤ n → r ≡ slotsNeeded ours level p new
   unfolding slotsNeeded
-  needs-run h = run-is ∙ sym (needed-less p whole-way (omega (arith, run-is, long)))
+  needs-run k =
+      run-is ∙ sym (needed-less ours ours-lawful p (h .level) (h .low) new depth (depth + h .level) (p .root) refl (h .tree) (h .some) (omega (arith, run-is)))
 
-  pub needs-more : r ≡ suc n → r + 1 ≡ slotsNeeded ours level p e
+  pub needs-more : r ≡ suc n → r + 1 ≡ slotsNeeded ours level p new
   unfolding slotsNeeded
-  needs-more h = omega (arith, run-is, needed-all p whole-way (omega (arith, run-is, long)))
+  needs-more k =
+      omega (
+        arith,
+        run-is,
+        needed-all ours ours-lawful p (h .level) (h .low) new depth (depth + h .level) (p .root) refl (h .tree) (h .some) (omega (arith, run-is)),
+      )
 
 -- ---- from the root
 
@@ -166,35 +170,46 @@ leaves-made (Done q) Refused a b v n h = absurd h
 leaves-made NoneFree r a b v n h = absurd (n refl)
 
 module _ (p : Pool) (level : ℕ) (e : Entry) (u : Upright p) (low : level ≤ p .height) (high : p .height ≤ 64) (f : G.Fits p level e) where
-  pub root-way : (n : ℕ) → n ≡ p .height - level → (root : SlotNumber) → root ≡ p .root → WayDown p n root e
-  root-way n levels root top =
+  same : p .height ≡ p .height - level + level
+  same = omega arith
+
+  pub root-way : WayDown p (p .height - level) (p .root) (e .rect)
+  root-way =
       let l = fits-level p level e f in
-      let same : p .height ≡ n + level = omega arith in
-      subst⁻¹ (λ (s : SlotNumber). WayDown p n s e) top (record {
+      record {
         level = level;
+        low = omega arith;
         tree = subst (λ (k : ℕ). Tree p k (p .root)) same (u .tree);
-        once = subst (λ (k : ℕ). Once (slotsIn p k (p .root))) same (u .once);
         some = λ h. u .some (omega arith);
-        fits = f;
         few = omega arith;
-      })
+        good = fits-valid p level e f;
+      }
 
-  pub enough-free : (count height : ℕ) → height ≡ p .height → height < count → false ≡ ltb count (slotsNeeded ours level p e)
+  pub root-goes : (n : ℕ) → n ≡ p .height - level → (root : SlotNumber) → root ≡ p .root → GoesDown p n root e
+  unfolding root-way
+  root-goes n levels root top =
+      subst⁻¹ (λ (k : ℕ). GoesDown p k root e) levels (subst⁻¹ (λ (s : SlotNumber). GoesDown p (p .height - level) s e) top (record {
+        way = root-way;
+        once = subst (λ (k : ℕ). Once (slotsIn p k (p .root))) same (u .once);
+        fits = f;
+      }))
+
+  pub enough-free : (count height : ℕ) → height ≡ p .height → height < count → false ≡ ltb count (slotsNeeded ours level p (e .rect))
   enough-free count height is h =
-      sym (le-ltb count (slotsNeeded ours level p e) (omega (arith, level-needs-few ours ours-lawful p level e (u .tree) (u .once) (u .some) f low)))
+      sym (le-ltb count (slotsNeeded ours level p (e .rect)) (omega (arith, level-needs-few ours ours-lawful p level e (u .tree) (u .once) (u .some) f low)))
 
-  module _ (w : List ℤ) {k : FreeSlots} (known : Known p k) (b : Bool) (told : b ≡ ltb (k .count) (slotsNeeded ours level p e)) where
-    slots : (insertAt ours level p e ≡ NoneFree) ↔ (freeCount p < slotsNeeded ours level p e)
+  module _ (w : List ℤ) {k : FreeSlots} (known : Known p k) (b : Bool) (told : b ≡ ltb (k .count) (slotsNeeded ours level p (e .rect))) where
+    slots : (insertAt ours level p e ≡ NoneFree) ↔ (freeCount p < slotsNeeded ours level p (e .rect))
     slots = level-slots ours ours-lawful p level e (u .tree) (u .once) (u .some) f low
 
     pub at-refused : b ≡ true → Leaves w (insertAt ours level p e) Refused w
     at-refused t =
-        let less = ltb-true (k .count) (slotsNeeded ours level p e) (sym told ∙ t) in
+        let less = ltb-true (k .count) (slotsNeeded ours level p (e .rect)) (sym told ∙ t) in
         subst⁻¹ (λ (o : Change). Leaves w o Refused w) (slots .1 (omega (arith, known .many))) refl
 
     suffice : b ≡ false → insertAt ours level p e ≢ NoneFree
     suffice t z =
-        let many = ltb-false (k .count) (slotsNeeded ours level p e) (sym told ∙ t) in
+        let many = ltb-false (k .count) (slotsNeeded ours level p (e .rect)) (sym told ∙ t) in
         omega (arith, slots .0 z, known .many)
 
     -- the entry went in from the root, and what became of the root has become of the pool

@@ -1,9 +1,7 @@
--- The way down and back. Below a node on the way stands the child that the entry goes below, on the way too. While the child grew, the
--- node itself has not changed, so its entry leads there still; made tight, the node is the top of a tree again, in which the partner's
--- entry fits.
+-- The way of an entry, down and back. While the child that it goes below grew, the node itself has not changed, so its entry leads there still;
+-- made tight, the node is the top of a tree again, in which the partner's entry fits.
 use mathlib.Core.Path.{_≡_, refl, sym, ap, ap₂, subst, subst⁻¹, _∙_}
-use mathlib.Core.Bool.{true, false}
-use mathlib.Core.List.{List, [], _∷_, List·Memᴰ·head}
+use mathlib.Core.List.{List, List·Memᴰ·head}
 use Prim.Native.Nat.{ℕ, suc, _+_, _-_, _≤_, _<_}
 use native.Mathlib.Omega.{arith}
 use lib.ListN.{length, set}
@@ -13,39 +11,32 @@ use Rattle.rules.specs.declared.SlotNumber.{SlotNumber}
 use Rattle.rules.specs.declared.Pointer.the-variants.{Child}
 use Rattle.rules.specs.declared.Entry.{Entry}
 use Rattle.rules.specs.Numbers.{least}
-use Rattle.rules.specs.Geometry.{valid, cover}
-use Rattle.rules.specs.Pool.{Node, Pool, node, entry, noEntry, nodeAt, entriesAt, entryFrom, entryAt, childOf, isLeaf, rects, coverOf, entryFor, putEntries, tighten}
+use Rattle.rules.specs.Geometry.{cover}
+use Rattle.rules.specs.Pool.{Node, Pool, node, entry, nodeAt, entriesAt, entryFrom, entryAt, childOf, rects, coverOf, entryFor, putEntries, tighten}
 use Rattle.rules.specs.Choose.{rectFrom}
 use Rattle.rules.specs.Insert.{Grown, Kept, Split, Full, ours, install, adjust, insertBelow}
 use Rattle.rules.specs.Layout.{read}
-use Rattle.rules_laws.proofs.Places.{at-place}
 use Rattle.rules_laws.proofs.Splits.{ours-lawful}
-use Rattle.choose.specs.State.{Choosable}
 use Rattle.layout_laws.specs.Slots.{Fit}
-use Rattle.layout_laws.proofs.Parts.{length-rects, rect-entry}
+use Rattle.layout_laws.proofs.Parts.{rect-entry}
 use Rattle.free_slots.specs.declared.FreeSlots.{FreeSlots}
 use Rattle.free_slots.specs.Known.{Known}
 use Rattle.free_slots.proofs.Known.{known-put}
-use Rattle.sound_laws.specs.Tree.{slotsIn, Once, Slot, NodeIn, InnerEntry, Tree}
+use Rattle.sound_laws.specs.Tree.{slotsIn, Once, Slot, InnerEntry, Tree}
 use Rattle.sound_laws.proofs.Apart.{once-child}
-use Rattle.sound_laws.proofs.Entries.{tree-valid}
 use Rattle.sound_laws.proofs.Frame.{entries-same}
 use Rattle.sound_laws.proofs.Walk.{tree-node}
 use Rattle.nodes.specs.Reading.{LeadsOn}
-use Rattle.nodes.proofs.Tight.{inner-no-leaf}
 use Rattle.insert_laws.specs.Grown as G
-use Rattle.insert_laws.specs.Slots.{leading, isFull, wayUp}
-use Rattle.insert_laws.proofs.Under.{fits-level}
 use Rattle.insert_laws.proofs.Tighten.{tighten-grew, grew-beside}
-use Rattle.insert_laws.proofs.Below.{below-here, below-down, way, adjust-kept, adjust-split, adjust-full, way-there, below-grows}
-use Rattle.insert_laws.proofs.Taken.{way-here, run, run-ends, run-goes-on}
-use Rattle.insert_laws.proofs.Beside.{among-here, child-entry, top-same}
+use Rattle.insert_laws.proofs.Below.{below-here, below-down, way, adjust-kept, adjust-split, adjust-full, below-grows}
+use Rattle.insert_laws.proofs.Beside.{among-here, top-same}
 use Rattle.insert_laws.proofs.Widened.{below-cover}
 use Rattle.insert.specs.declared.Growth.{Growth}
 use Rattle.insert.specs.declared.Growth.the-variants.{One, Two, Stuck}
 use Rattle.insert.specs.Left.{HoldsPool, GrewTo}
-use Rattle.insert.specs.State.{Here, WayDown, Fitted, grownOf, widened, Back}
-use Rattle.insert.proofs.Fitted.{fits-valid}
+use Rattle.insert.specs.State.{Here, GoesDown, Fitted, grownOf, widened, Back}
+use Rattle.insert.proofs.Ways as W
 
 -- ---- the words stand for what the definitions give
 
@@ -109,78 +100,60 @@ module _ (w : List ℤ) (s : SlotNumber) (i : ℕ) where
   pub back-stuck : (v : List ℤ) → GrewTo (adjust ours s i Full) Stuck v
   back-stuck v = subst⁻¹ (λ (o : Grown). GrewTo o Stuck v) (adjust-full ours s i) tt
 
--- ---- down
+-- ---- an entry goes down
 
-module _ {p : Pool} {n : ℕ} {s : SlotNumber} {e : Entry} (h : WayDown p n s e) where
-  pub way-node : NodeIn p (n + h .level) s
-  way-node = tree-node p (n + h .level) s (h .tree)
-
+module _ {p : Pool} {n : ℕ} {s : SlotNumber} {e : Entry} (h : GoesDown p n s e) where
   pub way-end : n ≡ 0 → Here p s e
-  way-end z = record { level = h .level; tree = subst (λ (k : ℕ). Tree p k s) (omega arith) (h .tree); fits = h .fits; few = omega (arith, h .few) }
-
-  pub way-valid : valid (e .rect) ≡ true
-  way-valid = fits-valid p (h .level) e (h .fits)
+  way-end z = record {
+    level = h .way .level;
+    tree = subst (λ (k : ℕ). Tree p k s) (omega arith) (h .way .tree);
+    fits = h .fits;
+    few = omega (arith, h .way .few);
+  }
 
   pub way-ends : n ≡ 0 → insertBelow ours n p s e ≡ install ours p s e
   way-ends z = ap (λ (k : ℕ). insertBelow ours k p s e) z ∙ below-here ours p s e
 
-  pub run-here : n ≡ 0 → leading (isFull p) (wayUp ours n p s e) ≡ leading (isFull p) (s ∷ [])
-  run-here z = ap (λ (k : ℕ). leading (isFull p) (wayUp ours k p s e)) z ∙ ap (leading (isFull p)) (way-here ours p s e)
-
   module _ (more : 1 ≤ n) where
-    pub way-choosable : Choosable (rects (entriesAt p s))
-    way-choosable = record {
-      some = omega (arith, length-rects (entriesAt p s), h .some more);
-      ok = λ i k. rw (rect-entry (entriesAt p s) i)
-          (tree-valid p (n + h .level) s (h .tree) _ (at-place (entriesAt p s) i noEntry (omega (arith, length-rects (entriesAt p s)))));
-    }
-
-    -- the levels below the child's
     abbrev below : ℕ
-    below = n + h .level - 2
+    below = W.below (h .way) more
 
-    levels : n + h .level ≡ suc (suc below)
-    levels = omega (arith, fits-level p (h .level) e (h .fits))
-
-    pub way-inner : isLeaf (nodeAt p s) ≡ false
-    way-inner = inner-no-leaf (nodeAt p s) (omega (arith, way-node .level, levels))
+    levels : n + h .way .level ≡ suc (suc below)
+    levels = W.levels (h .way) more
 
     tree : Tree p (suc (suc below)) s
-    tree = subst (λ (k : ℕ). Tree p k s) levels (h .tree)
+    tree = W.tree (h .way) more
+
+    abbrev at : ℕ
+    at = W.at (h .way) more
+
+    abbrev child : SlotNumber
+    child = W.child (h .way) more
+
+    there : at < length (entriesAt p s)
+    there = W.there (h .way) more
+
+    inner : InnerEntry p (Tree p (suc below)) (entryAt p s at)
+    inner = W.inner (h .way) more
 
     once : Once (slotsIn p (suc (suc below)) s)
     once = subst (λ (k : ℕ). Once (slotsIn p k s)) levels (h .once)
 
-    abbrev at : ℕ
-    at = way ours p s e
-
-    abbrev child : SlotNumber
-    child = childOf (entryAt p s at)
-
-    there : at < length (entriesAt p s)
-    there = way-there ours ours-lawful p s e (h .some more)
-
-    inner : InnerEntry p (Tree p (suc below)) (entryAt p s at)
-    inner = child-entry p below s tree at there
-
     child-once : Once (slotsIn p (suc below) child)
     child-once = once-child p below s once (entryAt p s at) (among-here p below s tree at there at there)
 
-    down : WayDown p (n - 1) child e
+    down : GoesDown p (n - 1) child e
     down = record {
-      level = h .level;
-      tree = subst (λ (k : ℕ). Tree p k child) (omega (arith, levels)) (inner .child);
+      way = W.down (h .way) more;
       once = subst (λ (k : ℕ). Once (slotsIn p k child)) (omega (arith, levels)) child-once;
-      some = λ _. omega (arith, inner .enough);
       fits = h .fits;
-      few = omega (arith, h .few);
     }
 
     -- ---- and back
 
-    grew : G.Grows p (suc below) child (h .level) e (slotsIn p (suc below) child) (insertBelow ours (n - 1) p child e)
+    grew : G.Grows p (suc below) child (h .way .level) e (slotsIn p (suc below) child) (insertBelow ours (n - 1) p child e)
     grew =
-        below-grows ours ours-lawful p (h .level) e (h .fits) (n - 1) (suc below) child (omega (arith, levels)) (inner .child) child-once
+        below-grows ours ours-lawful p (h .way .level) e (h .fits) (n - 1) (suc below) child (omega (arith, levels)) (inner .child) child-once
         (λ _. omega (arith, inner .enough))
 
     -- the node has not changed, and its entry leads to the child
@@ -198,20 +171,20 @@ module _ {p : Pool} {n : ℕ} {s : SlotNumber} {e : Entry} (h : WayDown p n s e)
       leads =
           let to = subst⁻¹ (λ (x : Entry). Slot q (childOf x)) same-entry (tree-node q (suc below) child (g .tree) .slot) in
           record {
-            low = way-node .slot .low;
-            high = omega (arith, way-node .slot .high, g .long);
-            inner = omega (arith, ap (λ (m : Node). m .level) same, way-node .level, levels);
+            low = W.way-node (h .way) .slot .low;
+            high = omega (arith, W.way-node (h .way) .slot .high, g .long);
+            inner = omega (arith, ap (λ (m : Node). m .level) same, W.way-node (h .way) .level, levels);
             there = omega (arith, there, ap length (entries-same p q s same));
             childLow = to .low;
             childHigh = to .high;
           }
 
     kept-back : (q : Pool) (f : FreeSlots) (v : List ℤ) → insertBelow ours (n - 1) p child e ≡ Kept q
-        → G.Grows p (suc below) child (h .level) e (slotsIn p (suc below) child) (Kept q) → HoldsPool q f v → Back v s at (e .rect) (One f)
+        → G.Grows p (suc below) child (h .way .level) e (slotsIn p (suc below) child) (Kept q) → HoldsPool q f v → Back v s at (e .rect) (One f)
     kept-back q f v is a b =
         let many : least ≤ length (entriesAt q child) = omega (arith, inner .enough, a .3) in
         let wide =
-        below-cover ours ours-lawful p (h .level) e (h .fits) (n - 1) (suc below) child (omega (arith, levels)) (inner .child) child-once
+        below-cover ours ours-lawful p (h .way .level) e (h .fits) (n - 1) (suc below) child (omega (arith, levels)) (inner .child) child-once
         (omega (arith, inner .enough)) q is (omega (arith, many)) in
         let old = same-entry q (a .1) (omega arith) many in (
           holds-ready b,
@@ -221,7 +194,7 @@ module _ {p : Pool} {n : ℕ} {s : SlotNumber} {e : Entry} (h : WayDown p n s e)
         )
 
     split-back : (q : Pool) (x y : Entry) (f : FreeSlots) (v : List ℤ)
-        → G.Grows p (suc below) child (h .level) e (slotsIn p (suc below) child) (Split q x) → y ≡ x → HoldsPool q f v → Back v s at (e .rect) (Two y f)
+        → G.Grows p (suc below) child (h .way .level) e (slotsIn p (suc below) child) (Split q x) → y ≡ x → HoldsPool q f v → Back v s at (e .rect) (Two y f)
     split-back q x y f v a z b =
         let t = tighten-grew p below s tree at there once q (a .1) (omega arith) (a .3) in (
           holds-ready b,
@@ -230,12 +203,12 @@ module _ {p : Pool} {n : ℕ} {s : SlotNumber} {e : Entry} (h : WayDown p n s e)
             level = suc (suc below);
             tree = t .tree;
             fits = t .fit x (List·Memᴰ·head refl);
-            few = omega (arith, h .few, levels);
+            few = omega (arith, h .way .few, levels);
           })),
         )
 
     on-back : (o : Grown) (g : Growth) (v : List ℤ) → insertBelow ours (n - 1) p child e ≡ o
-        → G.Grows p (suc below) child (h .level) e (slotsIn p (suc below) child) o → GrewTo o g v → Back v s at (e .rect) g
+        → G.Grows p (suc below) child (h .way .level) e (slotsIn p (suc below) child) o → GrewTo o g v → Back v s at (e .rect) g
     on-back (Kept q) (One f) v is a b = kept-back q f v is a b
     on-back (Kept q) (Two y f) v is a b = absurd b
     on-back (Kept q) Stuck v is a b = absurd b
@@ -249,10 +222,10 @@ module _ {p : Pool} {n : ℕ} {s : SlotNumber} {e : Entry} (h : WayDown p n s e)
     -- as the code has it: a place, and the child of the entry there
     module _ (i : ℕ) (c : SlotNumber) (place : i ≡ at) (leads-to : c ≡ childOf (entryAt p s i)) where
       child-is : c ≡ child
-      child-is = leads-to ∙ ap (λ (k : ℕ). childOf (entryAt p s k)) place
+      child-is = W.child-is (h .way) more i c place leads-to
 
-      pub way-down : WayDown p (n - 1) c e
-      way-down = subst⁻¹ (λ (t : SlotNumber). WayDown p (n - 1) t e) child-is down
+      pub goes-down : GoesDown p (n - 1) c e
+      goes-down = subst⁻¹ (λ (t : SlotNumber). GoesDown p (n - 1) t e) child-is down
 
       pub way-back : (g : Growth) (v : List ℤ) → GrewTo (insertBelow ours (n - 1) p c e) g v → Back v s i (e .rect) g
       way-back g v b =
@@ -268,23 +241,3 @@ module _ {p : Pool} {n : ℕ} {s : SlotNumber} {e : Entry} (h : WayDown p n s e)
           ∙ ap (λ (t : SlotNumber). adjust ours s at (insertBelow ours (n - 1) p t e)) (sym child-is)
           ∙ ap (adjust ours s at) (grown-is (insertBelow ours (n - 1) p c e) g v b)
           ∙ ap (λ (j : ℕ). adjust ours s j (grownOf (read v) g)) (sym place)) a
-
-      -- the run of full nodes
-      abbrev runTo : ℕ → SlotNumber → ℕ
-      runTo m t = leading (isFull p) (wayUp ours m p t e)
-
-      pub run-shorter : (r : ℕ) → r ≡ runTo (n - 1) c → r < n → r ≡ runTo n s
-      unfolding run
-      run-shorter r q less =
-          let k : suc (n - 1) ≡ n = omega arith in
-          let z = q ∙ ap (runTo (n - 1)) child-is in
-          z ∙ sym (run-ends ours (n - 1) p s e (omega (arith, z))) ∙ ap (λ (m : ℕ). runTo m s) k
-
-      pub run-longer : (r : ℕ) → r ≡ runTo (n - 1) c → r ≡ n → (one : ℕ) → one ≡ leading (isFull p) (s ∷ []) → n + one ≡ runTo n s
-      unfolding run
-      run-longer r q all one f =
-          let k : suc (n - 1) ≡ n = omega arith in
-          let z = q ∙ ap (runTo (n - 1)) child-is in
-          let g = run-goes-on ours (n - 1) p s e (omega (arith, z)) in
-          let m : n + one ≡ suc (n - 1) + leading (isFull p) (s ∷ []) = omega arith in
-          m ∙ sym g ∙ ap (λ (j : ℕ). runTo j s) k

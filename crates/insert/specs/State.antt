@@ -1,5 +1,6 @@
 -- What the functions of a walk ask of the pool between them. A reader of `insertAt` and `insertRecord` needs none of this.
 use mathlib.Core.Path.{_≡_}
+use mathlib.Core.Bool.{true}
 use mathlib.Core.List.{List}
 use Prim.Native.Nat.{ℕ, suc, _+_, _≤_, _<_}
 use lib.ListN.{length, getD, set}
@@ -8,7 +9,7 @@ use Rattle.rules.specs.declared.Rect.{Rect}
 use Rattle.rules.specs.declared.SlotNumber.{SlotNumber}
 use Rattle.rules.specs.declared.Pointer.the-variants.{Child}
 use Rattle.rules.specs.declared.Entry.{Entry}
-use Rattle.rules.specs.Geometry.{cover}
+use Rattle.rules.specs.Geometry.{valid, cover}
 use Rattle.rules.specs.Pool.{Pool, entry, entriesAt, entryAt, childOf, putEntries, tighten}
 use Rattle.rules.specs.Layout.{read}
 use Rattle.rules.specs.Insert as I
@@ -33,14 +34,20 @@ pub record Here (p : Pool) (s : SlotNumber) (e : Entry) : Type 0 where
   pub fits : Fits p level e
   pub few : level ≤ 64
 
--- .. and the entry goes into a node n levels below
-pub record WayDown (p : Pool) (n : ℕ) (s : SlotNumber) (e : Entry) : Type 0 where
+-- the node at s is the top of a tree of n levels and more: a rectangle comes from there to a node n levels below
+pub record WayDown (p : Pool) (n : ℕ) (s : SlotNumber) (new : Rect) : Type 0 where
   pub level : ℕ
+  pub low : 1 ≤ level
   pub tree : Tree p (n + level) s
-  pub once : Once (slotsIn p (n + level) s)
   pub some : 0 < n → 0 < length (entriesAt p s)
-  pub fits : Fits p level e
   pub few : n + level ≤ 64
+  pub good : valid new ≡ true
+
+-- .. and an entry goes into that node
+pub record GoesDown (p : Pool) (n : ℕ) (s : SlotNumber) (e : Entry) : Type 0 where
+  pub way : WayDown p n s (e .rect)
+  pub once : Once (slotsIn p (n + way .level) s)
+  pub fits : Fits p (way .level) e
 
 -- the other entry may be beside the root's own in a new root
 pub record Beside (p : Pool) (x : Entry) : Type 0 where

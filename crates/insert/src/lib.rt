@@ -11,14 +11,14 @@ ghost use Rattle.rules.specs.Geometry.{valid};
 ghost use Rattle.rules.specs.Layout as L;
 ghost use Rattle.rules.specs.Pool as P;
 ghost use Rattle.rules.specs.Insert as I;
+ghost use Rattle.rules.specs.Room.{wayUp, fullRun, slotsNeeded};
 ghost use Rattle.layout_laws.specs.Slots.{Fit, InPool, SmallAll, KindAll};
 ghost use Rattle.nodes.specs.Reading.{LeadsOn};
 ghost use Rattle.free_slots.specs.Known.{Known};
 ghost use Rattle.sound_laws.specs.Tree.{Whole};
 ghost use Rattle.insert_laws.specs.Grown.{Fits};
-ghost use Rattle.insert_laws.specs.Slots.{leading, isFull, wayUp, slotsNeeded};
 ghost use Rattle.insert.specs.Left.{GrewTo, Leaves, Upright};
-ghost use Rattle.insert.specs.State.{Inside, Here, WayDown, Beside, Fitted, grownOf, widened, Back, Risen};
+ghost use Rattle.insert.specs.State.{Inside, Here, WayDown, GoesDown, Beside, Fitted, grownOf, widened, Back, Risen};
 use free_slots::FreeSlots;
 use rules::Entry;
 use rules::FreeSlot;
@@ -204,7 +204,7 @@ fn adjust(pool: &mut [i32], s: SlotNumber, i: usize, grown: Growth, new: Rect) -
 // CL2 to CL4, then AT1 to AT5 on the way back: e goes into a node n levels below the node at s.
 fn insert_below(pool: &mut [i32], n: usize, s: SlotNumber, e: Entry, free: FreeSlots) -> Growth
     requires { ⌜ Fitted (now pool) free ⌝ }
-    requires { ⌜ WayDown (L.read (now pool)) n s e ⌝ }
+    requires { ⌜ GoesDown (L.read (now pool)) n s e ⌝ }
     ensures { λ r. ⌜ GrewTo (I.insertBelow I.ours n (L.read (now (pool .entry))) s e) r (now (pool .exit)) ⌝ }
 {
     if n == 0 {
@@ -263,42 +263,41 @@ fn grow_tree(pool: &mut [i32], grown: Growth) -> Outcome
 // 1 for a full node, 0 for one with room.
 fn one_if_full(pool: &[i32], s: SlotNumber) -> usize
     requires { ⌜ InPool (now pool) s ⌝ }
-    ensures is { λ r. ⌜ r ≡ leading (isFull (L.read (now (pool .entry)))) (s ∷ []) ⌝ }
+    ensures is { λ r. ⌜ r ≡ length (fullRun (L.read (now (pool .entry))) (s ∷ [])) ⌝ }
     ensures most { λ r. ⌜ r ≤ 1 ⌝ }
 {
     if pool::count_of(pool, s) < MOST { 0 } else { 1 }
 }
 
-// How many full nodes the way up begins with: from the node that the entry goes into, n levels below the node at s, up to that node.
-fn full_run(pool: &[i32], n: usize, s: SlotNumber, e: Entry) -> usize
+// How long the run of full nodes is: from the node that the rectangle comes to, n levels below the node at s, upward, as far as that node.
+fn full_run(pool: &[i32], n: usize, s: SlotNumber, new: Rect) -> usize
     requires { ⌜ L.validLength (now pool) ≡ true ⌝ }
-    requires { ⌜ WayDown (L.read (now pool)) n s e ⌝ }
-    ensures is { λ r. ⌜ r ≡ leading (isFull (L.read (now (pool .entry)))) (wayUp I.ours n (L.read (now (pool .entry))) s e) ⌝ }
+    requires { ⌜ WayDown (L.read (now pool)) n s new ⌝ }
+    ensures is { λ r. ⌜ r ≡ length (fullRun (L.read (now (pool .entry))) (wayUp I.ours n (L.read (now (pool .entry))) s new)) ⌝ }
     ensures most { λ r. ⌜ r ≤ suc n ⌝ }
 {
     if n == 0 {
         return one_if_full(pool, s);
     }
-    let rect = e.rect;
-    let i = choose::choose_child(pool, s, rect);
+    let i = choose::choose_child(pool, s, new);
     let c = pool::child_of(pool, s, i);
-    let r = full_run(pool, n - 1, c, e);
+    let r = full_run(pool, n - 1, c, new);
     if r < n {
         return r;
     }
     n + one_if_full(pool, s)
 }
 
-// "the run of full nodes from the chosen leaf upward, plus one if the run includes the root"
-fn needed(pool: &[i32], level: usize, e: Entry) -> usize
+// "the run of full nodes from the chosen leaf upward, plus one if the run includes the root": for what goes in at a level, 1 for a leaf.
+pub fn needed(pool: &[i32], level: usize, new: Rect) -> usize
     requires { ⌜ L.validLength (now pool) ≡ true ⌝ }
     requires { ⌜ level ≤ L.read (now pool) .height ⌝ }
-    requires { ⌜ WayDown (L.read (now pool)) (L.read (now pool) .height - level) (L.read (now pool) .root) e ⌝ }
-    ensures { λ r. ⌜ r ≡ slotsNeeded I.ours level (L.read (now (pool .entry))) e ⌝ }
+    requires { ⌜ WayDown (L.read (now pool)) (L.read (now pool) .height - level) (L.read (now pool) .root) new ⌝ }
+    ensures { λ r. ⌜ r ≡ slotsNeeded I.ours level (L.read (now (pool .entry))) new ⌝ }
 {
     let n = pool::height_of(pool) - level;
     let root = pool::root_of(pool);
-    let r = full_run(pool, n, root, e);
+    let r = full_run(pool, n, root, new);
     if r <= n { r } else { r + 1 }
 }
 
@@ -309,13 +308,14 @@ fn too_few(pool: &[i32], level: usize, e: Entry, free: FreeSlots) -> bool
     requires { ⌜ Upright (L.read (now pool)) ⌝ }
     requires { ⌜ (level ≤ L.read (now pool) .height) × (L.read (now pool) .height ≤ 64) ⌝ }
     requires { ⌜ Fits (L.read (now pool)) level e ⌝ }
-    ensures { λ r. ⌜ r ≡ ltb (free .count) (slotsNeeded I.ours level (L.read (now (pool .entry))) e) ⌝ }
+    ensures { λ r. ⌜ r ≡ ltb (free .count) (slotsNeeded I.ours level (L.read (now (pool .entry))) (e .rect)) ⌝ }
 {
     let count = free.count;
     if pool::height_of(pool) < count {
         return false;
     }
-    count < needed(pool, level, e)
+    let rect = e.rect;
+    count < needed(pool, level, rect)
 }
 
 // ---- insert

@@ -5,6 +5,7 @@ use mathlib.Core.List.{List, [], _∷_, List·Memᴰ·head, List·Memᴰ·eq-of-
 use Prim.Native.Nat.{ℕ, zero, suc, _+_, _≤_, _<_}
 use native.Mathlib.Omega.{arith}
 use lib.ListN.{length, length-map}
+use Rattle.rules.specs.declared.Rect.{Rect}
 use Rattle.rules.specs.declared.SlotNumber.{SlotNumber}
 use Rattle.rules.specs.declared.Entry.{Entry}
 use Rattle.rules.specs.Numbers.{least}
@@ -59,12 +60,12 @@ module _ (c : Choice) where
   unfolding insertBelow
   below-here p s e = refl
 
-  -- the place of the child that the entry goes below
-  abbrev pub way : Pool → SlotNumber → Entry → ℕ
-  way p s e = c .child (rects (entriesAt p s)) (e .rect)
+  -- the place of the child that an entry with the rectangle goes below
+  abbrev pub way : Pool → SlotNumber → Rect → ℕ
+  way p s new = c .child (rects (entriesAt p s)) new
 
   pub below-down : (n : ℕ) (p : Pool) (s : SlotNumber) (e : Entry)
-      → insertBelow c (suc n) p s e ≡ adjust c s (way p s e) (insertBelow c n p (childOf (entryAt p s (way p s e))) e)
+      → insertBelow c (suc n) p s e ≡ adjust c s (way p s (e .rect)) (insertBelow c n p (childOf (entryAt p s (way p s (e .rect)))) e)
   unfolding insertBelow
   below-down n p s e = refl
 
@@ -81,11 +82,11 @@ module _ (c : Choice) where
     unfolding adjust
     adjust-full = refl
 
-  pub way-there : Lawful c → (p : Pool) (s : SlotNumber) (e : Entry) → 0 < length (entriesAt p s) → way p s e < length (entriesAt p s)
+  pub way-there : Lawful c → (p : Pool) (s : SlotNumber) (new : Rect) → 0 < length (entriesAt p s) → way p s new < length (entriesAt p s)
   unfolding rects
-  way-there lawful p s e some =
+  way-there lawful p s new some =
       rw (length-map (entriesAt p s) (λ (x : Entry). x .rect))
-      at (lawful .child .there (rects (entriesAt p s)) (e .rect) (rw (length-map (entriesAt p s) (λ (x : Entry). x .rect)) some))
+      at (lawful .child .there (rects (entriesAt p s)) new (rw (length-map (entriesAt p s) (λ (x : Entry). x .rect)) some))
 
   -- ---- one level up
 
@@ -126,9 +127,9 @@ module _ (c : Choice) where
     below-grows (suc n) zero s h d once some = absurd (no-tree p s d)
     below-grows (suc n) (suc zero) s h d once some = absurd (no-fit p e (subst (λ (j : ℕ). Fits p j e) (omega arith) f))
     below-grows (suc n) (suc (suc l)) s h d once some =
-        let there = way-there lawful p s e (some (omega arith)) in
-        let x = child-entry p l s d (way p s e) there in
+        let there = way-there lawful p s (e .rect) (some (omega arith)) in
+        let x = child-entry p l s d (way p s (e .rect)) there in
         rw (below-down n p s e)
-        (adjust-grows (lawful .split) p l s d once (way p s e) there k e (insertBelow c n p (childOf (entryAt p s (way p s e))) e)
-        (below-grows n (suc l) (childOf (entryAt p s (way p s e))) (omega arith) (x .child)
-        (once-child p l s once (entryAt p s (way p s e)) (among-here p l s d (way p s e) there (way p s e) there)) (λ z. omega (arith, x .enough))))
+        (adjust-grows (lawful .split) p l s d once (way p s (e .rect)) there k e (insertBelow c n p (childOf (entryAt p s (way p s (e .rect)))) e)
+        (below-grows n (suc l) (childOf (entryAt p s (way p s (e .rect)))) (omega arith) (x .child)
+        (once-child p l s once (entryAt p s (way p s (e .rect))) (among-here p l s d (way p s (e .rect)) there (way p s (e .rect)) there)) (λ z. omega (arith, x .enough))))

@@ -10,8 +10,10 @@ pub mod Below
 pub mod Root
 pub mod Standing
 pub mod Whole
+pub mod Runs
 pub mod Taken
 pub mod Slots
 pub mod Enough
+pub mod Rooms
 pub mod Halves
 pub mod Widened

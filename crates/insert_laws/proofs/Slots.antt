@@ -1,14 +1,13 @@
 -- Whether an insert fits: at the root one slot more is taken where the run of full nodes is the whole way. So the free slots suffice just
 -- where they are as many as that, and with one more than the levels they always do.
-use mathlib.Core.Path.{_≡_, refl, ap, subst}
+use mathlib.Core.Path.{_≡_, refl, ap, subst, _∙_}
 use mathlib.Core.Logic.{_↔_, _≢_}
 use mathlib.Core.Bool.{true}
 use mathlib.Core.List.{List, [], _∷_, _++_}
 use Prim.Native.Nat.{ℕ, zero, suc, _+_, _-_, _≤_, _<_}
-use native.Mathlib.Decide.{decLe}
 use native.Mathlib.Omega.{arith}
 use lib.ListN.{length}
-use borrow.Author.Tests.{eq-eqb, ne-eqb}
+use Rattle.rules.specs.declared.Rect.{Rect}
 use Rattle.rules.specs.declared.SlotNumber.{SlotNumber}
 use Rattle.rules.specs.declared.Record.{Record}
 use Rattle.rules.specs.declared.Entry.{Entry}
@@ -19,35 +18,18 @@ use Rattle.rules.specs.Geometry.{valid}
 use Rattle.rules.specs.Pool.{Pool, node, nodeAt, entriesAt, entryAt, childOf, leafEntry, entryFor, lowestFree, freeCount, putRoot, putRecords}
 use Rattle.rules.specs.Insert.{Choice, Grown, Kept, Split, Full, Change, Done, NoneFree, newRoot, growTree, insertBelow, insertAt, insertRecord}
 use Rattle.rules.specs.Lawful.{Lawful}
+use Rattle.rules.specs.Room.{isFull, wayUp, fullRun, plusRoot, slotsNeeded}
 use Rattle.sound_laws.specs.Tree.{treeSlots, Once, Tree, Whole}
 use Rattle.sound_laws.proofs.Free.{lowest-slot, lowest-free, put-free, nowhere-none, head-free}
 use Rattle.insert_laws.specs.Grown.{Fits}
 use Rattle.insert_laws.specs.Standing.{Standing}
-use Rattle.insert_laws.specs.Slots.{leading, isFull, wayUp, neededOn, slotsNeeded, recordNeeds}
 use Rattle.insert_laws.proofs.Under.{fits-level}
-use Rattle.insert_laws.proofs.Taken.{leading-le, Takes, way-length, run, below-takes}
+use Rattle.insert_laws.proofs.Runs.{run, run-most, needed-less, needed-all, needed-between}
+use Rattle.insert_laws.proofs.Taken.{Takes, below-takes}
 use Rattle.insert_laws.proofs.Below.{way}
 use Rattle.insert_laws.proofs.Root.{grow-kept, grow-split, grow-full}
 use Rattle.insert_laws.proofs.Standing.{standing-once}
 use Rattle.insert_laws.proofs.Whole.{recordCounted, counted-stands, counted-high, record-fits}
-
--- ---- the run and the root
-
-module _ (p : Pool) (way : List SlotNumber) where
-  pub needed-all : leading (isFull p) way ≡ length way → neededOn p way ≡ suc (leading (isFull p) way)
-  unfolding neededOn
-  needed-all h = rw (eq-eqb (leading (isFull p) way) (length way) h)
-
-  pub needed-less : leading (isFull p) way < length way → neededOn p way ≡ leading (isFull p) way
-  unfolding neededOn
-  needed-less h = rw (ne-eqb (leading (isFull p) way) (length way) (λ e. omega arith))
-
-  needed-between : (leading (isFull p) way ≤ neededOn p way) × (neededOn p way ≤ suc (leading (isFull p) way))
-  needed-between = go (decLe (length way) (leading (isFull p) way))
-    where
-      go : Dec (length way ≤ leading (isFull p) way) → (leading (isFull p) way ≤ neededOn p way) × (neededOn p way ≤ suc (leading (isFull p) way))
-      go (yes h) = let m = leading-le (isFull p) way in let e = needed-all (omega arith) in (omega arith, omega arith)
-      go (no h) = let e = needed-less (omega arith) in (omega arith, omega arith)
 
 -- so many slots are taken, or there are fewer free
 abbrev Needs : Pool → ℕ → Change → Type 0
@@ -66,58 +48,89 @@ grow-needs p n r m less all low (Kept q) t = rw (grow-kept q) (omega (arith, les
 grow-needs p n r m less all low (Split q x) t = rw (grow-split q x, all (t .0)) (new-needs p q x r (t .1) (lowestFree q) refl)
 grow-needs p n r m less all low Full t = rw grow-full (omega arith)
 
--- ---- an entry goes in at a level
+-- ---- at a level
 
-module _ (c : Choice) (lawful : Lawful c) (p : Pool) (k : ℕ) (e : Entry) (d : Tree p (p .height) (p .root)) (once : Once (treeSlots p))
-    (some : 2 ≤ p .height → 0 < length (entriesAt p (p .root))) (f : Fits p k e) (low : k ≤ p .height) where
+module _ (c : Choice) (lawful : Lawful c) (p : Pool) (k : ℕ) (high : 1 ≤ k) (low : k ≤ p .height) (d : Tree p (p .height) (p .root))
+    (some : 2 ≤ p .height → 0 < length (entriesAt p (p .root))) (new : Rect) where
   abbrev levels : ℕ
   levels = p .height - k
 
-  abbrev whole-way : List SlotNumber
-  whole-way = wayUp c levels p (p .root) e
+  abbrev root-run : ℕ
+  root-run = run c levels p (p .root) new
 
-  long-way : length whole-way ≡ suc levels
-  long-way = way-length c levels p (p .root) e
+  same : p .height ≡ levels + k
+  same = omega arith
 
-  needs : Needs p (slotsNeeded c k p e) (insertAt c k p e)
-  unfolding insertAt slotsNeeded run
+  some-below : 0 < levels → 0 < length (entriesAt p (p .root))
+  some-below h = some (omega arith)
+
+  -- the run ends below the root, or includes it
+  pub root-less : root-run ≤ levels → slotsNeeded c k p new ≡ root-run
+  unfolding slotsNeeded
+  root-less = needed-less c lawful p k high new levels (p .height) (p .root) same d some-below
+
+  pub root-all : root-run ≡ suc levels → slotsNeeded c k p new ≡ suc root-run
+  unfolding slotsNeeded
+  root-all = needed-all c lawful p k high new levels (p .height) (p .root) same d some-below
+
+  root-between : (root-run ≤ slotsNeeded c k p new) × (slotsNeeded c k p new ≤ suc root-run)
+  unfolding slotsNeeded
+  root-between = needed-between c lawful p k high new levels (p .height) (p .root) same d some-below
+
+  -- one for each level, and one more
+  pub needs-few : slotsNeeded c k p new ≤ suc (p .height)
+  needs-few = omega (arith, root-between .1, run-most c levels p (p .root) new)
+
+-- ---- an entry goes in there
+
+module _ (c : Choice) (lawful : Lawful c) (p : Pool) (k : ℕ) (e : Entry) (d : Tree p (p .height) (p .root)) (once : Once (treeSlots p))
+    (some : 2 ≤ p .height → 0 < length (entriesAt p (p .root))) (f : Fits p k e) (low : k ≤ p .height) where
+  abbrev new : Rect
+  new = e .rect
+
+  high : 1 ≤ k
+  high = omega (arith, fits-level p k e f)
+
+  needs : Needs p (slotsNeeded c k p new) (insertAt c k p e)
+  unfolding insertAt
   needs =
-      let l = fits-level p k e f in
-      grow-needs p levels (run c levels p (p .root) e) (neededOn p whole-way)
-      (λ h. needed-less p whole-way (omega (arith, long-way))) (λ h. needed-all p whole-way (omega (arith, long-way))) (needed-between p whole-way .0)
-      (insertBelow c levels p (p .root) e)
-      (below-takes c lawful p k e f levels (p .height) (p .root) (omega arith) d once (λ h. some (omega arith)))
+      grow-needs p (p .height - k) (run c (p .height - k) p (p .root) new) (slotsNeeded c k p new)
+      (root-less c lawful p k high low d some new) (root-all c lawful p k high low d some new) (root-between c lawful p k high low d some new .0)
+      (insertBelow c (p .height - k) p (p .root) e)
+      (below-takes c lawful p k e f (p .height - k) (p .height) (p .root) (omega arith) d once (λ h. some (omega (arith, high))))
 
   -- "refused 7 exactly when the run .. exceeds the free slots"
-  pub level-slots : (insertAt c k p e ≡ NoneFree) ↔ (freeCount p < slotsNeeded c k p e)
-  level-slots = (λ h. subst (Needs p (slotsNeeded c k p e)) h needs, λ h. go h (insertAt c k p e) refl)
+  pub level-slots : (insertAt c k p e ≡ NoneFree) ↔ (freeCount p < slotsNeeded c k p new)
+  level-slots = (λ h. subst (Needs p (slotsNeeded c k p new)) h needs, λ h. go h (insertAt c k p e) refl)
     where
-      go : freeCount p < slotsNeeded c k p e → (o : Change) → insertAt c k p e ≡ o → insertAt c k p e ≡ NoneFree
-      go h (Done q) z = let m = subst (Needs p (slotsNeeded c k p e)) z needs in absurd (omega arith)
+      go : freeCount p < slotsNeeded c k p new → (o : Change) → insertAt c k p e ≡ o → insertAt c k p e ≡ NoneFree
+      go h (Done q) z = let m = subst (Needs p (slotsNeeded c k p new)) z needs in absurd (omega arith)
       go h NoneFree z = z
 
   -- .. and else it takes so many
-  pub level-takes : (q : Pool) → insertAt c k p e ≡ Done q → freeCount q + slotsNeeded c k p e ≡ freeCount p
-  level-takes q h = subst (Needs p (slotsNeeded c k p e)) h needs
+  pub level-takes : (q : Pool) → insertAt c k p e ≡ Done q → freeCount q + slotsNeeded c k p new ≡ freeCount p
+  level-takes q h = subst (Needs p (slotsNeeded c k p new)) h needs
 
-  pub level-needs-few : slotsNeeded c k p e ≤ suc (p .height)
-  unfolding slotsNeeded
-  level-needs-few =
-      let l = fits-level p k e f in
-      omega (arith, needed-between p whole-way .1, leading-le (isFull p) whole-way, long-way)
+  pub level-needs-few : slotsNeeded c k p new ≤ suc (p .height)
+  level-needs-few = needs-few c lawful p k high low d some new
 
 -- ---- a record
 
 module _ (c : Choice) (p : Pool) (m : ℕ) where
-  head-way : (n : ℕ) (s : SlotNumber) (e : Entry) → wayUp c n (putRecords p m) s e ≡ wayUp c n p s e
+  head-way : (n : ℕ) (s : SlotNumber) (new : Rect) → wayUp c n (putRecords p m) s new ≡ wayUp c n p s new
   unfolding wayUp entryAt entriesAt nodeAt putRecords
-  head-way zero s e = refl
-  head-way (suc n) s e =
-      ap (λ (ts : List SlotNumber). ts ++ s ∷ []) (head-way n (childOf (entryAt p s (way c p s e))) e)
+  head-way zero s new = refl
+  head-way (suc n) s new =
+      ap (λ (ts : List SlotNumber). ts ++ s ∷ []) (head-way n (childOf (entryAt p s (way c p s new))) new)
 
-  head-needs : (k : ℕ) (e : Entry) → slotsNeeded c k (putRecords p m) e ≡ slotsNeeded c k p e
-  unfolding slotsNeeded neededOn isFull entriesAt nodeAt putRecords
-  head-needs k e = ap (neededOn p) (head-way (p .height - k) (p .root) e)
+  head-run : (up : List SlotNumber) → fullRun (putRecords p m) up ≡ fullRun p up
+  unfolding fullRun isFull entriesAt nodeAt putRecords
+  head-run [] = refl
+  head-run (s ∷ up) = rw (head-run up)
+
+  head-needs : (k : ℕ) (new : Rect) → slotsNeeded c k (putRecords p m) new ≡ slotsNeeded c k p new
+  unfolding slotsNeeded putRecords
+  head-needs k new = ap (plusRoot (p .root)) (head-run (wayUp c (p .height - k) (putRecords p m) (p .root) new) ∙ ap (fullRun p) (head-way (p .height - k) (p .root) new))
 
 module _ (c : Choice) (lawful : Lawful c) (p : Pool) (w : Whole p) (r : Record) (v : valid (r .rect) ≡ true) (n : goodNumber (r .number) ≡ true) where
   stands : Standing (recordCounted p) []
@@ -129,24 +142,24 @@ module _ (c : Choice) (lawful : Lawful c) (p : Pool) (w : Whole p) (r : Record) 
   fits : Fits (recordCounted p) 1 (leafEntry r)
   fits = record-fits (recordCounted p) r v n
 
-  pub insert-slots : (insertRecord c p r ≡ NoneFree) ↔ (freeCount p < recordNeeds c p r)
-  unfolding insertRecord recordNeeds
+  pub insert-slots : (insertRecord c p r ≡ NoneFree) ↔ (freeCount p < slotsNeeded c 1 p (r .rect))
+  unfolding insertRecord leafEntry
   insert-slots =
-      rw (head-free p (p .records + 1), head-needs c p (p .records + 1) 1 (leafEntry r))
+      rw (head-free p (p .records + 1), head-needs c p (p .records + 1) 1 (r .rect))
       at (level-slots c lawful (recordCounted p) 1 (leafEntry r) (stands .tree) once (stands .some) fits (counted-high p w))
 
-  pub insert-takes : (q : Pool) → insertRecord c p r ≡ Done q → freeCount q + recordNeeds c p r ≡ freeCount p
-  unfolding insertRecord recordNeeds
+  pub insert-takes : (q : Pool) → insertRecord c p r ≡ Done q → freeCount q + slotsNeeded c 1 p (r .rect) ≡ freeCount p
+  unfolding insertRecord leafEntry
   insert-takes q h =
-      rw (head-free p (p .records + 1), head-needs c p (p .records + 1) 1 (leafEntry r))
+      rw (head-free p (p .records + 1), head-needs c p (p .records + 1) 1 (r .rect))
       at (level-takes c lawful (recordCounted p) 1 (leafEntry r) (stands .tree) once (stands .some) fits (counted-high p w) q h)
 
-  pub insert-needs-few : recordNeeds c p r ≤ suc (p .height)
-  unfolding recordNeeds putRecords
+  pub insert-needs-few : slotsNeeded c 1 p (r .rect) ≤ suc (p .height)
+  unfolding putRecords leafEntry
   insert-needs-few =
       omega (
         arith,
-        head-needs c p (p .records + 1) 1 (leafEntry r),
+        head-needs c p (p .records + 1) 1 (r .rect),
         level-needs-few c lawful (recordCounted p) 1 (leafEntry r) (stands .tree) once (stands .some) fits (counted-high p w),
       )
 

@@ -8,8 +8,9 @@ use Prim.Native.Nat.{ℕ, zero, suc, _+_, _≤_, _<_}
 use native.Mathlib.Decide.{decLe}
 use native.Mathlib.Omega.{arith}
 use lib.Dec.{ltb}
-use lib.ListN.{length, length-append}
-use borrow.Author.Tests.{ltb-true, ltb-false, le-leb, lt-leb}
+use lib.ListN.{length}
+use borrow.Author.Tests.{ltb-true, ltb-false}
+use Rattle.rules.specs.declared.Rect.{Rect}
 use Rattle.rules.specs.declared.SlotNumber.{SlotNumber}
 use Rattle.rules.specs.declared.Entry.{Entry}
 use Rattle.rules.specs.declared.FreeSlot.{FreeSlot}
@@ -18,67 +19,19 @@ use Rattle.rules.specs.Numbers.{most, least}
 use Rattle.rules.specs.Pool.{Node, Pool, node, nodeAt, entriesAt, entryAt, childOf, lowestFree, freeCount, putNode, tighten}
 use Rattle.rules.specs.Insert.{Choice, Grown, Kept, Split, Full, install, adjust, insertBelow}
 use Rattle.rules.specs.Lawful.{Lawful}
+use Rattle.rules.specs.Room.{wayUp, fullRun}
 use Rattle.sound_laws.specs.Tree.{slotsIn, Once, Slot, Tree}
 use Rattle.sound_laws.proofs.Apart.{once-child}
 use Rattle.sound_laws.proofs.Walk.{no-tree, tree-node}
 use Rattle.sound_laws.proofs.Frame.{put-other, put-slot}
 use Rattle.sound_laws.proofs.Free.{lowest-slot, lowest-free, put-used, put-free, nowhere-none}
 use Rattle.insert_laws.specs.Grown.{Fits, Grows}
-use Rattle.insert_laws.specs.Slots.{leading, isFull, wayUp}
 use Rattle.insert_laws.proofs.Under.{no-fit}
 use Rattle.insert_laws.proofs.Install.{other-level, put-entries, split-none, split-at, install-room, install-full}
 use Rattle.insert_laws.proofs.Tighten.{grew-beside, tighten-grew}
 use Rattle.insert_laws.proofs.Below.{below-here, below-down, way, adjust-kept, adjust-split, adjust-full, way-there, below-grows}
 use Rattle.insert_laws.proofs.Beside.{among-here, child-entry, tight-many, tight-free}
-
--- ---- what a list begins with
-
-module _ {A : Type 0} (q : A → Bool) where
-  leading-yes : (x : A) (xs : List A) → q x ≡ true → leading q (x ∷ xs) ≡ suc (leading q xs)
-  unfolding leading
-  leading-yes x xs h = rw h
-
-  leading-no : (x : A) (xs : List A) → q x ≡ false → leading q (x ∷ xs) ≡ 0
-  unfolding leading
-  leading-no x xs h = rw h
-
-  leading-none : leading q [] ≡ 0
-  unfolding leading
-  leading-none = refl
-
-  pub leading-le : (xs : List A) → leading q xs ≤ length xs
-  leading-le [] = omega (arith, leading-none)
-  leading-le (x ∷ xs) = go (q x) refl (leading-le xs)
-    where
-      go : (b : Bool) → q x ≡ b → leading q xs ≤ length xs → leading q (x ∷ xs) ≤ length (x ∷ xs)
-      go true h k = omega (arith, leading-yes x xs h)
-      go false h k = omega (arith, leading-no x xs h)
-
-  -- it ends before the end, or goes on
-  leading-before : (xs ys : List A) → leading q xs < length xs → leading q (xs ++ ys) ≡ leading q xs
-  leading-before [] ys h = absurd (omega arith)
-  leading-before (x ∷ xs) ys h = go (q x) refl (leading-before xs ys)
-    where
-      go : (b : Bool) → q x ≡ b → (leading q xs < length xs → leading q (xs ++ ys) ≡ leading q xs) → leading q (x ∷ xs ++ ys) ≡ leading q (x ∷ xs)
-      go true k f = rw (leading-yes x (xs ++ ys) k, leading-yes x xs k) (ap suc (f (omega (arith, leading-yes x xs k))))
-      go false k f = rw (leading-no x (xs ++ ys) k, leading-no x xs k)
-
-  leading-all : (xs ys : List A) → leading q xs ≡ length xs → leading q (xs ++ ys) ≡ length xs + leading q ys
-  leading-all [] ys h = omega arith
-  leading-all (x ∷ xs) ys h = go (q x) refl (leading-all xs ys)
-    where
-      go : (b : Bool) → q x ≡ b → (leading q xs ≡ length xs → leading q (xs ++ ys) ≡ length xs + leading q ys)
-          → leading q (x ∷ xs ++ ys) ≡ length (x ∷ xs) + leading q ys
-      go true k f = omega (arith, leading-yes x (xs ++ ys) k, f (omega (arith, leading-yes x xs k)))
-      go false k f = absurd (omega (arith, leading-no x xs k))
-
-pub full-one : (p : Pool) (s : SlotNumber) → most ≤ length (entriesAt p s) → leading (isFull p) (s ∷ []) ≡ 1
-unfolding isFull
-full-one p s h = omega (arith, leading-yes (isFull p) s [] (le-leb most (length (entriesAt p s)) h), leading-none (isFull p))
-
-pub room-none : (p : Pool) (s : SlotNumber) → length (entriesAt p s) < most → leading (isFull p) (s ∷ []) ≡ 0
-unfolding isFull
-room-none p s h = leading-no (isFull p) s [] (lt-leb most (length (entriesAt p s)) h)
+use Rattle.insert_laws.proofs.Runs.{full-one, room-none, way-here, run, run-ends, run-goes-on, run-most}
 
 -- ---- one node
 
@@ -132,56 +85,24 @@ record Longer (n m r r′ : ℕ) : Type 0 where
   full : r ≡ suc n → most ≤ m → r′ ≡ suc r
 
 module _ (c : Choice) where
-  pub way-length : (n : ℕ) (p : Pool) (s : SlotNumber) (e : Entry) → length (wayUp c n p s e) ≡ suc n
-  unfolding wayUp
-  way-length zero p s e = refl
-  way-length (suc n) p s e =
-      let t = childOf (entryAt p s (way c p s e)) in
-      omega (arith, length-append (wayUp c n p t e) (s ∷ []), way-length n p t e)
-
-  pub way-here : (p : Pool) (s : SlotNumber) (e : Entry) → wayUp c 0 p s e ≡ s ∷ []
-  unfolding wayUp
-  way-here p s e = refl
-
-  way-up : (n : ℕ) (p : Pool) (s : SlotNumber) (e : Entry)
-      → wayUp c (suc n) p s e ≡ wayUp c n p (childOf (entryAt p s (way c p s e))) e ++ s ∷ []
-  unfolding wayUp
-  way-up n p s e = refl
-
-  unfoldable pub run : ℕ → Pool → SlotNumber → Entry → ℕ
-  run n p s e = leading (isFull p) (wayUp c n p s e)
-
-  module _ (n : ℕ) (p : Pool) (s : SlotNumber) (e : Entry) where
+  module _ (n : ℕ) (p : Pool) (s : SlotNumber) (new : Rect) where
     abbrev below : List SlotNumber
-    below = wayUp c n p (childOf (entryAt p s (way c p s e))) e
+    below = wayUp c n p (childOf (entryAt p s (way c p s new))) new
 
-    pub run-ends : leading (isFull p) below ≤ n → run (suc n) p s e ≡ leading (isFull p) below
-    unfolding run
-    run-ends h =
-        ap (leading (isFull p)) (way-up n p s e)
-        ∙ leading-before (isFull p) below (s ∷ []) (omega (arith, way-length n p (childOf (entryAt p s (way c p s e))) e))
-
-    pub run-goes-on : leading (isFull p) below ≡ suc n → run (suc n) p s e ≡ suc n + leading (isFull p) (s ∷ [])
-    unfolding run
-    run-goes-on h =
-        let m = way-length n p (childOf (entryAt p s (way c p s e))) e in
-        ap (leading (isFull p)) (way-up n p s e) ∙ leading-all (isFull p) below (s ∷ []) (omega arith) ∙ omega arith
-
-    run-longer : Longer n (length (entriesAt p s)) (run n p (childOf (entryAt p s (way c p s e))) e) (run (suc n) p s e)
+    run-longer : Longer n (length (entriesAt p s)) (run c n p (childOf (entryAt p s (way c p s new))) new) (run c (suc n) p s new)
     unfolding run
     run-longer = record {
-      more = go (decLe (leading (isFull p) below) n);
-      ended = run-ends;
-      room = λ h m. omega (arith, run-goes-on h, room-none p s m);
-      full = λ h m. omega (arith, run-goes-on h, full-one p s m);
+      more = go (decLe (length (fullRun p below)) n);
+      ended = run-ends c n p s new;
+      room = λ h m. omega (arith, run-goes-on c n p s new h, room-none p s m);
+      full = λ h m. omega (arith, run-goes-on c n p s new h, full-one p s m);
     }
       where
-        go : Dec (leading (isFull p) below ≤ n) → leading (isFull p) below ≤ run (suc n) p s e
-        go (yes h) = omega (arith, run-ends h)
+        go : Dec (length (fullRun p below) ≤ n) → length (fullRun p below) ≤ run c (suc n) p s new
+        go (yes h) = omega (arith, run-ends c n p s new h)
         go (no h) =
-            let most-of = leading-le (isFull p) below in
-            let m = way-length n p (childOf (entryAt p s (way c p s e))) e in
-            omega (arith, run-goes-on (omega arith))
+            let most-of = run-most c n p (childOf (entryAt p s (way c p s new))) new in
+            omega (arith, run-goes-on c n p s new (omega arith))
 
   -- ---- one level up
 
@@ -214,27 +135,27 @@ module _ (c : Choice) where
 
   -- ---- all the way
 
-  here-takes : (p : Pool) (s : SlotNumber) (r : ℕ) → r ≡ leading (isFull p) (s ∷ []) → (o : Grown) → Installs p s o → Takes p 0 r o
+  here-takes : (p : Pool) (s : SlotNumber) (r : ℕ) → r ≡ length (fullRun p (s ∷ [])) → (o : Grown) → Installs p s o → Takes p 0 r o
   here-takes p s r e (Kept q) h = (omega (arith, room-none p s (h .0)), omega (arith, room-none p s (h .0), h .1))
   here-takes p s r e (Split q x) h = (omega (arith, full-one p s (h .0)), omega (arith, full-one p s (h .0), h .1))
   here-takes p s r e Full h = omega (arith, full-one p s (h .0), h .1)
 
   module _ (lawful : Lawful c) (p : Pool) (k : ℕ) (e : Entry) (f : Fits p k e) where
     pub below-takes : (n l : ℕ) (s : SlotNumber) → l ≡ n + k → Tree p l s → Once (slotsIn p l s) → (0 < n → 0 < length (entriesAt p s))
-        → Takes p n (run n p s e) (insertBelow c n p s e)
+        → Takes p n (run c n p s (e .rect)) (insertBelow c n p s e)
     unfolding run
     below-takes zero zero s h d once some = absurd (no-tree p s d)
     below-takes zero (suc l) s h d once some =
-        rw (below-here c p s e) (here-takes p s _ (ap (leading (isFull p)) (way-here p s e)) (install c p s e) (install-takes c p l s d e))
+        rw (below-here c p s e) (here-takes p s _ (ap (λ (up : List SlotNumber). length (fullRun p up)) (way-here c p s (e .rect))) (install c p s e) (install-takes c p l s d e))
     below-takes (suc n) zero s h d once some = absurd (no-tree p s d)
     below-takes (suc n) (suc zero) s h d once some = absurd (no-fit p e (subst (λ (j : ℕ). Fits p j e) (omega arith) f))
     below-takes (suc n) (suc (suc l)) s h d once some =
-        let i = way c p s e in
-        let there = way-there c lawful p s e (some (omega arith)) in
+        let i = way c p s (e .rect) in
+        let there = way-there c lawful p s (e .rect) (some (omega arith)) in
         let x = child-entry p l s d i there in
         let t = childOf (entryAt p s i) in
         let once′ = once-child p l s once (entryAt p s i) (among-here p l s d i there i there) in
         rw (below-down c n p s e)
-        (adjust-takes p l s d once i there k e n (run n p t e) (run (suc n) p s e) (run-longer n p s e) (insertBelow c n p t e)
+        (adjust-takes p l s d once i there k e n (run c n p t (e .rect)) (run c (suc n) p s (e .rect)) (run-longer n p s (e .rect)) (insertBelow c n p t e)
         (below-grows c lawful p k e f n (suc l) t (omega arith) (x .child) once′ (λ z. omega (arith, x .enough)))
         (below-takes n (suc l) t (omega arith) (x .child) once′ (λ z. omega (arith, x .enough))))

@@ -275,12 +275,12 @@ module _ (c : Choice) where
     below-widened (suc n) zero s h d once some = absurd (no-tree p s d)
     below-widened (suc n) (suc zero) s h d once some = absurd (no-fit p e (subst (λ (j : ℕ). Fits p j e) (omega arith) f))
     below-widened (suc n) (suc (suc l)) s h d once some =
-        let there = way-there c lawful p s e (some (omega arith)) in
-        let x = child-entry p l s d (way c p s e) there in
-        let alone = once-child p l s once (entryAt p s (way c p s e)) (among-here p l s d (way c p s e) there (way c p s e) there) in
-        let child = childOf (entryAt p s (way c p s e)) in
+        let there = way-there c lawful p s (e .rect) (some (omega arith)) in
+        let x = child-entry p l s d (way c p s (e .rect)) there in
+        let alone = once-child p l s once (entryAt p s (way c p s (e .rect))) (among-here p l s d (way c p s (e .rect)) there (way c p s (e .rect)) there) in
+        let child = childOf (entryAt p s (way c p s (e .rect))) in
         rw (below-down c n p s e)
-        (adjust-widened l s d once (way c p s e) there (insertBelow c n p child e)
+        (adjust-widened l s d once (way c p s (e .rect)) there (insertBelow c n p child e)
         (below-grows c lawful p k e f n (suc l) child (omega arith) (x .child) alone (λ z. omega (arith, x .enough)))
         (below-widened n (suc l) child (omega arith) (x .child) alone (λ z. omega (arith, x .enough))))
 

@@ -1,4 +1,3 @@
 -- What an insert does to a tree in a pool.
 pub mod Grown
 pub mod Standing
-pub mod Slots

@@ -3,12 +3,16 @@ ghost use mathlib.Core.Path.{_≡_};
 ghost use lib.IntN.{pos};
 ghost use Rattle.rules.specs.Layout as L;
 ghost use Rattle.rules.specs.Call as C;
+ghost use Rattle.rules.specs.Room.{roomNumber, roomWords};
 ghost use Rattle.promises.specs.Calls.{lent, nothingAsked, left, Allowed};
 ghost use Rattle.promises.specs.Files.{Writes, Reads};
+ghost use Rattle.promises.specs.Rooms.{Tells};
 ghost use Rattle.promises.specs.Surveys.{Converts, ofBox, ofPoint, ofDisc};
 use rules::Answer;
+use rules::InsertRoom;
 use rules::Query;
 use rules::Record;
+use rules::Rect;
 use rules::Request;
 use rules::SurveyBox;
 use rules::Surveyed;
@@ -126,4 +130,36 @@ pub extern "C" fn dustmap_disc(x: f64, y: f64, radius: f64, rect: &mut [i32; 4])
 {
     let w = survey::query_window(Query::Disc { x, y, radius });
     told(w, rect)
+}
+
+// What is written of it, and its number: needed and free beside 0; beside a refusal, nothing.
+fn told_room(room: InsertRoom, slots: &mut [u32; 2]) -> i32
+    ensures number { λ n. ⌜ n ≡ roomNumber room ⌝ }
+    ensures written { λ _. ⌜ now (slots .exit) ≡ roomWords room (now (slots .entry)) ⌝ }
+{
+    match room {
+        InsertRoom::Slots { needed, free } => {
+            slots[0] = needed;
+            slots[1] = free;
+            0
+        }
+        InsertRoom::BadLength => 1,
+        InsertRoom::NotSound => 2,
+        InsertRoom::BadRectangle => 3,
+    }
+}
+
+// Whether an insert of a rectangle would fit: the slots that it needs, and those that are free. The pool is only read.
+#[no_mangle]
+pub extern "C" fn dustmap_room(pool: &[i32], rect: &[i32; 4], slots: &mut [u32; 2]) -> i32
+    ensures { λ n. ⌜ Tells (now (pool .entry)) (now (rect .entry)) (now (slots .entry)) n (now (slots .exit)) ⌝ }
+{
+    let new = Rect {
+        lowX: rect[0],
+        lowY: rect[1],
+        highX: rect[2],
+        highY: rect[3],
+    };
+    let room = room::insert_room(pool, new);
+    told_room(room, slots)
 }

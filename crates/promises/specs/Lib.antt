@@ -2,3 +2,4 @@
 pub mod Calls
 pub mod Files
 pub mod Surveys
+pub mod Rooms

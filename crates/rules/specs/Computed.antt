@@ -23,6 +23,7 @@ use Rattle.rules.specs.Request.{asked, afterChange, insertFault, deleteF
 use Rattle.rules.specs.Call.{afterTurn, doRequest, doRequests, isRequest, callFault, refused, served, starting, callBy, call}
 use Rattle.rules.specs.Frames.{byteAt, pairValue, signed, wordValue, wordValues, frameOf, nextFrame, rectIn, requestIn, ofKind, windowIn, frameRequest, digits, natShown, intShown, line, answerLine, recordLine, listedOf, replyLines, badLine, frameCall, callPrinted, printed, dustmap}
 use Rattle.rules.specs.File.{fileNumber, pairBytes, unsigned, wordBytes, frameBytes, headFrame, recordFrame, endFrame, fileBytes, distinct, recordsCarried, writeFault, writeFile, frameDue, goodHead, countIn, recordIn, recordsFrom, fileRecords, follows, recordFault, endOf, loadRecords, loadFile, afterLoad, readFile}
+use Rattle.rules.specs.Room.{isFull, wayUp, fullRun, plusRoot, slotsNeeded, roomFault, insertRoom, roomNumber, roomWords}
 use Rattle.rules.specs.Doubles.{unit, isNumber, exactOf, valueOf, floorOf, ceilingOf}
 use Rattle.rules.specs.Survey.{outward, spread, further, inOrder, goodBox, notNegative, moderate, goodDisc, finish, boxWindow, discWindow, queryWindow, surveyNumber, surveyWords}
 
@@ -31,5 +32,5 @@ unfolding those every oneOf joined without earliestBest total upFrom same lessTh
 document01 bytes = dustmap bytes
 
 unfoldable pub document02 : Query → Surveyed
-unfolding fileNumber pairBytes unsigned wordBytes frameBytes headFrame recordFrame endFrame fileBytes distinct recordsCarried writeFault writeFile frameDue goodHead countIn recordIn recordsFrom fileRecords follows recordFault endOf loadRecords loadFile afterLoad readFile unit isNumber exactOf valueOf floorOf ceilingOf outward spread further inOrder goodBox notNegative moderate goodDisc finish boxWindow discWindow queryWindow surveyNumber surveyWords inRange add sub neg div ofInt ofBits toBits
+unfolding fileNumber pairBytes unsigned wordBytes frameBytes headFrame recordFrame endFrame fileBytes distinct recordsCarried writeFault writeFile frameDue goodHead countIn recordIn recordsFrom fileRecords follows recordFault endOf loadRecords loadFile afterLoad readFile isFull wayUp fullRun plusRoot slotsNeeded roomFault insertRoom roomNumber roomWords unit isNumber exactOf valueOf floorOf ceilingOf outward spread further inOrder goodBox notNegative moderate goodDisc finish boxWindow discWindow queryWindow surveyNumber surveyWords inRange add sub neg div ofInt ofBits toBits
 document02 query = queryWindow query

@@ -1,5 +1,5 @@
 -- Document 01 as definitions, in the document's order. `call` in Call.antt is the top, and everything else is a part of it; of document 02,
--- Compare is Req 01, File is Req 02, Doubles and Survey are Req 03, and Req 05 is in Geometry, Choose and Split.
+-- Compare is Req 01, File is Req 02, Doubles and Survey are Req 03, Room is Req 06, and Req 05 is in Geometry, Choose and Split.
 pub mod Lists
 pub mod Numbers
 pub mod Geometry
@@ -18,6 +18,7 @@ pub mod Request
 pub mod Call
 pub mod Frames
 pub mod File
+pub mod Room
 pub mod Doubles
 pub mod Survey
 pub mod Computed
@@ -26,4 +27,5 @@ pub mod Examples
 pub mod ModeExamples
 pub mod RoadExamples
 pub mod FileExamples
+pub mod RoomExamples
 pub mod SurveyExamples

@@ -157,3 +157,11 @@ pub enum FileFault {
     BadFrame,
     NotAfter,
 }
+
+// Req 06: the slots that an insert of a rectangle would need, and those that are free; or what refuses to tell it, a case for each number.
+pub enum InsertRoom {
+    Slots { needed: u32, free: u32 },
+    BadLength,
+    NotSound,
+    BadRectangle,
+}

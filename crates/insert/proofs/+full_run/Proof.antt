@@ -5,7 +5,7 @@ use native.Mathlib.Omega.{arith}
 use borrow.Fn.Kinds.{In}
 use borrow.Fn.PlainCycle.{Measures, is, falls, and}
 use Rattle.insert.proofs.Fitted.{slot-in}
-use Rattle.insert.proofs.Steps.{way-node, way-choosable, way-valid, way-inner, way-down, run-here, run-shorter, run-longer}
+use Rattle.insert.proofs.Ways.{way-node, way-choosable, way-inner, way-down, run-here, run-shorter, run-longer}
 use Rattle.insert.proofs.full_run.Reads as full-run
 use Rattle.insert.proofs.full_run.Kinds as full-run-kinds
 use Rattle.insert.proofs.+full_run.Lts-full_run as full-run-lts
@@ -52,17 +52,17 @@ full-run-returns t c =
 
 full-run-choose-child-requires : (t : ℕ) → full-run-lts.Need-choose-child-requires (full-run-calls t) (full-run-at t) full-run.Post
 full-run-choose-child-requires t c κs =
-    let start = c .before .before in
+    let start = c .before in
     let w = start .args .pool .now in
     let r = start .pre .1 .0 in
     let h = start .pre .1 .1 in
-    let more : 1 ≤ start .args .n = omega (arith, c .before .if1 .left) in
-    (slot-in w (start .args .s) r (way-node h .slot), (way-choosable h more, way-valid h))
+    let more : 1 ≤ start .args .n = omega (arith, c .if1 .left) in
+    (slot-in w (start .args .s) r (way-node h .slot), (way-choosable h more, h .good))
 
 full-run-child-of-requires : (t : ℕ) → full-run-lts.Need-child-of-requires (full-run-calls t) (full-run-at t) full-run.Post
 full-run-child-of-requires t c κs =
-    let start = c .before .before .before in
-    let if1 = c .before .before .if1 in
+    let start = c .before .before in
+    let if1 = c .before .if1 in
     let w = start .args .pool .now in
     let r = start .pre .1 .0 in
     let h = start .pre .1 .1 in
@@ -70,12 +70,12 @@ full-run-child-of-requires t c κs =
     (slot-in w (start .args .s) r (way-node h .slot), (c .choose-child .ensures .1, way-inner h more))
 
 full-run-sub-full-run : (t : ℕ) → full-run-lts.Need-sub-full-run (full-run-calls t) (full-run-at t) full-run.Post
-full-run-sub-full-run t c = omega (arith, c .before .before .before .if1 .left)
+full-run-sub-full-run t c = omega (arith, c .before .before .if1 .left)
 
 full-run-full-run-requires : (t : ℕ) → full-run-lts.Need-full-run-requires (full-run-calls t) (full-run-at t) full-run.Post
 full-run-full-run-requires t c κs =
-    let start = c .before .before .before .before in
-    let if1 = c .before .before .before .if1 in
+    let start = c .before .before .before in
+    let if1 = c .before .before .if1 in
     let choose-child = c .before .choose-child in
     let r = start .pre .1 .0 in
     let h = start .pre .1 .1 in
@@ -86,8 +86,8 @@ full-run-full-run-requires t c κs =
 
 full-run-returns-2 : (t : ℕ) → full-run-lts.Need-returns-2 (full-run-calls t) (full-run-at t) full-run.Post
 full-run-returns-2 t c =
-    let start = c .before .before .before .before .before .before in
-    let if1 = c .before .before .before .before .before .if1 in
+    let start = c .before .before .before .before .before in
+    let if1 = c .before .before .before .before .if1 in
     let choose-child = c .before .before .before .choose-child in
     let child-of = c .before .before .child-of in
     let full-run = c .before .full-run in
@@ -100,7 +100,7 @@ full-run-returns-2 t c =
 
 full-run-one-if-full-requires-2 : (t : ℕ) → full-run-lts.Need-one-if-full-requires-2 (full-run-calls t) (full-run-at t) full-run.Post
 full-run-one-if-full-requires-2 t c κs =
-    let start = c .before .before .before .before .before .before in
+    let start = c .before .before .before .before .before in
     let w = start .args .pool .now in
     let r = start .pre .1 .0 in
     let h = start .pre .1 .1 in
@@ -108,13 +108,13 @@ full-run-one-if-full-requires-2 t c κs =
 
 full-run-add-result : (t : ℕ) → full-run-lts.Need-add-result (full-run-calls t) (full-run-at t) full-run.Post
 full-run-add-result t c =
-    let h = c .before .before .before .before .before .before .before .pre .1 .1 in
+    let h = c .before .before .before .before .before .before .pre .1 .1 in
     omega (arith, h .few, c .one-if-full2 .ensures .1)
 
 full-run-returns-3 : (t : ℕ) → full-run-lts.Need-returns-3 (full-run-calls t) (full-run-at t) full-run.Post
 full-run-returns-3 t c =
-    let start = c .before .before .before .before .before .before .before in
-    let if1 = c .before .before .before .before .before .before .if1 in
+    let start = c .before .before .before .before .before .before in
+    let if1 = c .before .before .before .before .before .if1 in
     let choose-child = c .before .before .before .before .choose-child in
     let child-of = c .before .before .before .child-of in
     let full-run = c .before .before .full-run in

@@ -8,7 +8,8 @@ use borrow.Fn.PlainCycle.{Measures, is, falls, and}
 use Rattle.rules.specs.Insert as I
 use Rattle.insert.specs.Left.{GrewTo}
 use Rattle.insert.proofs.Fitted.{slot-in}
-use Rattle.insert.proofs.Steps.{way-end, way-ends, way-node, way-choosable, way-valid, way-inner, way-down, way-back, way-up}
+use Rattle.insert.proofs.Ways.{way-node, way-choosable, way-inner}
+use Rattle.insert.proofs.Steps.{way-end, way-ends, goes-down, way-back, way-up}
 use Rattle.insert.proofs.insert_below.Reads as insert-below
 use Rattle.insert.proofs.insert_below.Kinds as insert-below-kinds
 use Rattle.insert.proofs.+insert_below.Lts-insert_below as insert-below-lts
@@ -74,7 +75,7 @@ insert-below-choose-child-requires t c κs =
     let r = start .pre .1 .0 in
     let h = start .pre .1 .1 in
     let more : 1 ≤ start .args .n = omega (arith, if1 .left) in
-    (slot-in w (start .args .s) (r .fit .right) (way-node h .slot), (way-choosable h more, way-valid h))
+    (slot-in w (start .args .s) (r .fit .right) (way-node (h .way) .slot), (way-choosable (h .way) more, h .way .good))
 
 insert-below-child-of-requires : (t : ℕ) → insert-below-lts.Need-child-of-requires (insert-below-calls t) (insert-below-at t) insert-below.Post
 insert-below-child-of-requires t c κs =
@@ -84,7 +85,7 @@ insert-below-child-of-requires t c κs =
     let r = start .pre .1 .0 in
     let h = start .pre .1 .1 in
     let more : 1 ≤ start .args .n = omega (arith, if1 .left) in
-    (slot-in w (start .args .s) (r .fit .right) (way-node h .slot), (c .before .choose-child .ensures .1, way-inner h more))
+    (slot-in w (start .args .s) (r .fit .right) (way-node (h .way) .slot), (c .before .choose-child .ensures .1, way-inner (h .way) more))
 
 insert-below-sub-insert-below : (t : ℕ) → insert-below-lts.Need-sub-insert-below (insert-below-calls t) (insert-below-at t) insert-below.Post
 insert-below-sub-insert-below t c =
@@ -102,7 +103,7 @@ insert-below-insert-below-requires t c κs =
     let h = start .pre .1 .1 in
     let more : 1 ≤ start .args .n = omega (arith, if1 .left) in (
       omega (arith, start .pre .0),
-      (r, way-down h more (choose-child .result) (child-of .result) (choose-child .ensures .0) (child-of .ensures)),
+      (r, goes-down h more (choose-child .result) (child-of .result) (choose-child .ensures .0) (child-of .ensures)),
     )
 
 insert-below-adjust-requires : (t : ℕ) → insert-below-lts.Need-adjust-requires (insert-below-calls t) (insert-below-at t) insert-below.Post

@@ -3,7 +3,7 @@ use borrow.Author.Needs.{needs}
 use mathlib.Core.Path.{_≡_, ap}
 use Prim.Native.Nat.{ℕ, _-_}
 use Rattle.rules.specs.Layout.{read}
-use Rattle.insert.proofs.Roots.{root-way, at-refused, at-risen, at-made}
+use Rattle.insert.proofs.Roots.{root-goes, at-refused, at-risen, at-made}
 use Rattle.insert.proofs.insert_at.Statement.{statement}
 use Rattle.insert.proofs.insert_at.Tie as tie
 
@@ -35,7 +35,7 @@ insert-below-requires c κs =
     let n = height-of .result - start .args .level in
     let levels : n ≡ p .height - start .args .level = ap (λ (k : ℕ). k - start .args .level) (height-of .ensures) in (
       record { fit = start .pre .0; known = known },
-      root-way p (start .args .level) (start .args .e) u low high f n levels (root-of .result) (root-of .ensures),
+      root-goes p (start .args .level) (start .args .e) u low high f n levels (root-of .result) (root-of .ensures),
     )
 
 grow-tree-requires : tie.Need-grow-tree-requires

@@ -18,8 +18,8 @@ full-run-requires c κs =
     let n = height-of .result - start .args .level in
     let levels : n ≡ p .height - start .args .level = ap (λ (k : ℕ). k - start .args .level) (height-of .ensures) in (
       start .pre .0,
-      subst⁻¹ (λ (k : ℕ). WayDown p k (c .root-of .result) (start .args .e)) levels
-          (subst⁻¹ (λ (t : SlotNumber). WayDown p (p .height - start .args .level) t (start .args .e)) (c .root-of .ensures) (start .pre .1 .1)),
+      subst⁻¹ (λ (k : ℕ). WayDown p k (c .root-of .result) (start .args .new)) levels
+          (subst⁻¹ (λ (t : SlotNumber). WayDown p (p .height - start .args .level) t (start .args .new)) (c .root-of .ensures) (start .pre .1 .1)),
     )
 
 returns : tie.Need-returns
@@ -31,7 +31,7 @@ returns c =
     let p = read (start .args .pool .now) in
     let n = height-of .result - start .args .level in
     let levels : n ≡ p .height - start .args .level = ap (λ (k : ℕ). k - start .args .level) (height-of .ensures) in
-    needs-run (start .args .level) p (start .args .e) n levels (root-of .result) (root-of .ensures) (full-run .result)
+    needs-run (start .args .level) p (start .args .new) (start .pre .1 .1) n levels (root-of .result) (root-of .ensures) (full-run .result)
     (full-run .ensures .0) (c .if1 .taken)
 
 returns-2 : tie.Need-returns-2
@@ -43,7 +43,7 @@ returns-2 c =
     let p = read (start .args .pool .now) in
     let n = height-of .result - start .args .level in
     let levels : n ≡ p .height - start .args .level = ap (λ (k : ℕ). k - start .args .level) (height-of .ensures) in
-    needs-more (start .args .level) p (start .args .e) n levels (root-of .result) (root-of .ensures) (full-run .result)
+    needs-more (start .args .level) p (start .args .new) (start .pre .1 .1) n levels (root-of .result) (root-of .ensures) (full-run .result)
     (full-run .ensures .0) (omega (arith, c .if1 .left, full-run .ensures .1))
 
 pub needed-spec : {M : Type 1} → statement M

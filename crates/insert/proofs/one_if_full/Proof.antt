@@ -3,7 +3,7 @@ use borrow.Author.Needs.{needs}
 use mathlib.Core.Path.{sym}
 use native.Mathlib.Omega.{arith}
 use Rattle.rules.specs.Layout.{read}
-use Rattle.insert_laws.proofs.Taken.{full-one, room-none}
+use Rattle.insert_laws.proofs.Runs.{full-one, room-none}
 use Rattle.insert.proofs.one_if_full.Statement.{statement}
 use Rattle.insert.proofs.one_if_full.Tie as tie
 

@@ -1,0 +1,2 @@
+-- What the proofs of `room` cite.
+pub mod Rooms
