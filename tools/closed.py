@@ -14,19 +14,20 @@ use Prim.Native.Nat.{ℕ}
 use lib.IntN.{ℤ, pos}
 use lib.ListN.{replicate}
 use lib.Ieee.{binary64, ofBits}
-use Rattle.rules.specs.declared.Record.{Record}
+use Rattle.rules.specs.declared.Edition.the-variants.{One, Two}
 use Rattle.rules.specs.declared.Request.{Request}
 use Rattle.rules.specs.declared.Answer.{Answer}
 use Rattle.rules.specs.declared.Query.the-variants.{Point, Box, Disc}
 use Rattle.rules.specs.declared.Surveyed.the-variants.{Rounded, BadSurvey}
+use Rattle.rules.specs.Owners.{owner}
 use Rattle.rules.specs.Pool.{number, rectangle, noRecord}
 use Rattle.rules.specs.Answers.{answer}
 use Rattle.rules.specs.Call.{Left}
 use Rattle.rules.specs.Frames.{dustmap}
 use Rattle.rules.specs.Survey.{queryWindow}
 use Rattle.rules.specs.Computed.{document01, document02}
-use Rattle.rules.specs.Histories.{minus, asking, history}
-use Rattle.rules.specs.Layout.{blankWords}
+use Rattle.rules.specs.Histories.{minus, asking, historyOf}
+use Rattle.rules.specs.Layout.{blankWordsOf}
 """
 
 
@@ -72,15 +73,20 @@ def numbers(line):
     return [int(n) for n in line.split()[1:]]
 
 
+EDITIONS = {1: "One", 2: "Two"}
+
+
 def start(script):
     blank = lines_of(script, "blank")
     if blank:
-        return f"blankWords {numbers(blank[0])[0]}"
+        slots, edition = (numbers(blank[0]) + [1])[:2]
+        return f"blankWordsOf {EDITIONS[edition]} {slots}"
     return words(numbers(lines_of(script, "pool")[0]))
 
 
 def statement(name, script, output):
     """That the definitions leave, for a script, what the output of `second script` says."""
+    whose = numbers((lines_of(script, "owner") or ["owner 1"])[0])[0]
     places = numbers((lines_of(script, "found") or ["found 64"])[0])[0]
     filled = [record(numbers(l)) for l in lines_of(output, "found")]
     pool = words(numbers(lines_of(output, "pool")[0]))
@@ -107,7 +113,7 @@ def statement(name, script, output):
       answers = {listed(answers)};
       found = {listed(filled, f'replicate {places - len(filled)} noRecord')} }}
 
-{name} : history {name}-start {places} {name}-requests ≡ {name}-left
+{name} : historyOf (owner ({integer(whose)})) {name}-start {places} {name}-requests ≡ {name}-left
 unfolding document01 {name}-start {name}-requests {name}-pool {name}-left
 {name} = refl
 """

@@ -41,7 +41,7 @@ extern const char bridge_server_end[] __attribute__((visibility("hidden")));
 extern char **environ;
 
 static pthread_mutex_t busy = PTHREAD_MUTEX_INITIALIZER; /* one call at a time */
-static pid_t owner;                                      /* the process that started the server */
+static pid_t starter;                                    /* the process that started the server */
 static int file, line;                                   /* the shared memory, and the line to the server */
 static unsigned char *memory;
 static size_t mapped;
@@ -49,7 +49,8 @@ static enum bridge_function function; /* of the call that is being made */
 
 static _Noreturn void fail(const char *what, int error)
 {
-    static const char *const names[] = {"blank", "check", "call", "room", "box", "point", "disc", "write", "read"};
+    static const char *const names[] = {"blank", "blank_as", "check", "call",  "call_as", "room",
+                                        "box",   "point",    "disc",  "write", "read",    "read_as"};
     fprintf(stderr, "dustmap_%s, through the bridge: %s%s%s\n", names[function], what, error ? ": " : "", error ? strerror(error) : "");
     abort();
 }
@@ -110,9 +111,9 @@ static void unlock(void)
 static void have_server(void)
 {
     int ends[2];
-    if (owner == getpid())
+    if (starter == getpid())
         return;
-    if (owner) {
+    if (starter) {
         close(line);
         close(file);
         munmap(memory, mapped);
@@ -130,7 +131,7 @@ static void have_server(void)
     close(program);
     close(ends[1]);
     line = ends[0];
-    owner = getpid();
+    starter = getpid();
 }
 
 /* sends a call and waits for its number */
@@ -257,6 +258,12 @@ int32_t dustmap_blank(int32_t *pool, size_t pool_len)
     return make((struct bridge_call){.function = BRIDGE_BLANK}, lists);
 }
 
+int32_t dustmap_blank_as(int32_t *pool, size_t pool_len, int32_t edition, int32_t rule)
+{
+    struct list lists[BRIDGE_LISTS] = {WRITTEN(int32_t, pool, pool_len)};
+    return make((struct bridge_call){.function = BRIDGE_BLANK_AS, .numbers = {edition, rule}}, lists);
+}
+
 int32_t dustmap_check(const int32_t *pool, size_t pool_len)
 {
     struct list lists[BRIDGE_LISTS] = {READ(int32_t, pool, pool_len)};
@@ -276,6 +283,21 @@ int32_t dustmap_call(int32_t *pool, size_t pool_len, int32_t *work, size_t work_
         WRITTEN(struct dustmap_found, found, n_found),
     };
     return make((struct bridge_call){.function = BRIDGE_CALL}, lists);
+}
+
+int32_t dustmap_call_as(int32_t *pool, size_t pool_len, int32_t *work, size_t work_len,
+                        const struct dustmap_request *requests, size_t n_requests,
+                        struct dustmap_answer *answers, size_t n_answers,
+                        struct dustmap_found *found, size_t n_found, int32_t owner)
+{
+    struct list lists[BRIDGE_LISTS] = {
+        WRITTEN(int32_t, pool, pool_len),
+        WRITTEN(int32_t, work, work_len),
+        READ(struct dustmap_request, requests, n_requests),
+        WRITTEN(struct dustmap_answer, answers, n_answers),
+        WRITTEN(struct dustmap_found, found, n_found),
+    };
+    return make((struct bridge_call){.function = BRIDGE_CALL_AS, .numbers = {owner}}, lists);
 }
 
 int32_t dustmap_room(const int32_t *pool, size_t pool_len, const int32_t rect[4], uint32_t slots[2])
@@ -330,4 +352,15 @@ int32_t dustmap_read(int32_t *pool, size_t pool_len, int32_t *work, size_t work_
         READ(uint8_t, bytes, n_bytes),
     };
     return make((struct bridge_call){.function = BRIDGE_READ}, lists);
+}
+
+int32_t dustmap_read_as(int32_t *pool, size_t pool_len, int32_t *work, size_t work_len, const uint8_t *bytes, size_t n_bytes,
+                        int32_t edition, int32_t rule)
+{
+    struct list lists[BRIDGE_LISTS] = {
+        WRITTEN(int32_t, pool, pool_len),
+        WRITTEN(int32_t, work, work_len),
+        READ(uint8_t, bytes, n_bytes),
+    };
+    return make((struct bridge_call){.function = BRIDGE_READ_AS, .numbers = {edition, rule}}, lists);
 }

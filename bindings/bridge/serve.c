@@ -17,6 +17,7 @@ static size_t mapped;
 static int32_t made(const struct bridge_call *call)
 {
     const uint64_t *n = call->counts;
+    const int32_t *told = call->numbers;
     void *list[BRIDGE_LISTS];
     double d[BRIDGE_DOUBLES];
     for (int i = 0; i < BRIDGE_LISTS; i++)
@@ -25,10 +26,14 @@ static int32_t made(const struct bridge_call *call)
     switch (call->function) {
     case BRIDGE_BLANK:
         return dustmap_blank(list[0], n[0]);
+    case BRIDGE_BLANK_AS:
+        return dustmap_blank_as(list[0], n[0], told[0], told[1]);
     case BRIDGE_CHECK:
         return dustmap_check(list[0], n[0]);
     case BRIDGE_CALL:
         return dustmap_call(list[0], n[0], list[1], n[1], list[2], n[2], list[3], n[3], list[4], n[4]);
+    case BRIDGE_CALL_AS:
+        return dustmap_call_as(list[0], n[0], list[1], n[1], list[2], n[2], list[3], n[3], list[4], n[4], told[0]);
     case BRIDGE_ROOM:
         return dustmap_room(list[0], n[0], list[1], list[2]);
     case BRIDGE_BOX:
@@ -41,6 +46,8 @@ static int32_t made(const struct bridge_call *call)
         return dustmap_write(list[0], n[0], list[1], n[1], list[2]);
     case BRIDGE_READ:
         return dustmap_read(list[0], n[0], list[1], n[1], list[2], n[2]);
+    case BRIDGE_READ_AS:
+        return dustmap_read_as(list[0], n[0], list[1], n[1], list[2], n[2], told[0], told[1]);
     }
     fprintf(stderr, "dustmap bridge: no function %llu\n", (unsigned long long)call->function);
     exit(1);

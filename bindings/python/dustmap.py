@@ -29,6 +29,14 @@ All the records go to another office as the bytes of one file, which a map there
     there = Map(slots=64)
     there.read(file)
 
+Two owners share a map of edition 2. Each batch is one owner's, and sees and changes that owner's records only:
+
+    shared = Map(slots=128, edition=2)
+    shared.insert(7, (0, 0, 10, 10))
+    shared.insert(7, (0, 0, 10, 10), owner=2)
+    shared.delete(7, (0, 0, 10, 10), owner=2)
+    shared.search((0, 0, 10, 10))
+
 What the map refuses is raised as `Refused`, with the number and its words; in a batch each request has its own answer, and a refused one does not
 stop the others. What cannot be asked at all, as a float for a whole number or a number beyond 32 bits, is a TypeError or a ValueError before
 anything is done.
@@ -40,6 +48,7 @@ and writes; the environment variable DUSTMAP_LIBRARY names another place for it.
 from __future__ import annotations
 
 import ctypes
+import enum
 import functools
 import operator
 import os
@@ -50,7 +59,7 @@ from dataclasses import dataclass
 from pathlib import Path
 from typing import Any, NamedTuple, Optional, Union, overload
 
-# The words of a pool before its first slot, and of a slot.
+# The words of a pool before its first slot, and of a slot of edition 1; `Edition` has those of each.
 HEAD_WORDS = 8
 SLOT_WORDS = 42
 # "Slots N: 1 to 4,096. A batch has 0 to 1,024 requests."
@@ -58,9 +67,11 @@ MOST_SLOTS = 4_096
 MOST_REQUESTS = 1_024
 # Coordinates are from minus this to this.
 FARTHEST = 1_000_000_000
-# The bytes of a file's first and last frame together, and of the frame of a record.
+# The bytes of a file's first and last frame together, and of the frame of a record of edition 1.
 FILE_ENDS = 16
 RECORD_BYTES = 24
+# The rule for a split: the only one there is.
+QUADRATIC = 0
 
 INSERT, DELETE, UPDATE, SEARCH, SEARCH_INSIDE, SEARCH_ENCLOSING = 1, 2, 3, 4, 5, 6
 KINDS = {
@@ -73,6 +84,23 @@ KINDS = {
 }
 # "A search carries one of three modes".
 SEARCHES = (SEARCH, SEARCH_INSIDE, SEARCH_ENCLOSING)
+
+
+class Edition(enum.IntEnum):
+    """The edition of a map, or of a file: there is no other. In edition 2 each record has an owner."""
+
+    ONE = 1
+    TWO = 2
+
+    @property
+    def slot_words(self) -> int:
+        """The words of a slot: eight more in edition 2, an owner for each entry."""
+        return SLOT_WORDS if self is Edition.ONE else SLOT_WORDS + 8
+
+    @property
+    def record_bytes(self) -> int:
+        """The bytes of a record's frame in a file."""
+        return RECORD_BYTES if self is Edition.ONE else RECORD_BYTES + 4
 
 
 class Meaning(NamedTuple):
@@ -91,6 +119,7 @@ class Meaning(NamedTuple):
 # Written by `tools/numbers` from bindings/numbers.txt: do not edit by hand.
 ACCEPTED = 0
 BAD_LISTS = 9
+BAD_OWNER = 13
 BAD_LENGTH = 1
 NOT_SOUND = 2
 NO_REQUEST = -1
@@ -120,12 +149,19 @@ NUMBERS: dict[int, Meaning] = {
         "more than 1,024 requests, or answer list of another length than the request list",
         "hand over at most 1,024 requests in one call, and an answer list with one place for each; where there are more, make several calls",
     ),
+    BAD_OWNER: Meaning(
+        BAD_OWNER,
+        "bad owner",
+        "call refused",
+        "another owner than 1 or 2, of a batch or of a record in a file",
+        "make the call for owner 1 or owner 2, whatever the edition of the pool; a file with another owner has been changed: get the whole file again from the office that wrote it. The pool is as it was",
+    ),
     BAD_LENGTH: Meaning(
         BAD_LENGTH,
         "bad length",
         "call refused",
         "pool length wrong, or workspace length differs from the pool's",
-        "lend a pool of 8 + 42N words for N slots, N from 1 to 4,096, and a workspace of the same length; a file of another length is cut, or is no pool",
+        "lend a pool of 8 + 42N words for N slots, or of 8 + 50N where its word 0 is 2 or edition 2 is told, N from 1 to 4,096, and a workspace of the same length; a file of another length is cut, or is no pool",
     ),
     NOT_SOUND: Meaning(
         NOT_SOUND,
@@ -138,8 +174,8 @@ NUMBERS: dict[int, Meaning] = {
         NO_REQUEST,
         "no request",
         "call refused",
-        "a request is of none of the six kinds",
-        "give each request the kind 1 insert, 2 delete, 3 update, 4 search, 5 search inside or 6 search enclosing",
+        "a request is of none of the six kinds; or blanking or reading is told an edition or a rule that there is none of",
+        "give each request the kind 1 insert, 2 delete, 3 update, 4 search, 5 search inside or 6 search enclosing; tell the edition 1 or 2, and the rule 0",
     ),
     BAD_SURVEY: Meaning(
         BAD_SURVEY,
@@ -153,7 +189,7 @@ NUMBERS: dict[int, Meaning] = {
         "bad frame",
         "call refused",
         "a wrong frame, edition or count, or bytes after kind 18",
-        "get the whole file again from the office that wrote it; this one is cut, has been changed, is of another edition, or is no map's file. The pool is as it was",
+        "get the whole file again from the office that wrote it; this one is cut, has been changed, is of another edition than told, or is no map's file. The pool is as it was",
     ),
     BAD_RECTANGLE: Meaning(
         BAD_RECTANGLE,
@@ -174,35 +210,35 @@ NUMBERS: dict[int, Meaning] = {
         "not after",
         "call refused",
         "a record not after its predecessor",
-        "put the file's records in order of number, low x, low y, high x, high y, each pair once, as a written file has them. The pool is as it was",
+        "put the file's records in order of number, low x, low y, high x, high y, each pair once, in edition 2 owner 1's first, as a written file has them. The pool is as it was",
     ),
     NOT_HELD: Meaning(
         NOT_HELD,
         "not held",
         "request refused",
         "delete or update: old pair not held",
-        "give the record number with the rectangle exactly as it is held; a search of that place lists what is there",
+        "give the record number with the rectangle exactly as it is held; a search of that place lists what is there. In edition 2 each owner holds its own pairs",
     ),
     HELD: Meaning(
         HELD,
         "held",
         "request refused",
         "insert: pair held; update: new pair held and not the old pair",
-        "insert: nothing, if this pair is meant; it is in force already. Update: both pairs are in force; delete the old one if it is to go",
+        "insert: nothing, if this pair is meant; it is in force already. Update: both pairs are in force; delete the old one if it is to go. In edition 2 the other owner's pairs do not count",
     ),
     NO_SLOT: Meaning(
         NO_SLOT,
         "no slot",
         "request or call refused",
         "the rules call for a slot at a moment when none is free",
-        "delete what is no longer needed and ask again, or blank a pool with more slots (4,096 at most) and insert every record there; N slots are enough for every file of up to 2N + 1 records, and room (dustmap_room in C) tells beforehand whether an insert fits",
+        "delete what is no longer needed (in edition 2 both owners' records take slots) and ask again, or blank a pool with more slots (4,096 at most) and insert every record there; N slots are enough for every file of up to 2N + 1 records, and room (dustmap_room in C) tells beforehand whether an insert fits",
     ),
     NO_ROOM: Meaning(
         NO_ROOM,
         "no room",
         "request or call refused",
         "search: more found than places left in the found list; file: its buffer is short",
-        "ask again with a longer found list (the answer says how many records this search finds), or with a smaller window; for a search enclosing, with a larger one; for a file, with a longer buffer (16 + 192N bytes are enough for N slots)",
+        "ask again with a longer found list (the answer says how many records this search finds), or with a smaller window; for a search enclosing, with a larger one; for a file, with a longer buffer (16 + 192N bytes are enough for N slots, and 16 + 224N in edition 2)",
     ),
 }
 # End of what `tools/numbers` writes.
@@ -317,6 +353,15 @@ def _count(value: Any, what: str, least: int, most: int) -> int:
     if not least <= number <= most:
         raise ValueError(f"{what}: {number} is not from {least:,} to {most:,}")
     return number
+
+
+def _edition(value: Any) -> Edition:
+    """The value as an edition that there is. A float that equals one is none: so is what `_word` refuses."""
+    number = _word(value, "edition")
+    try:
+        return Edition(number)
+    except ValueError:
+        raise ValueError(f"edition: {number} is none of {', '.join(str(int(e)) for e in Edition)}") from None
 
 
 @dataclass(frozen=True)
@@ -453,16 +498,20 @@ def library_path() -> Path:
 # The functions of dustmap.h with their parameters: a list is a pointer and a count; the four words of a rectangle are a pointer, and so are the two that
 # `room` writes and a number that is written.
 _LIST, _DOUBLE, _WORDS, _NUMBER = [ctypes.c_void_p, ctypes.c_size_t], [ctypes.c_double], [ctypes.c_void_p], [ctypes.POINTER(ctypes.c_uint64)]
+_TOLD = [ctypes.c_int32]  # an owner, an edition or a rule
 _FUNCTIONS = {
     "dustmap_blank": _LIST,
+    "dustmap_blank_as": _LIST + _TOLD * 2,
     "dustmap_check": _LIST,
     "dustmap_call": _LIST * 5,
+    "dustmap_call_as": _LIST * 5 + _TOLD,
     "dustmap_room": _LIST + _WORDS * 2,
     "dustmap_box": _DOUBLE * 4 + _WORDS,
     "dustmap_point": _DOUBLE * 2 + _WORDS,
     "dustmap_disc": _DOUBLE * 3 + _WORDS,
     "dustmap_write": _LIST * 2 + _NUMBER,
     "dustmap_read": _LIST * 3,
+    "dustmap_read_as": _LIST * 3 + _TOLD * 2,
 }
 
 
@@ -487,18 +536,24 @@ def _parts(words: Any, size: int) -> tuple[Any, int]:
 
 
 class Map:
-    """A map that owns its pool and its workspace. It may be used from several threads: each call waits until the one before has ended."""
+    """A map that owns its pool and its workspace. It may be used from several threads: each call waits until the one before has ended.
 
-    def __init__(self, slots: int = 128) -> None:
+    Where an `owner` is asked for, it is 1 or 2, and any other is refused 13. In a map of edition 2 a batch sees and changes that owner's records
+    only, and a pair is held by each owner for itself; a map of edition 1 serves both alike. The owners share the slots: that a request is refused 7
+    is all that an owner's answers tell of the other's records. `len`, `room`, `write` and `words` tell of both.
+    """
+
+    def __init__(self, slots: int = 128, edition: int = Edition.ONE) -> None:
         """A blank map of 1 to 4,096 slots. A slot holds a node of up to 8 records or nodes; they are never added later (7)."""
-        self._own(HEAD_WORDS + SLOT_WORDS * _count(slots, "slots", 1, MOST_SLOTS))
-        self._accept(self._library.dustmap_blank(*_parts(self._pool, 1)))
+        told = _edition(edition)
+        self._own(HEAD_WORDS + told.slot_words * _count(slots, "slots", 1, MOST_SLOTS))
+        self._accept(self._library.dustmap_blank_as(*_parts(self._pool, 1), told, QUADRATIC))
 
     @classmethod
     def of(cls, words: Union[bytes, bytearray, memoryview, Sequence[int]]) -> Map:
         """A map of a copy of these words, or of these bytes, four to a word, little-endian. They are checked, not trusted.
 
-        Refused 1 where their number is wrong, and 2 where they are no sound pool.
+        Word 0 says which edition they are of. Refused 1 where their number is wrong, and 2 where they are no sound pool.
         """
         made = cls.__new__(cls)
         made._own_words(_pool_words(words))
@@ -523,47 +578,49 @@ class Map:
         if number != ACCEPTED:
             raise Refused(number)
 
-    def insert(self, number: int, rect: Sequence[int]) -> None:
+    def insert(self, number: int, rect: Sequence[int], *, owner: int = 1) -> None:
         """Brings the pair into force."""
-        self.batch([Request.insert(number, rect)])[0].or_raise()
+        self.batch([Request.insert(number, rect)], owner=owner)[0].or_raise()
 
-    def delete(self, number: int, rect: Sequence[int]) -> None:
+    def delete(self, number: int, rect: Sequence[int], *, owner: int = 1) -> None:
         """Takes the pair off the map: the number and the rectangle exactly as they are held."""
-        self.batch([Request.delete(number, rect)])[0].or_raise()
+        self.batch([Request.delete(number, rect)], owner=owner)[0].or_raise()
 
-    def update(self, number: int, old: Sequence[int], new: Sequence[int]) -> None:
+    def update(self, number: int, old: Sequence[int], new: Sequence[int], *, owner: int = 1) -> None:
         """Puts the new rectangle in the place of the old one, which is held under the number."""
-        self.batch([Request.update(number, old, new)])[0].or_raise()
+        self.batch([Request.update(number, old, new)], owner=owner)[0].or_raise()
 
-    def search(self, window: Sequence[int], places: Optional[int] = None) -> Found:
+    def search(self, window: Sequence[int], places: Optional[int] = None, *, owner: int = 1) -> Found:
         """Every record whose rectangle meets the window. With `places`, a search that finds more than that is refused 8."""
-        return self._found(Request.search(window), places)
+        return self._found(Request.search(window), places, owner)
 
-    def search_inside(self, window: Sequence[int], places: Optional[int] = None) -> Found:
+    def search_inside(self, window: Sequence[int], places: Optional[int] = None, *, owner: int = 1) -> Found:
         """Only the records that lie inside the window. They may touch its sides from within, and one equal to it is inside.
 
         It opens the nodes that `search` opens. With `places`, a search that finds more than that is refused 8.
         """
-        return self._found(Request.search_inside(window), places)
+        return self._found(Request.search_inside(window), places, owner)
 
-    def search_enclosing(self, window: Sequence[int], places: Optional[int] = None) -> Found:
+    def search_enclosing(self, window: Sequence[int], places: Optional[int] = None, *, owner: int = 1) -> Found:
         """Only the records that enclose the window: it lies inside them, and one equal to it encloses it.
 
         It opens the nodes that `search` opens. With `places`, a search that finds more than that is refused 8.
         """
-        return self._found(Request.search_enclosing(window), places)
+        return self._found(Request.search_enclosing(window), places, owner)
 
-    def _found(self, search: Request, places: Optional[int]) -> Found:
+    def _found(self, search: Request, places: Optional[int], owner: int) -> Found:
         """What a search found; or its refusal is raised."""
-        answer = self.batch([search], places)[0].or_raise()
+        answer = self.batch([search], places, owner=owner)[0].or_raise()
         return Found(answer.records, answer.opened)
 
-    def records(self) -> tuple[Record, ...]:
-        """Every record on the map, in found order."""
-        return self.search(WHOLE_SITE).records
+    def records(self, *, owner: int = 1) -> tuple[Record, ...]:
+        """Every record on the map, in edition 2 every one of that owner, in found order."""
+        return self.search(WHOLE_SITE, owner=owner).records
 
-    def batch(self, requests: Iterable[Request], places: Optional[int] = None) -> list[Answer]:
+    def batch(self, requests: Iterable[Request], places: Optional[int] = None, *, owner: int = 1) -> list[Answer]:
         """Does each request in turn, in one call, and gives the answer to each in its place. A refused request does not stop those after it.
+
+        The batch is that owner's; no node is reported as opened in a map of edition 2.
 
         More than 1,024 requests are refused 9, and nothing is done: they are not split, since a batch is either taken as a whole or refused as a
         whole, and only its caller knows where it may be parted.
@@ -579,34 +636,35 @@ class Map:
                 raise TypeError(f"request {place} of the batch: {request!r} is not a Request")
         if places is not None:
             places = _count(places, "places", 0, 2**31 - 1)
+        whose = _word(owner, "owner")
         with self._lock:
             before = bytes(self._pool)
             try:
-                return self._ask(asked, places, before)
+                return self._ask(asked, places, whose, before)
             except BaseException:
                 self._put_back(before)
                 raise
 
-    def _ask(self, asked: list[Request], places: Optional[int], before: bytes) -> list[Answer]:
+    def _ask(self, asked: list[Request], places: Optional[int], owner: int, before: bytes) -> list[Answer]:
         """The answers to a batch. Where the found list grows, the batch is done again from the pool as it was before.
 
         What has been found and what would have been found is then the room that it needs: a search changes nothing.
         """
         searches = sum(request.kind in SEARCHES for request in asked)
-        answers, found = self._call(asked, 64 * searches if places is None else places)
+        answers, found = self._call(asked, 64 * searches if places is None else places, owner)
         if places is None and NO_ROOM in answers[0::4]:
             self._put_back(before)
-            answers, found = self._call(asked, sum(answers[1::4]))
+            answers, found = self._call(asked, sum(answers[1::4]), owner)
         return [self._answer(request, answers[4 * k : 4 * k + 4], found) for k, request in enumerate(asked)]
 
-    def _call(self, asked: list[Request], places: int) -> tuple[list[int], Sequence[int]]:
+    def _call(self, asked: list[Request], places: int, owner: int) -> tuple[list[int], Sequence[int]]:
         """One call of the library: the answers, four words each, and the found list, five words each."""
         words = [word for r in asked for word in (r.kind, r.number, *r.first, *r.second)]
         requests = (ctypes.c_int32 * len(words))(*words)
         answers = (ctypes.c_uint32 * (4 * len(asked)))()
         found = (ctypes.c_int32 * (5 * places))()
         lists = ((self._pool, 1), (self._work, 1), (requests, 10), (answers, 4), (found, 5))
-        self._accept(self._library.dustmap_call(*(part for words, size in lists for part in _parts(words, size))))
+        self._accept(self._library.dustmap_call_as(*(part for words, size in lists for part in _parts(words, size)), owner))
         return list(answers), found
 
     @staticmethod
@@ -626,8 +684,9 @@ class Map:
         """The slots that an insert of the rectangle would need, and those that are free, in the map as it is. Nothing is changed.
 
         An insert that nothing else is wrong with is refused 7 exactly where it needs more than are free. A change that is made before it, in the same
-        batch too, may alter both. It needs one for each node of the run of full nodes from the leaf that it would go to upward, and one more where the
-        run includes the root: none where that leaf is not full, and never more than the height plus one. Refused 3 for a bad rectangle.
+        batch or by the other owner too, may alter both. It needs one for each node of the run of full nodes from the leaf that it would go to upward,
+        and one more where the run includes the root: none where that leaf is not full, and never more than the height plus one. Refused 3 for a bad
+        rectangle.
         """
         words = (ctypes.c_int32 * 4)(*_rect(rect, "rectangle"))
         slots = (ctypes.c_uint32 * 2)()
@@ -638,26 +697,27 @@ class Map:
     def write(self) -> bytes:
         """The file that carries the map's records to another office, for `read` to take there: each pair once, in found order.
 
-        It takes 512 KiB of the stack of the thread that calls it.
+        It is of the map's edition; in edition 2 it has owner 1's records, then owner 2's. It takes 512 KiB of the stack of the thread that calls it.
         """
         # a node has up to eight records
-        file = (ctypes.c_uint8 * (FILE_ENDS + RECORD_BYTES * 8 * self.slots))()
+        file = (ctypes.c_uint8 * (FILE_ENDS + self.edition.record_bytes * 8 * self.slots))()
         length = ctypes.c_uint64()
         with self._lock:
             self._accept(self._library.dustmap_write(*_parts(self._pool, 1), *_parts(file, 1), ctypes.byref(length)))
         return memoryview(file)[: length.value].tobytes()
 
     def read(self, file: Union[bytes, bytearray, memoryview]) -> None:
-        """Puts the records of a file in the place of all that is on the map. The map keeps the slots that it has.
+        """Puts the records of a file in the place of all that is on the map. The map keeps the slots that it has, and its edition.
 
-        N slots take every file of up to 2N + 1 records, and none of more than 8N. Refused 10, 3, 4, 11 or 7 where a frame of the file is at
-        fault, for the first one that is; the map is then as it was before.
+        N slots take every file of up to 2N + 1 records, and none of more than 8N. Refused 10, 3, 4, 13, 11 or 7 where a frame of the file is at
+        fault, for the first one that is, 10 too where it is of the other edition; the map is then as it was before.
         """
         if not isinstance(file, (bytes, bytearray, memoryview)):
             raise TypeError(f"file: {type(file).__name__} is not the bytes of a file")
         data = bytes(file)
         with self._lock:
-            self._accept(self._library.dustmap_read(*_parts(self._pool, 1), *_parts(self._work, 1), *_parts(data, 1)))
+            lists = (*_parts(self._pool, 1), *_parts(self._work, 1), *_parts(data, 1))
+            self._accept(self._library.dustmap_read_as(*lists, self.edition, QUADRATIC))
 
     def words(self) -> list[int]:
         """A copy of the pool, word by word."""
@@ -673,15 +733,20 @@ class Map:
         return type(self).of, (self.to_bytes(),)
 
     @property
+    def edition(self) -> Edition:
+        """The edition of the map, which nothing that is asked of it changes."""
+        return Edition(self._pool[0])
+
+    @property
     def slots(self) -> int:
         """How many slots the pool has."""
-        return (len(self._pool) - HEAD_WORDS) // SLOT_WORDS
+        return (len(self._pool) - HEAD_WORDS) // self.edition.slot_words
 
     @property
     def free_slots(self) -> int:
         """How many of them are free: their level is 0."""
         with self._lock:
-            return self._pool[HEAD_WORDS::SLOT_WORDS].count(0)
+            return self._pool[HEAD_WORDS :: self.edition.slot_words].count(0)
 
     @property
     def height(self) -> int:
@@ -690,13 +755,13 @@ class Map:
             return self._pool[2]
 
     def __len__(self) -> int:
-        """How many records are on the map."""
+        """How many records are on the map, in edition 2 those of both owners."""
         with self._lock:
             return self._pool[3]
 
     def __repr__(self) -> str:
-        count = len(self)
-        return f"<Map: {count} record{'s' * (count != 1)}, height {self.height}, {self.free_slots} of {self.slots} slots free>"
+        count, edition = len(self), "" if self.edition is Edition.ONE else f" of edition {self.edition:d}"
+        return f"<Map{edition}: {count} record{'s' * (count != 1)}, height {self.height}, {self.free_slots} of {self.slots} slots free>"
 
 
 def _pool_words(words: Any) -> Sequence[int]:

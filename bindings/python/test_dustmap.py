@@ -27,18 +27,20 @@ ROOT = Path(__file__).resolve().parents[2]
 sys.path.insert(0, str(ROOT / "bindings" / "python"))
 
 import dustmap  # noqa: E402
-from dustmap import Answer, LibraryMissing, Map, Record, Rect, Refused, Request, Room  # noqa: E402
+from dustmap import Answer, Edition, LibraryMissing, Map, Record, Rect, Refused, Request, Room  # noqa: E402
 
 ZONE = (0, 0, 10, 10)
 MOST = 1_000_000_000
 # the functions of dustmap.h
 FUNCTIONS = {f"dustmap_{name}" for name in ("blank", "check", "call", "room", "box", "point", "disc", "write", "read")}
+FUNCTIONS |= {f"dustmap_{name}_as" for name in ("blank", "call", "read")}
 
 # Document 01's table and document 02's refusals, copied from them and not from bindings/numbers.txt, so that a slip there is seen. What refuses a
 # request in document 01's table refuses the call where a file is written or read, or where it is asked whether an insert fits.
 DOCUMENT = {
     0: ("accepted", "as defined"),
     9: ("more than 1,024 requests, or answer list of another length than the request list", "call refused"),
+    13: ("another owner than 1 or 2, of a batch or of a record in a file", "call refused"),
     1: ("pool length wrong, or workspace length differs from the pool's", "call refused"),
     2: ("pool not sound", "call refused"),
     12: (
@@ -117,8 +119,8 @@ class Case(unittest.TestCase):
 
 
 class Examples(Case):
-    """Document 01's own, what dispatch does with doubles, what a planner does with the modes of a search, how a map is carried, and what is asked
-    before an insert."""
+    """Document 01's own, what dispatch does with doubles, what a planner does with the modes of a search, how a map is carried, what is asked
+    before an insert, and how two owners share a map."""
 
     def test_as_a_user_writes_it(self) -> None:
         m = Map(slots=128)
@@ -131,7 +133,7 @@ class Examples(Case):
         self.assertFalse(m.search((11, 0, 20, 10)), "nothing found is an empty sequence")
 
     def test_the_scripts(self) -> None:
-        for name in ("document", "survey", "modes", "carry", "room"):
+        for name in ("document", "survey", "modes", "carry", "room", "neighbour"):
             script = ROOT / "bindings" / "python" / f"{name}.py"
             run = subprocess.run([sys.executable, "-B", script], stdout=subprocess.PIPE, check=True, text=True)
             self.assertEqual(run.stdout, (ROOT / "examples" / f"{name}.lines").read_text())
@@ -252,7 +254,7 @@ class Refusals(Case):
 
     def test_the_words_are_those_of_the_documents(self) -> None:
         self.assertEqual({n: (m.when, m.effect) for n, m in dustmap.NUMBERS.items() if n != -1}, DOCUMENT)
-        self.assertEqual(list(dustmap.NUMBERS), [0, 9, 1, 2, -1, 12, 10, 3, 4, 11, 5, 6, 7, 8], "the order of checks")
+        self.assertEqual(list(dustmap.NUMBERS), [0, 9, 13, 1, 2, -1, 12, 10, 3, 4, 11, 5, 6, 7, 8], "the order of checks")
         for number, meaning in dustmap.NUMBERS.items():
             self.assertEqual(meaning.number, number)
             self.assertEqual(getattr(dustmap, meaning.name.upper().replace(" ", "_")), number)
@@ -272,7 +274,7 @@ class Refusals(Case):
         for place in (0, 1, 2, 3, 7, 8, 9, 8 + 84 + 4, 8 + 84 + 6, 8 + 42 * 11 + 41):
             with self.subTest(place=place):
                 words = m.words()
-                words[place] += 1
+                words[place] += 1 if place else 2  # edition 2 would be measured otherwise
                 self.refused(2, lambda: Map.of(words))
         self.refused(2, lambda: Map.of([3] * 50))
 
@@ -433,9 +435,10 @@ class Rooms(Case):
 
 
 def file_of(records: list[tuple[int, ...]], edition: int = 1, count: Optional[int] = None) -> bytes:
-    """A file as document 02 has it, packed here; with another edition or count where that is said."""
+    """A file as document 02 has it, packed here; with another edition or count where that is said. A record of six words has an owner."""
     head = struct.pack("<HHii", 10, 16, edition, len(records) if count is None else count)
-    return head + b"".join(struct.pack("<HH5i", 22, 17, *record) for record in records) + struct.pack("<HH", 2, 18)
+    frames = (struct.pack(f"<HH{len(r)}i", 2 + 4 * len(r), {5: 17, 6: 19}[len(r)], *r) for r in records)
+    return head + b"".join(frames) + struct.pack("<HH", 2, 18)
 
 
 class Files(Case):
@@ -593,6 +596,206 @@ class Files(Case):
         m, there = row_of(8193, dustmap.MOST_SLOTS), Map(dustmap.MOST_SLOTS)
         there.read(m.write())
         self.assertEqual(there.write(), file_of([(k + 1, 10 * k, 0, 10 * k + 5, 5) for k in range(8193)]))
+
+
+class Owners(Case):
+    """A map of edition 2, which two owners share."""
+
+    def test_as_a_user_writes_it(self) -> None:
+        m = Map(slots=128, edition=2)
+        m.insert(7, ZONE)
+        m.insert(7, ZONE, owner=2)
+        m.update(7, ZONE, (5, 5, 6, 6), owner=2)
+        self.assertEqual((m.records(), m.records(owner=2)), (((7, ZONE),), ((7, (5, 5, 6, 6)),)))
+        m.delete(7, (5, 5, 6, 6), owner=2)
+        self.assertEqual((m.search(ZONE).records, len(m.search(ZONE, owner=2))), (((7, ZONE),), 0))
+        self.assertEqual(repr(m), "<Map of edition 2: 1 record, height 1, 127 of 128 slots free>")
+
+    def test_a_pair_is_held_per_owner(self) -> None:
+        m = Map(3, edition=2)
+        for owner in (1, 2):
+            self.refused(5, lambda: m.delete(7, ZONE, owner=owner))
+            self.refused(5, lambda: m.update(7, ZONE, ZONE, owner=owner))
+            m.insert(7, ZONE, owner=owner)
+            self.refused(6, lambda: m.insert(7, ZONE, owner=owner))
+        self.assertEqual(len(m), 2, "the records of both")
+
+    def test_searches_of_every_mode(self) -> None:
+        m = Map(12, edition=2)
+        for number, (_, rect, _) in enumerate(ZONES, 1):
+            m.insert(number, rect, owner=1 + number % 2)
+        for owner in (1, 2):
+            searches = {"meeting": m.search, "inside": m.search_inside, "enclosing": m.search_enclosing}
+            for mode, search in searches.items():
+                due = [n for n, (_, _, modes) in enumerate(ZONES, 1) if mode in modes.split() and 1 + n % 2 == owner]
+                found = search(BLOCK, owner=owner)
+                self.assertEqual(([r.number for r in found], found.opened), (due, 0), "opened is reported as 0")
+                refusal = self.refused(8, lambda: search(BLOCK, places=len(due) - 1, owner=owner))
+                self.assertEqual((refusal.found, refusal.opened), (len(due), 0), "beside 8 too")
+
+    def test_a_found_list_that_grows(self) -> None:
+        m = Map(128, edition=2)
+        for owner in (2, 1):
+            answers = m.batch([Request.insert(k, (k, owner, k, owner)) for k in range(1, 201)] + [Request.search(dustmap.WHOLE_SITE)], owner=owner)
+            self.assertEqual([a.number for a in answers], [0] * 201)
+            self.assertEqual([r.number for r in answers[-1].records], list(range(1, 201)))
+        self.assertEqual(len(m), 400)
+
+    def test_edition_1_serves_both_alike(self) -> None:
+        m = Map(12)
+        m.batch(nine(), owner=2)
+        self.refused(6, lambda: m.insert(1, (0, 0, 10, 10)))
+        self.assertEqual(m.records(owner=2), m.records(owner=1))
+        self.assertEqual(m.search((60, 0, 60, 0), owner=2).opened, 3, "and opened is reported")
+        m.delete(9, (1000, 0, 1010, 10), owner=1)
+        self.assertEqual(len(m.records(owner=2)), 8)
+
+    def test_13_bad_owner(self) -> None:
+        for edition in Edition:
+            m = Map(3, edition=edition)
+            m.insert(7, ZONE)
+            before = m.words()
+            for owner in (0, 3, -1, 2**31 - 1, -(2**31)):
+                asks: list[Callable[..., Any]] = [lambda **o: m.insert(8, ZONE, **o), lambda **o: m.delete(7, ZONE, **o), m.records]
+                asks += [lambda **o: m.update(7, ZONE, BLOCK, **o), lambda **o: m.batch([], **o), lambda **o: m.batch([Request(9, 1, BLOCK)], **o)]
+                asks += [lambda search=search, **o: search(ZONE, **o) for search in (m.search, m.search_inside, m.search_enclosing)]
+                for ask in asks:
+                    self.assertIsNone(self.refused(13, lambda: ask(owner=owner)).request, "the call is refused")
+                self.refused(9, lambda: m.batch([Request.insert(8, ZONE)] * 1025, owner=owner))
+            self.assertEqual(m.words(), before)
+
+    def test_what_is_no_owner_or_edition(self) -> None:
+        m = Map(3, edition=2)
+        for wrong, error in ((None, TypeError), ("2", TypeError), (2.0, TypeError), (True, TypeError), (2**31, ValueError), (2**32 + 1, ValueError)):
+            self.assertRaisesRegex(error, "^owner: ", lambda: m.insert(7, ZONE, owner=wrong))
+            self.assertRaisesRegex(error, "^edition: ", lambda: Map(3, edition=wrong))
+        for number in (0, 3, -1):
+            self.assertRaisesRegex(ValueError, f"^edition: {number} is none of 1, 2$", lambda: Map(3, edition=number))
+        self.assertRaises(TypeError, lambda: m.insert(7, ZONE, 2))  # an owner is named, so that no other number is taken for one
+        self.assertEqual(len(m), 0)
+
+    def test_its_words(self) -> None:
+        for slots in (1, 21, 4096):
+            m = Map(slots, edition=2)
+            self.assertEqual((m.edition, m.slots, m.free_slots, len(m.words())), (Edition.TWO, slots, slots - 1, 8 + 50 * slots))
+            self.assertEqual(m.words()[:9], [2, 1, 1, 0, 0, 0, 0, 0, 1])
+        m.insert(7, ZONE, owner=2)
+        self.assertEqual(m.words()[8:16], [1, 1, 0, 0, 10, 10, 7, 2], "the owner is a record's sixth word")
+        for copied in (copy.copy(m), pickle.loads(pickle.dumps(m)), Map.of(m.words()), Map.of(m.to_bytes())):
+            self.assertEqual((copied.words(), copied.records(owner=2), copied.edition), (m.words(), ((7, ZONE),), Edition.TWO))
+        self.assertEqual((Map(3).edition, Map(3, edition=Edition.TWO).edition), (Edition.ONE, Edition.TWO))
+
+    def test_1_and_2_of_words(self) -> None:
+        m = Map(3, edition=2)
+        for request in nine():
+            m.insert(request.number, request.first, owner=1 + request.number % 2)
+        words = m.words()
+        self.refused(1, lambda: Map.of([1, *words[1:]]))
+        self.refused(1, lambda: Map.of(words[:-8]))
+        self.refused(1, lambda: Map.of([2, *Map(3).words()[1:]]))
+        first, unused, inner = 8 + 2 + 5, 8 + 2 + 6 * 7 + 5, 8 + 100 + 2 + 5
+        for place, word in ((first, 0), (first, 3), (first, -1), (unused, 1), (inner, 1), (0, 1)):
+            wrong = [*words[:place], word, *words[place + 1 :]]
+            self.refused(2 if place else 1, lambda: Map.of(wrong))
+
+    def test_the_slots_are_shared(self) -> None:
+        m = Map(1, edition=2)
+        for request in nine()[:8]:
+            self.assertEqual(m.room(request.first), Room(0, 0))
+            m.insert(request.number, request.first, owner=2)
+        self.assertEqual((m.records(), m.room(ZONE)), ((), Room(2, 0)))
+        self.refused(7, lambda: m.insert(9, ZONE))
+        m.delete(8, nine()[7].first, owner=2)
+        m.insert(9, ZONE)
+
+    def test_an_exception_leaves_the_map_as_it_was(self) -> None:
+        m = Map(3, edition=2)
+        before = m.words()
+        with mock.patch.object(Map, "_answer", side_effect=KeyboardInterrupt), self.assertRaises(KeyboardInterrupt):
+            m.insert(7, ZONE, owner=2)
+        self.assertEqual(m.words(), before)
+
+    def test_what_is_told(self) -> None:
+        """The calls themselves, told what there is none of: nothing is written."""
+        library, file = dustmap._library(str(dustmap.library_path())), Map(1, edition=2).write()
+        cases = [(-1, 58, 3, 0), (-1, 58, 2, 99), (-1, 7, 0, 0), (1, 58, 1, 0), (1, 50, 2, 0), (0, 58, 2, 0), (0, 50, 1, 0)]
+        for number, length, edition, rule in cases:
+            pool, work = (ctypes.c_int32 * length)(*[6] * length), (ctypes.c_int32 * length)(*[7] * length)
+            given = library.dustmap_read_as(pool, length, work, length, file, len(file), edition, rule)
+            self.assertEqual(given, 10 if number == 0 and edition == 1 else number)
+            if number:
+                self.assertEqual((set(pool), set(work)), ({6}, {7}))
+            self.assertEqual(library.dustmap_blank_as(pool, length, edition, rule), number)
+            self.assertEqual(list(pool), [6] * length if number else Map(1, edition=edition).words())
+        pool, work = ((ctypes.c_int32 * 58)(*Map(1, edition=2).words()) for _ in range(2))
+        for number, owner in ((13, 0), (13, 3), (0, 1), (0, 2)):
+            self.assertEqual(library.dustmap_call_as(pool, 58, work, 58, b"", 0, b"", 0, b"", 0, owner), number)
+
+
+class OwnersFiles(Case):
+    """Files of edition 2: "kind 19 (owner, then as 17), ordered by owner first"."""
+
+    RECORDS = [(1, 2, 5, 5, 6, 6), (1, 9, *ZONE), (2, 1, *ZONE), (2, 2, -5, 0, 9, 0), (2, 2, 5, 5, 6, 6), (2, 2**31 - 1, -MOST, -MOST, MOST, MOST)]
+
+    def shared(self, slots: int = 12) -> Map:
+        """The records, inserted in another order than that of the file."""
+        m = Map(slots, edition=2)
+        for owner, number, *rect in reversed(self.RECORDS):
+            m.insert(number, rect, owner=owner)
+        return m
+
+    def refused_file(self, number: int, file: bytes, slots: int = 12) -> None:
+        """That the file is refused with that number, and leaves the map as it was."""
+        m = self.shared() if slots == 12 else Map(slots, edition=2)
+        before = m.words()
+        self.assertIsNone(self.refused(number, lambda: m.read(file)).request)
+        self.assertEqual((m.words(), list(m._work)), (before, before), "a refused read leaves the pool, and its workspace equal to it")
+
+    def test_there_and_back(self) -> None:
+        m = self.shared()
+        file = m.write()
+        self.assertEqual(file, file_of(self.RECORDS, edition=2))
+        self.assertEqual(Map(1, edition=2).write(), bytes.fromhex("0a0010000200000000000000" + "02001200"))
+        for slots in (3, 12, 700):
+            there = Map(slots, edition=2)
+            there.insert(77, ZONE, owner=2)
+            there.read(file)
+            self.assertEqual((there.records(), there.records(owner=2)), (m.records(), m.records(owner=2)))
+            self.assertEqual((there.write(), there.slots, list(there._work)), (file, slots, there.words()))
+        one_by_one = Map(12, edition=2)
+        for owner, number, *rect in self.RECORDS:
+            one_by_one.insert(number, rect, owner=owner)
+        m.read(file)
+        self.assertEqual(m.words(), one_by_one.words(), "a read inserts in file order, each for its owner")
+
+    def test_10_of_another_edition(self) -> None:
+        plain = [record[1:] for record in self.RECORDS[:2]]
+        for file in (file_of(plain), file_of([]), file_of(plain, edition=2), file_of(self.RECORDS), file_of(self.RECORDS, edition=3)):
+            self.refused_file(10, file)
+        for file in (file_of(self.RECORDS, edition=2), file_of([], edition=2), file_of(self.RECORDS)):
+            self.refused(10, lambda file=file: Map(12).read(file))
+
+    def test_10_cut_at_every_byte(self) -> None:
+        file = file_of(self.RECORDS, edition=2)
+        for length in range(len(file)):
+            self.refused_file(10, file[:length])
+        self.refused_file(10, file + b"\0")
+
+    def test_3_4_13_and_11_of_a_record(self) -> None:
+        good = (1, 7, *ZONE)
+        wrong = [(3, (3, 0, 1, 0, 0, 0)), (4, (3, 0, *ZONE)), (13, (0, 7, *ZONE)), (13, (3, 8, *ZONE)), (13, (-(2**31), 8, *ZONE))]
+        wrong += [(11, good), (11, (1, 6, *ZONE)), (11, (1, 7, 0, 0, 10, 9))]
+        for number, record in wrong:
+            with self.subTest(record):
+                self.refused_file(number, file_of([good, record, (2, 9, *ZONE)], edition=2))
+        self.refused_file(11, file_of([(2, 7, *ZONE), (1, 9, *ZONE)], edition=2))
+        Map(1, edition=2).read(file_of([(1, 9, *ZONE), (2, 7, *ZONE)], edition=2))
+
+    def test_7_no_slot(self) -> None:
+        nine_of_two = [(1 + k // 5, k, *ZONE) for k in range(1, 10)]
+        self.refused_file(7, file_of(nine_of_two, edition=2)[:-1], slots=1)
+        self.refused_file(13, file_of([*nine_of_two[:8], (3, 9, *ZONE)], edition=2), slots=1)
+        Map(4, edition=2).read(file_of(nine_of_two, edition=2))
 
 
 NO_NUMBERS = (math.nan, math.inf, -math.inf)
@@ -1006,24 +1209,45 @@ class Histories(Case):
         number = due or (0 if room.fits else 7)
         return number, room.free if number else room.free - room.needed
 
-    def one(self, m: Map, model: Model, request: Request) -> Answer:
-        """One request of both, compared; its answer."""
+    def one(self, m: Map, model: Model, request: Request, owner: int = 1, beside: int = 0) -> Answer:
+        """One request of both, compared; its answer. The model is that of the owner, and the other one has so many records beside it."""
         due = model.refusal(request)
         due, left = self.told(m, request, due) if request.kind == dustmap.INSERT else (due, None)
-        answer = m.batch([request])[0]
+        answer = m.batch([request], owner=owner)[0]
         no_slot = due == 0 and request.kind in (dustmap.DELETE, dustmap.UPDATE) and answer.number == 7
         self.assertEqual(answer.number, 7 if no_slot else due, request)
         if left is not None:
             self.assertEqual(m.free_slots, left, request)
         if request.kind in dustmap.SEARCHES and due == 0:
             self.assertEqual(answer.records, model.found(request), request)
-            self.assertEqual((answer.found, answer.opened), (len(answer.records), opened(m.words(), request.first)), request)
+            due_opened = opened(m.words(), request.first) if m.edition is Edition.ONE else 0
+            self.assertEqual((answer.found, answer.opened), (len(answer.records), due_opened), request)
         else:
             self.assertEqual((answer.found, answer.opened, answer.records), (0, 0, ()), request)
         if answer.accepted:
             model.do(request)
-        self.assertEqual(len(m), len(model.pairs), request)
+        self.assertEqual(len(m), len(model.pairs) + beside, request)
         return answer
+
+    def shared(self, seed: int, slots: int, wide: int, count: int) -> set[tuple[int, ...]]:
+        """Requests of two owners on one map, each compared with that owner's model alone; often of a pair that the other one holds.
+
+        Gives the kinds with the answers met, and again where the other one held the pair.
+        """
+        m, models, coin, met = Map(slots, edition=2), {1: Model(), 2: Model()}, random.Random(seed), set()
+        dice = [Dice(seed + owner, model, wide) for owner, model in models.items()]
+        for _ in range(count):
+            owner, request = coin.choice([1, 2]), coin.choice(dice).draw()
+            other = models[3 - owner]
+            both = request.kind not in dustmap.SEARCHES and Record(request.number, request.first) in other.pairs
+            answer = self.one(m, models[owner], request, owner, len(other.pairs))
+            met |= {(request.kind, answer.number), (request.kind, answer.number, int(both))}
+        file = file_of([(owner, p.number, *p.rect) for owner in (1, 2) for p in sorted(models[owner].pairs)], edition=2)
+        self.assertEqual(m.write(), file)
+        there = Map(len(m) // 2 or 1, edition=2)
+        there.read(file)
+        self.assertEqual((there.records(), there.records(owner=2), there.write()), (m.records(), m.records(owner=2), file))
+        return met
 
     def in_batches(self, slots: int, requests: list[Request], answers: list[Answer], left: list[int]) -> None:
         """The same answers and the same pool come of batches of all sizes."""
@@ -1045,6 +1269,12 @@ class Histories(Case):
     def test_with_few_slots(self) -> None:
         met = self.history(2, 12, 60, 3000) | self.history(3, 1, 20, 500) | self.history(4, 40, 1000, 3000)
         self.assertLessEqual({(1, 7), (3, 7)}, met, "a history that never ran out of slots")
+
+    def test_of_two_owners(self) -> None:
+        met = self.shared(5, 1000, 200, 3000) | self.shared(6, 12, 60, 2000)
+        wanted = {(1, 0), (1, 3), (1, 4), (1, 6), (1, 7), (2, 0), (2, 3), (2, 5), (3, 0), (3, 3), (3, 5), (3, 6), (4, 0), (5, 0), (6, 0)}
+        wanted |= {(1, 0, 1), (2, 5, 1), (3, 5, 1), (2, 0, 0), (1, 6, 0)}  # inserted beside the other's pair; the other's is not deleted, nor updated
+        self.assertLessEqual(wanted, met, "a history that did not meet every answer")
 
 
 class Count(unittest.TextTestResult):

@@ -1,15 +1,18 @@
 //! "Carry the map between offices": a file written and a file read, each call made to the proved library and to the second program, over lists
-//! that were the same before.
+//! that were the same before. Of either edition: what is read as edition 1 goes through the call that is told nothing.
 
 use crate::both::first_place;
 use crate::carry_met;
+use crate::margin::Among;
 use crate::seen::Seen;
 use crate::spoil::garbage_words;
 use crate::tally::Tally;
 use second::dice::Dice;
+use second::edition::told;
 use second::files::{line, Case};
 use second::files_kept::pool_holding;
-use second::script::blank_pool;
+use second::pool::blank_pool_of;
+use second::Edition;
 
 /// A difference is shown with its case, as a line for `second carry`, where that is no longer than this.
 const LONGEST_SHOWN: usize = 3_000;
@@ -33,6 +36,16 @@ mod exported {
             file: *const u8,
             file_len: usize,
         ) -> i32;
+        pub fn dustmap_read_as(
+            pool: *mut i32,
+            pool_len: usize,
+            work: *mut i32,
+            work_len: usize,
+            file: *const u8,
+            file_len: usize,
+            edition: i32,
+            rule: i32,
+        ) -> i32;
     }
 }
 
@@ -50,14 +63,23 @@ pub struct Read {
     pub work: Vec<i32>,
 }
 
-/// Calls in progress.
+/// Calls in progress, between offices whose pools are of an edition.
 pub struct Carrying<'a> {
+    pub edition: Edition,
     pub dice: &'a mut Dice,
     pub tally: &'a mut Tally,
     pub seen: &'a mut Seen,
 }
 
-impl Carrying<'_> {
+/// The edition and the rule that a reader is told, by their numbers, which may be any.
+pub type Told = (i32, i32);
+
+impl<'a> Carrying<'a> {
+    /// Between pools of edition 1.
+    pub fn new(dice: &'a mut Dice, tally: &'a mut Tally, seen: &'a mut Seen) -> Carrying<'a> {
+        Carrying { edition: Edition::One, dice, tally, seen }
+    }
+
     /// Lends the same pool and buffer to both writers. What comes back is what the second program left.
     pub fn write(&mut self, what: &str, pool: &[i32], buffer: Vec<u8>) -> Written {
         let ours = library_write(pool, &buffer);
@@ -72,13 +94,47 @@ impl Carrying<'_> {
 
     /// The same for both readers.
     pub fn read(&mut self, what: &str, pool: Vec<i32>, work: Vec<i32>, file: &[u8]) -> Read {
-        let ours = library_read(&pool, &work, file);
+        match self.edition {
+            Edition::One => self.read_by(what, pool, work, file, None),
+            Edition::Two => self.read_by(what, pool, work, file, Some((2, 0))),
+        }
+    }
+
+    /// The same for both readers that are told an edition and a rule, or nothing.
+    pub fn read_by(
+        &mut self,
+        what: &str,
+        pool: Vec<i32>,
+        work: Vec<i32>,
+        file: &[u8],
+        told: Option<Told>,
+    ) -> Read {
+        let ours = library_read(&pool, &work, file, told);
         let mut theirs = Read { number: 0, pool: pool.clone(), work: work.clone() };
-        theirs.number = second::read(&mut theirs.pool, &mut theirs.work, file);
+        let (left, scratch) = (&mut theirs.pool, &mut theirs.work);
+        theirs.number = match told {
+            None => second::read(left, scratch, file),
+            Some((edition, rule)) => second::read_as(left, scratch, file, edition, rule),
+        };
         let fault = ours.map_or_else(Some, |ours| read_difference(&ours, &theirs));
-        carry_met::read(&pool, &work, file, &theirs, self.seen);
-        self.hold(what, fault, || Case::Read { pool, work, file: file.to_vec() });
+        carry_met::read(edition_of(told), &pool, &work, file, &theirs, self.seen);
+        let file = file.to_vec();
+        self.hold(what, fault, || match told {
+            None => Case::Read { pool, work, file },
+            Some((edition, rule)) => Case::ReadAs { pool, work, file, edition, rule },
+        });
         theirs
+    }
+
+    /// A case of the second program.
+    pub fn case(&mut self, what: &str, case: Case) {
+        match case {
+            Case::Write { pool, buffer } => drop(self.write(what, &pool, buffer)),
+            Case::Read { pool, work, file } => drop(self.read_by(what, pool, work, &file, None)),
+            Case::ReadAs { pool, work, file, edition, rule } => {
+                self.read_by(what, pool, work, &file, Some((edition, rule)));
+            }
+        }
     }
 
     /// A read into so many slots, with old content in pool and workspace.
@@ -90,10 +146,12 @@ impl Carrying<'_> {
 
     /// "2 for the writer only": of a pool that is read into only the length counts. It is blank, or a map, or no pool at all.
     fn old_pool(&mut self, slots: usize) -> Vec<i32> {
+        let (edition, record) = (self.edition, [9, 1, 2, 3, 4]);
         match self.dice.below(4) {
-            0 => blank_pool(slots),
-            1 => pool_holding(slots, &[[9, 1, 2, 3, 4]]),
-            _ => garbage_words(self.dice, dustmap::words(slots)),
+            0 => blank_pool_of(edition, slots),
+            1 if edition == Edition::One => pool_holding(slots, &[record]),
+            1 => pool_holding(slots, &[[2, 9, 1, 2, 3, 4]]),
+            _ => garbage_words(self.dice, edition.words(slots)),
         }
     }
 
@@ -114,37 +172,6 @@ impl Carrying<'_> {
     }
 }
 
-/// Items before and after a list that are not lent with it.
-const MARGIN: usize = 8;
-
-/// A list that is lent from the middle of a longer one. What is before it and after it has to stay.
-struct Among<T> {
-    all: Vec<T>,
-    beyond: T,
-}
-
-impl<T: Copy + PartialEq> Among<T> {
-    fn new(list: &[T], beyond: T) -> Among<T> {
-        let margin = [beyond; MARGIN];
-        Among { all: [&margin, list, &margin].concat(), beyond }
-    }
-
-    /// The first of the items that are lent, or where it would be.
-    fn pointer(&mut self) -> *mut T {
-        self.all.as_mut_ptr().wrapping_add(MARGIN)
-    }
-
-    /// The list as it was left.
-    fn left(self, what: &str) -> Result<Vec<T>, String> {
-        let (before, rest) = self.all.split_at(MARGIN);
-        let (list, after) = rest.split_at(rest.len() - MARGIN);
-        if before.iter().chain(after).any(|item| *item != self.beyond) {
-            return Err(format!("wrote beyond the {what}"));
-        }
-        Ok(list.to_vec())
-    }
-}
-
 /// What the library's writer leaves; an error where it wrote what it was not lent.
 fn library_write(pool: &[i32], buffer: &[u8]) -> Result<Written, String> {
     let (mut bytes, mut length) = (Among::new(buffer, 0xA5), Among::new(&[u64::MAX / 3], 77));
@@ -161,19 +188,32 @@ fn library_write(pool: &[i32], buffer: &[u8]) -> Result<Written, String> {
     Ok(Written { number, length: length.left("length")?[0], buffer: bytes.left("buffer")? })
 }
 
-/// What the library's reader leaves.
-fn library_read(pool: &[i32], work: &[i32], file: &[u8]) -> Result<Read, String> {
+/// The edition that the reader goes by; none where there is no such edition or rule.
+fn edition_of(by: Option<Told>) -> Option<Edition> {
+    match by {
+        None => Some(Edition::One),
+        Some((edition, rule)) => told(edition, rule),
+    }
+}
+
+/// What the library's reader leaves: the one that is told an edition and a rule, or the one that is told nothing.
+fn library_read(
+    pool: &[i32],
+    work: &[i32],
+    file: &[u8],
+    told: Option<Told>,
+) -> Result<Read, String> {
     let (mut words, mut scratch) = (Among::new(pool, 0x5A5A), Among::new(work, -0x5A5A));
+    let (pool_at, work_at) = (words.pointer(), scratch.pointer());
+    let (n, m, bytes, k) = (pool.len(), work.len(), file.as_ptr(), file.len());
     // SAFETY: as above.
     let number = unsafe {
-        exported::dustmap_read(
-            words.pointer(),
-            pool.len(),
-            scratch.pointer(),
-            work.len(),
-            file.as_ptr(),
-            file.len(),
-        )
+        match told {
+            None => exported::dustmap_read(pool_at, n, work_at, m, bytes, k),
+            Some((edition, rule)) => {
+                exported::dustmap_read_as(pool_at, n, work_at, m, bytes, k, edition, rule)
+            }
+        }
     };
     Ok(Read { number, pool: words.left("pool")?, work: scratch.left("workspace")? })
 }

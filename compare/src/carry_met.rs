@@ -2,13 +2,19 @@
 
 use crate::carry::{Read, Written};
 use crate::seen::Seen;
-use second::carry::distinct_pairs;
+use second::carry::distinct_records;
 use second::pool::slots_of;
-use second::sound;
+use second::{sound, Edition};
 
 /// A file with no record, and what each record adds.
 pub const LEAST_FILE: usize = 16;
-pub const RECORD_BYTES: usize = 24;
+
+pub fn record_bytes(edition: Edition) -> usize {
+    match edition {
+        Edition::One => 24,
+        Edition::Two => 28,
+    }
+}
 
 /// "1 first, then 2 for the writer only; 8 if its buffer is short"
 const WRITE_NUMBERS: [i32; 4] = [0, 1, 2, 8];
@@ -17,7 +23,7 @@ const WRITE_NUMBERS: [i32; 4] = [0, 1, 2, 8];
 pub const FRAME_REFUSALS: [i32; 5] = [10, 3, 4, 11, 7];
 
 /// Slots of pools that have to be written, and of pools that have to be read into.
-const SIZES: [usize; 14] = [1, 2, 3, 4, 5, 6, 7, 8, 9, 10, 11, 12, 128, 4_096];
+pub const SIZES: [usize; 14] = [1, 2, 3, 4, 5, 6, 7, 8, 9, 10, 11, 12, 128, 4_096];
 
 /// More records than a batch has requests.
 const MANY: usize = 1_024;
@@ -124,10 +130,11 @@ pub fn write(pool: &[i32], buffer: &[u8], left: &Written, seen: &mut Seen) {
         }
         return;
     }
-    let (held, distinct) = (pool[3] as usize, distinct_pairs(pool).len());
-    let (due, room) = (LEAST_FILE + RECORD_BYTES * distinct, buffer.len());
+    let (held, distinct) = (pool[3] as usize, distinct_records(pool).len());
+    let record = record_bytes(Edition::of(pool));
+    let (due, room) = (LEAST_FILE + record * distinct, buffer.len());
     let (written, short, drops) = (number == 0, number == 8, distinct < held);
-    let room_for_all = room >= LEAST_FILE + RECORD_BYTES * held;
+    let room_for_all = room >= LEAST_FILE + record * held;
     seen.note_those([
         ("write 8, no bytes at all", short && room == 0),
         ("write 8, a byte short", short && room + 1 == due),
@@ -140,15 +147,26 @@ pub fn write(pool: &[i32], buffer: &[u8], left: &Written, seen: &mut Seen) {
         ("write that drops a pair, with no room for it", written && drops && !room_for_all),
         ("write that drops a pair, 8", short && drops),
     ]);
-    note_size("write 0", written, pool, seen);
+    note_size("write 0", written, slots_of(pool), seen);
 }
 
-/// Takes in a read.
-pub fn read(pool: &[i32], work: &[i32], file: &[u8], left: &Read, seen: &mut Seen) {
+/// Takes in a read that goes by an edition, or by none that there is.
+pub fn read(
+    edition: Option<Edition>,
+    pool: &[i32],
+    work: &[i32],
+    file: &[u8],
+    left: &Read,
+    seen: &mut Seen,
+) {
     let number = left.number;
     seen.note(format!("read {number}"));
+    let Some(edition) = edition else {
+        return;
+    };
+    let slots = edition.slots_of(pool.len());
     if number == 1 {
-        let pool_fits = slots_of(pool.len()).is_some();
+        let pool_fits = slots.is_some();
         seen.note_those([
             ("read 1 for the pool's length", !pool_fits && work.len() == pool.len()),
             ("read 1 for the workspace's length", pool_fits),
@@ -169,15 +187,15 @@ pub fn read(pool: &[i32], work: &[i32], file: &[u8], left: &Read, seen: &mut See
         ("read of no records", taken && records == 0),
         ("read of more than 1,024 records", taken && records as usize > MANY),
     ]);
-    note_size("read 0", taken, pool, seen);
+    note_size("read 0", taken, slots, seen);
 }
 
-fn note_size(what: &str, accepted: bool, pool: &[i32], seen: &mut Seen) {
-    if let Some(slots) = slots_of(pool.len()).filter(|slots| accepted && SIZES.contains(slots)) {
+fn note_size(what: &str, accepted: bool, slots: Option<usize>, seen: &mut Seen) {
+    if let Some(slots) = slots.filter(|slots| accepted && SIZES.contains(slots)) {
         seen.note(of_size(what, slots));
     }
 }
 
-fn of_size(what: &str, slots: usize) -> String {
+pub fn of_size(what: &str, slots: usize) -> String {
     format!("{what}, slots: {slots}")
 }

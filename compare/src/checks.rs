@@ -17,18 +17,9 @@ use std::time::Instant;
 /// Slots, and how many pools of each sort.
 const PLAN: [(usize, usize); 6] = [(1, 150), (2, 150), (3, 150), (12, 150), (128, 40), (4096, 2)];
 
-/// What the second program says about a pool: 1, 2 or 0.
-fn expected(pool: &[i32]) -> i32 {
-    match second::pool::slots_of(pool.len()) {
-        None => 1,
-        Some(_) if second::sound(pool) => 0,
-        Some(_) => 2,
-    }
-}
-
 /// Asks both programs whether a pool is sound.
-fn ask(what: &str, pool: &[i32], tally: &mut Tally, seen: &mut Seen) {
-    let (ours, theirs) = (dustmap::check(pool), expected(pool));
+pub fn ask(what: &str, pool: &[i32], tally: &mut Tally, seen: &mut Seen) {
+    let (ours, theirs) = (dustmap::check(pool), second::check(pool));
     tally.hold(ours == theirs, || {
         format!("{what}, {} words: {ours}, and the second program says {theirs}", pool.len())
     });
@@ -52,14 +43,14 @@ pub fn pools(dice: &mut Dice, tally: &mut Tally, seen: &mut Seen) {
         for (what, pool) in pools_of(slots, count, dice) {
             ask(what, &pool, tally, seen);
             seen.note(format!("pool: {what}"));
-            Carrying { dice, tally, seen }.write_any(&format!("a write, {what} pool"), &pool);
+            Carrying::new(dice, tally, seen).write_any(&format!("a write, {what} pool"), &pool);
             call_over(what, pool, dice, tally, seen);
         }
     }
 }
 
 /// Sound, damaged, garbage, hostile pools of one size, and those that are not one tree.
-fn pools_of(slots: usize, count: usize, dice: &mut Dice) -> Vec<(&'static str, Vec<i32>)> {
+pub fn pools_of(slots: usize, count: usize, dice: &mut Dice) -> Vec<(&'static str, Vec<i32>)> {
     let mut pools = Vec::new();
     let most = (slots as i64 * 9).min(3_000);
     for _ in 0..count {

@@ -1,8 +1,9 @@
 //! Pools in which every node looks right by itself, with every cover tight and every record counted, but the nodes are not one tree: parts
 //! that the root does not lead to, and nodes that it leads to twice.
 
+use second::generate::pair_of;
 use second::geometry::Rect;
-use second::pool::{slots_of, Entry, Map, Node, Pointer, RecordNumber, Slot};
+use second::pool::{slots_of, Entry, Map, Node, Owned, Slot};
 
 /// Three records, all the same point, in every leaf that is made here: so every cover of such leaves is that point.
 const POINT: [i32; 4] = [7, 7, 7, 7];
@@ -22,7 +23,7 @@ pub fn all(sound: &[i32]) -> Vec<(&'static str, Vec<i32>)> {
     ];
     let made = |(name, make): (&'static str, Maker)| {
         let mut map = Map::read(sound);
-        let free = free_slots(&map, slots_of(sound.len())?);
+        let free = free_slots(&map, slots_of(sound)?);
         make(&mut map, &free)?;
         let mut pool = sound.to_vec();
         map.write(&mut pool);
@@ -39,12 +40,11 @@ fn free_slots(map: &Map, slots: usize) -> Vec<Slot> {
 }
 
 fn entry(child: Slot) -> Entry {
-    Entry { rect: Rect::from_words(POINT), pointer: Pointer::Child(child) }
+    Entry::over(child, Rect::from_words(POINT))
 }
 
 fn leaf(map: &mut Map, slot: Slot) -> Option<()> {
-    let record =
-        |k| Entry { rect: Rect::from_words(POINT), pointer: Pointer::Record(RecordNumber(k)) };
+    let record = |k| Entry::of(&Owned { owner: None, pair: pair_of(k as i32, POINT) });
     *map.node_mut(slot) = Node { level: 1, entries: (1..=RECORDS).map(record).collect() };
     map.records += RECORDS;
     Some(())

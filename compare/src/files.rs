@@ -7,11 +7,13 @@ use crate::spoil::{garbage_bytes, garbage_word};
 use second::dice::Dice;
 use second::files::Case;
 use second::files_drawn::drawn;
-use second::files_kept::{bytes_of, file, frames_of, kept, row, Apart, Record, IN_ORDER};
-use second::generate::pair_of;
+use second::files_kept::{
+    bytes_of, file, frames_of, kept, record_of, row, Apart, Record, IN_ORDER,
+};
 use second::pool::Map;
 use second::script::blank_pool;
 use second::style::STYLES;
+use second::Edition;
 use std::collections::BTreeSet;
 
 /// In a round: cases that the second program draws, files of any bytes, files of any frames, and ways to make each set of faults in one frame.
@@ -56,7 +58,7 @@ pub fn all(office: &mut Carrying) {
 
 impl Carrying<'_> {
     /// Reads a file that is refused, or not, with the number that is due.
-    fn due(&mut self, what: &str, due: i32, slots: usize, file: &[u8]) {
+    pub fn due(&mut self, what: &str, due: i32, slots: usize, file: &[u8]) {
         let number = self.read_into(what, slots, file).number;
         self.tally.hold(number == due, || format!("{what}: {number}, and {due} is due"));
         self.seen.note(what);
@@ -65,13 +67,8 @@ impl Carrying<'_> {
 
 /// The list of the second program, and what it draws.
 fn listed(office: &mut Carrying) {
-    let drawn: Vec<Case> = (0..DRAWN).map(|_| drawn(office.dice)).collect();
-    for case in kept().into_iter().chain(drawn) {
-        match case {
-            Case::Write { pool, buffer } => drop(office.write("listed", &pool, buffer)),
-            Case::Read { pool, work, file } => drop(office.read("listed", pool, work, &file)),
-        }
-    }
+    let drawn: Vec<Case> = (0..DRAWN).map(|_| drawn(Edition::One, office.dice)).collect();
+    kept().into_iter().chain(drawn).for_each(|case| office.case("listed", case));
 }
 
 /// A small file with a byte wrong, at every place in every way; and one of twelve records, cut everywhere, of which the slot takes eight.
@@ -130,7 +127,8 @@ fn frames(office: &mut Carrying) {
         office.due("file with every frame twice", due, 1, &bytes_of(&twice));
     }
     let whole = bytes_of(&right);
-    let after = [vec![0], vec![255; 3], file(&[])[12..].to_vec(), whole.clone(), vec![0; 1_000]];
+    let after =
+        [vec![0], vec![255; 3], file(&row(0))[12..].to_vec(), whole.clone(), vec![0; 1_000]];
     for after in after {
         office.due("file with bytes after the end", 10, 1, &[&whole[..], &after].concat());
     }
@@ -175,7 +173,7 @@ fn one_frame(office: &mut Carrying) {
             let number = due.first().copied().unwrap_or(0);
             for _ in 0..WAYS {
                 let mut file = after_row(before, vec![faulty(office.dice, &faults)]);
-                maybe_cut(office.dice, &faults, before, &mut file);
+                maybe_cut(office.dice, &faults, 12 + 24 * before as usize, 24, &mut file);
                 office.due("file with faults in one frame", number, slots, &file);
                 let later = due.iter().skip(1).map(|&other| in_one_frame(number, other));
                 later.for_each(|what| office.seen.note(what));
@@ -202,7 +200,7 @@ fn two_frames(office: &mut Carrying) {
                 let slots = if first == 7 { 1 } else { office.dice.pick(&[1, 3]) };
                 let frames = [first, other].map(|fault| faulty(office.dice, &[fault]));
                 let mut file = after_row(8, frames.to_vec());
-                maybe_cut(office.dice, &[other], 9, &mut file);
+                maybe_cut(office.dice, &[other], 12 + 24 * 9, 24, &mut file);
                 office.due(&in_two_frames(first, other), first, slots, &file);
             }
         }
@@ -244,7 +242,7 @@ fn faulty(dice: &mut Dice, faults: &[i32]) -> Apart {
 }
 
 /// A low above its high, or a side beyond the site.
-fn spoil_rectangle(dice: &mut Dice, record: &mut Record) {
+pub fn spoil_rectangle(dice: &mut Dice, record: &mut Record) {
     let axis = 1 + dice.below(2) as usize;
     let beyond = 1_000_000_001;
     match dice.below(5) {
@@ -257,18 +255,19 @@ fn spoil_rectangle(dice: &mut Dice, record: &mut Record) {
 }
 
 /// Another kind, or a word too many or too few.
-fn spoil_frame(dice: &mut Dice, (kind, words): &mut Apart) {
+pub fn spoil_frame(dice: &mut Dice, (kind, words): &mut Apart) {
+    let other = if *kind == 17 { 19 } else { 17 };
     match dice.below(4) {
         0 => words.push(garbage_word(dice)),
         1 => words.truncate(4),
-        _ => *kind = dice.pick(&[0, 1, 16, 18, 19, 273, 4_352]),
+        _ => *kind = dice.pick(&[0, 1, 16, 18, other, 273, 4_352]),
     }
 }
 
-/// Where 10 is among the faults of the frame after so many records, the file sometimes ends in that frame.
-fn maybe_cut(dice: &mut Dice, faults: &[i32], before: i32, file: &mut Vec<u8>) {
+/// Where 10 is among the faults of the frame that starts at a byte and has so many, the file sometimes ends in that frame.
+pub fn maybe_cut(dice: &mut Dice, faults: &[i32], start: usize, bytes: usize, file: &mut Vec<u8>) {
     if faults.contains(&10) && dice.chance(30) {
-        file.truncate(12 + 24 * before as usize + dice.below(24) as usize);
+        file.truncate(start + dice.below(bytes as u64) as usize);
     }
 }
 
@@ -299,7 +298,7 @@ fn filled(slots: usize, office: &mut Carrying) {
 /// The place of the first record for which there is no slot.
 fn first_refused(slots: usize, records: &[Record]) -> usize {
     let mut map = Map::read(&blank_pool(slots));
-    let refused = |[number, rect @ ..]: &Record| map.insert(&pair_of(*number, *rect)).is_err();
+    let refused = |record: &Record| map.insert(&record_of(record)).is_err();
     records.iter().position(refused).expect("more than so many slots have room for")
 }
 

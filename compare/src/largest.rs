@@ -7,7 +7,7 @@ use crate::spoil::{garbage_answers, garbage_found, garbage_words};
 use crate::tally::Tally;
 use dustmap::{Answer, Found, Rect, Request};
 use second::dice::Dice;
-use second::pool::{pairs_in_leaves, slot_start, Slot};
+use second::pool::{entries, pairs_in_leaves, slot_words, Slot};
 use second::style::{whole_site, window_within, Style};
 use std::time::Instant;
 
@@ -146,13 +146,12 @@ fn sorted_copy(unsorted: &[Found], sorted: &mut Vec<Found>) -> f64 {
 
 /// The records below a slot, in stored order: the order in which a search meets them.
 fn walk(pool: &[i32], slot: usize, records: &mut Vec<Found>) {
-    let node = &pool[slot_start(Slot(slot))..];
-    for entry in node[2..].chunks_exact(5).take(node[1] as usize) {
-        if node[0] == 1 {
-            let rect = Rect::from_words([entry[0], entry[1], entry[2], entry[3]]);
-            records.push(Found { number: entry[4], rect });
+    let level = slot_words(pool, Slot(slot))[0];
+    for entry in entries(pool, Slot(slot)) {
+        if level == 1 {
+            records.push(Found { number: entry.pointer, rect: Rect::from_words(entry.rect) });
         } else {
-            walk(pool, entry[4] as usize, records);
+            walk(pool, entry.pointer as usize, records);
         }
     }
 }

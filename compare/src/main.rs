@@ -11,10 +11,20 @@ mod checks;
 mod detached;
 mod files;
 mod histories;
+mod history;
 mod largest;
 mod lent;
+mod margin;
 mod modes;
 mod offices;
+mod owners;
+mod owners_apart;
+mod owners_blank;
+mod owners_calls;
+mod owners_files;
+mod owners_met;
+mod owners_pools;
+mod owners_rooms;
 mod pools;
 mod roads;
 mod room;
@@ -73,16 +83,18 @@ fn compare(full: &[i32], seed: u64, rounds: u64, tally: &mut Tally) {
         twice::all(&mut dice, tally, &mut seen);
         sizes::all(&mut dice, tally, &mut seen);
         survey::all(seed.wrapping_add(round), tally, &mut seen);
-        let mut office = Carrying { dice: &mut dice, tally, seen: &mut seen };
+        let mut office = Carrying::new(&mut dice, tally, &mut seen);
         offices::all(&mut office);
         files::all(&mut office);
         room::all(seed.wrapping_add(round), tally, &mut seen);
+        owners::all(seed.wrapping_add(round), tally, &mut seen);
     }
     for round in 0..rounds {
         largest::calls(full, &mut dice, tally, &mut seen);
-        let mut office = Carrying { dice: &mut dice, tally, seen: &mut seen };
+        let mut office = Carrying::new(&mut dice, tally, &mut seen);
         offices::largest(full, &mut office);
         room::largest(full, seed.wrapping_add(round), tally, &mut seen);
+        owners::largest(full, &mut dice, tally, &mut seen);
     }
     seen.report(tally);
 }

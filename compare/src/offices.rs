@@ -2,14 +2,15 @@
 //! be lent to a writer and a reader.
 
 use crate::carry::Carrying;
-use crate::carry_met::{LEAST_FILE, RECORD_BYTES};
+use crate::carry_met::{record_bytes, LEAST_FILE};
 use crate::spoil::{garbage_bytes, garbage_words};
 use dustmap::words;
-use second::carry::{distinct_pairs, words_of};
-use second::files_kept::{file, pool_holding, row, Record, IN_ORDER};
-use second::generate::pair_of;
-use second::pool::{slots_of, Entry, Map, Node, Pointer, Slot, HEAD_WORDS, MOST_SLOTS, SLOT_WORDS};
+use second::carry::{distinct_records, words_of};
+use second::edition::MOST_SLOTS;
+use second::files_kept::{file, pool_holding, record_of, row, Record, IN_ORDER};
+use second::pool::{each_slot, slots_of, Entry, Map, Node, Slot};
 use second::script::blank_pool;
+use second::Edition;
 
 /// Leaves of the pools that are as full as can be: eight entries in every node, or seven in the root. The last has 4,096 slots.
 const FULL: [usize; 4] = [1, 8, 64, 3_584];
@@ -45,7 +46,7 @@ impl Carrying<'_> {
         let title = format!("{title}, carried");
         self.write_any(&title, pool);
         let file = self.written(&title, pool);
-        let slots = slots_of(pool.len()).expect("a sound pool");
+        let slots = slots_of(pool).expect("a sound pool");
         let needed = self.slots_needed(&title, &file);
         let more = (slots + self.dice.between(1, 6) as usize).min(MOST_SLOTS);
         let mut sizes = vec![needed.saturating_sub(1).max(1), needed, slots, more];
@@ -57,14 +58,14 @@ impl Carrying<'_> {
             self.note_trip(size, slots, needed, taken.is_some());
             pools.extend(taken);
         }
-        if records_in(&file) < pool[3] as usize {
+        if records_in(self.edition, &file) < pool[3] as usize {
             self.seen.note("round trip of a map with a pair held twice");
         }
         pools
     }
 
     /// The file of a sound pool, in a buffer just long enough.
-    fn written(&mut self, title: &str, pool: &[i32]) -> Vec<u8> {
+    pub fn written(&mut self, title: &str, pool: &[i32]) -> Vec<u8> {
         let length = file_length(pool);
         let buffer = garbage_bytes(self.dice, length);
         let left = self.write(title, pool, buffer);
@@ -75,7 +76,7 @@ impl Carrying<'_> {
 
     /// How many slots a file fills. It is read where there are always enough: n records go into N slots where n is at most 2N + 1.
     fn slots_needed(&mut self, title: &str, file: &[u8]) -> usize {
-        let records = records_in(file);
+        let records = records_in(self.edition, file);
         let enough = (records / 2).max(1);
         let left = self.read_into(title, enough, file);
         self.tally.hold(left.number == 0, || {
@@ -84,7 +85,11 @@ impl Carrying<'_> {
         if records == 2 * enough + 1 {
             self.seen.note("read of 2N + 1 records into N slots");
         }
-        left.pool[HEAD_WORDS..].chunks_exact(SLOT_WORDS).filter(|slot| slot[0] != 0).count()
+        // Where the read was refused, which is reported, the pool is the old one, and may be none.
+        match left.number {
+            0 => each_slot(&left.pool).filter(|slot| slot[0] != 0).count(),
+            _ => enough,
+        }
     }
 
     /// The pool that a file leaves where there are so many slots. Inserts free none, so it is refused 7 exactly where it needs more. "Where a
@@ -123,11 +128,11 @@ impl Carrying<'_> {
 
 /// So many bytes has the file of a sound pool.
 fn file_length(pool: &[i32]) -> usize {
-    LEAST_FILE + RECORD_BYTES * distinct_pairs(pool).len()
+    LEAST_FILE + record_bytes(Edition::of(pool)) * distinct_records(pool).len()
 }
 
-fn records_in(file: &[u8]) -> usize {
-    (file.len() - LEAST_FILE) / RECORD_BYTES
+fn records_in(edition: Edition, file: &[u8]) -> usize {
+    (file.len() - LEAST_FILE) / record_bytes(edition)
 }
 
 /// Buffers from no bytes to more than the file has.
@@ -181,7 +186,7 @@ fn full(leaves: usize, office: &mut Carrying) {
         let title = format!("{what}, {leaves} leaves");
         office.tally.hold(second::sound(&pool), || format!("{title}: not sound"));
         let file = office.written(&title, &pool);
-        office.read_into(&title, slots_of(pool.len()).expect("a sound pool"), &file);
+        office.read_into(&title, slots_of(&pool).expect("a sound pool"), &file);
         office.seen.note(what);
     }
 }
@@ -192,7 +197,8 @@ pub fn packed(leaves: usize, record: fn(i32) -> Record) -> Vec<i32> {
     let slots = std::iter::successors(Some(leaves), nodes).sum();
     let mut pool = blank_pool(slots);
     let mut map = Map::read(&pool);
-    let mut entries: Vec<Entry> = (1..=8 * leaves as i32).map(|k| entry(record(k))).collect();
+    let entry = |k: i32| Entry::of(&record_of(&record(k)));
+    let mut entries: Vec<Entry> = (1..=8 * leaves as i32).map(entry).collect();
     map.records = entries.len() as i64;
     map.height = 0;
     map.root = Slot(0);
@@ -204,17 +210,12 @@ pub fn packed(leaves: usize, record: fn(i32) -> Record) -> Vec<i32> {
     pool
 }
 
-fn entry([number, rect @ ..]: Record) -> Entry {
-    let pair = pair_of(number, rect);
-    Entry { rect: pair.rect, pointer: Pointer::Record(pair.number) }
-}
-
 /// A node of the height so far in the next slot, and the entry for it. The last one placed is the root.
 fn placed(map: &mut Map, entries: &[Entry]) -> Entry {
     map.root = Slot(map.root.0 + 1);
     let (slot, level) = (map.root, map.height);
     *map.node_mut(slot) = Node { level, entries: entries.to_vec() };
-    Entry { rect: map.node(slot).cover(), pointer: Pointer::Child(slot) }
+    Entry::over(slot, map.node(slot).cover())
 }
 
 /// The largest pool: its own file, and of that as many records as are always taken, in order and with the last two swapped.
@@ -228,7 +229,8 @@ pub fn largest(full: &[i32], office: &mut Carrying) {
     let whole = office.written(title, full);
     office.read_into(title, MOST_SLOTS, &whole);
     let most = 2 * MOST_SLOTS + 1;
-    let mut part: Vec<Record> = distinct_pairs(full).iter().take(most).map(words_of).collect();
+    let records = distinct_records(full);
+    let mut part: Vec<Record> = records.iter().take(most).map(|r| words_of(&r.pair)).collect();
     office.arrives(title, MOST_SLOTS, 1, &file(&part));
     part.swap(most - 2, most - 1);
     let number = office.read_into(title, MOST_SLOTS, &file(&part)).number;

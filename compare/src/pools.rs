@@ -2,11 +2,12 @@
 
 use second::dice::Dice;
 use second::generate::history;
-use second::pool::{slot_start, slots_of, Slot};
+use second::pool::{slots_of, Slot};
 use second::style::STYLES;
+use second::Edition;
 
-const HEAD: usize = 8;
-const SLOT: usize = 42;
+/// The pools made here are of edition 1. `second::neighbours::widened` makes pools of edition 2 of them.
+const OF: Edition = Edition::One;
 const ENTRY: usize = 5;
 
 /// A pool made by a history of requests from blank.
@@ -18,7 +19,7 @@ pub fn sound_pool(dice: &mut Dice, slots: usize, most: i64) -> Vec<i32> {
 
 /// Any words at all, small ones mostly.
 pub fn garbage(dice: &mut Dice, slots: usize) -> Vec<i32> {
-    let mut pool: Vec<i32> = (0..HEAD + SLOT * slots)
+    let mut pool: Vec<i32> = (0..OF.words(slots))
         .map(|_| match dice.below(10) {
             0..=5 => 0,
             6..=8 => dice.between(0, 9) as i32,
@@ -49,10 +50,10 @@ pub fn cycle(slots: usize) -> Vec<i32> {
 
 /// Slot s has level s, up to the top; `child` gives the slot that an entry leads to.
 fn tower(slots: usize, top: usize, child: impl Fn(usize, usize) -> usize) -> Vec<i32> {
-    let mut pool = vec![0; HEAD + SLOT * slots];
+    let mut pool = vec![0; OF.words(slots)];
     pool[..4].copy_from_slice(&[1, top as i32, top as i32, 8]);
     for level in 1..=top {
-        let at = slot_start(Slot(level));
+        let at = OF.slot_start(Slot(level));
         pool[at] = level as i32;
         pool[at + 1] = 8;
         for place in 0..8 {
@@ -66,10 +67,10 @@ fn tower(slots: usize, top: usize, child: impl Fn(usize, usize) -> usize) -> Vec
 
 /// The same pool with its last leaf wrong, so that the fault is met late.
 pub fn wrong_at_the_end(mut pool: Vec<i32>) -> Vec<i32> {
-    let slots = slots_of(pool.len()).expect("a pool of valid length");
-    let leaf = (1..=slots).rev().find(|&s| pool[slot_start(Slot(s))] == 1);
+    let slots = slots_of(&pool).expect("a pool of valid length");
+    let leaf = (1..=slots).rev().find(|&s| pool[OF.slot_start(Slot(s))] == 1);
     if let Some(s) = leaf {
-        pool[slot_start(Slot(s)) + 2] -= 1;
+        pool[OF.slot_start(Slot(s)) + 2] -= 1;
     }
     pool
 }

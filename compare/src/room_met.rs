@@ -86,7 +86,7 @@ pub fn told(pool: &[i32], rect: [i32; 4], told: &Told, seen: &mut Seen) {
         ]);
         return;
     }
-    if let Some(slots) = slots_of(pool.len()).filter(|slots| SIZES.contains(slots)) {
+    if let Some(slots) = slots_of(pool).filter(|slots| SIZES.contains(slots)) {
         seen.note(of_size(slots));
     }
     let held = pairs_in_leaves(pool).iter().any(|pair| pair.rect == rect);

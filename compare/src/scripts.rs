@@ -1,11 +1,13 @@
 //! The worked scripts of the second program, each as one call: what is rare in drawn histories happens here for certain.
 
-use crate::both::lend;
+use crate::both::{lend, lend_as};
 use crate::lent::Lent;
 use crate::seen::Seen;
 use crate::tally::Tally;
-use second::script::parse;
-use second::{Answer, Found};
+use second::edition::OWNERS;
+use second::neighbours::widened;
+use second::script::{parse, Script};
+use second::{Answer, Found, Owner};
 
 const SCRIPTS: [(&str, &str); 13] = [
     ("delete-refused-7", include_str!("../../second/examples/delete-refused-7.script")),
@@ -23,16 +25,36 @@ const SCRIPTS: [(&str, &str); 13] = [
     ("update-refused-7", include_str!("../../second/examples/update-refused-7.script")),
 ];
 
+/// A batch of owner 2 among records of both.
+const OF_BOTH: &str = include_str!("../../second/examples/shared.script");
+
 pub fn all(tally: &mut Tally, seen: &mut Seen) {
     for (name, text) in SCRIPTS {
-        let script = parse(text).expect("a script");
-        let lent = Lent {
-            work: vec![0; script.work.unwrap_or(script.pool.len())],
-            answers: vec![Answer::default(); script.answers.unwrap_or(script.requests.len())],
-            found: vec![Found::default(); script.found],
-            pool: script.pool,
-            requests: script.requests,
-        };
+        let lent = lists(&parse(text).expect("a script"));
         lend(&format!("script {name}"), &lent, tally, seen);
+    }
+}
+
+/// The same scripts in pools of edition 2, by each owner alone; and one of both owners.
+pub fn shared(tally: &mut Tally, seen: &mut Seen) {
+    for (name, text) in SCRIPTS {
+        for owner in OWNERS.map(Owner::number) {
+            let mut lent = lists(&parse(text).expect("a script"));
+            lent.pool = widened(&lent.pool, || owner);
+            lent.work = vec![0; lent.pool.len()];
+            lend_as(&format!("script {name}, shared"), &lent, owner, tally, seen);
+        }
+    }
+    let script = parse(OF_BOTH).expect("a script");
+    lend_as("script shared", &lists(&script), script.owner, tally, seen);
+}
+
+fn lists(script: &Script) -> Lent {
+    Lent {
+        work: vec![0; script.work.unwrap_or(script.pool.len())],
+        answers: vec![Answer::default(); script.answers.unwrap_or(script.requests.len())],
+        found: vec![Found::default(); script.found],
+        pool: script.pool.clone(),
+        requests: script.requests.clone(),
     }
 }

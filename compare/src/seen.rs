@@ -2,18 +2,20 @@
 
 use crate::carry_met;
 use crate::lent::Lent;
+use crate::owners_met;
 use crate::room_met;
 use crate::survey_met::Met;
 use crate::tally::Tally;
 use second::call::{
     DELETE, ENCLOSING, INSERT, INSIDE, MOST_REQUESTS, NO_SUCH_KIND, SEARCH, UPDATE,
 };
+use second::edition::OTHER_OWNER;
 use second::pool::slots_of;
-use second::{sound, Answer, Events, Request};
+use second::{sound, Answer, Events, Owner, Request};
 use std::collections::BTreeMap;
 
 /// The rows of the table that refuse a call, in the order of checks.
-const CALL_REFUSALS: [i32; 4] = [9, 1, 2, NO_SUCH_KIND];
+pub const CALL_REFUSALS: [i32; 5] = [9, OTHER_OWNER, 1, 2, NO_SUCH_KIND];
 
 /// Everything that has to be met, by name.
 const WANTED: [&str; 98] = [
@@ -119,8 +121,11 @@ const WANTED: [&str; 98] = [
 
 #[derive(Default)]
 pub struct Seen {
+    /// Which part of the run it is. It stands before each name that is met there; the first part, edition 1 as it was before there were
+    /// owners, has nothing before its names.
+    part: &'static str,
     counts: BTreeMap<String, u64>,
-    events: Events,
+    events: BTreeMap<&'static str, Events>,
     pub survey: Met,
     requests: u64,
     tallest: i32,
@@ -128,7 +133,24 @@ pub struct Seen {
 
 impl Seen {
     pub fn note(&mut self, what: impl Into<String>) {
-        *self.counts.entry(what.into()).or_default() += 1;
+        *self.counts.entry(self.part.to_string() + &what.into()).or_default() += 1;
+    }
+
+    /// Does a part of the run.
+    pub fn part(&mut self, name: &'static str, run: impl FnOnce(&mut Seen)) {
+        let before = std::mem::replace(&mut self.part, name);
+        run(self);
+        self.part = before;
+    }
+
+    /// How often something was met, by its name with its part before it.
+    fn met(&self, name: &str) -> u64 {
+        self.counts.get(name).copied().unwrap_or(0)
+    }
+
+    /// What the second program noted in the calls of a part.
+    pub fn events_of(&self, part: &str) -> Events {
+        self.events.get(part).cloned().unwrap_or_default()
     }
 
     /// Notes those that are so.
@@ -136,11 +158,11 @@ impl Seen {
         met.into_iter().filter(|(_, so)| *so).for_each(|(what, _)| self.note(what));
     }
 
-    /// Takes in a call: what was lent, what came back, what the second program noted on its way.
-    pub fn call(&mut self, lent: &Lent, number: i32, left: &Lent, events: &Events) {
-        self.events.add(events);
+    /// Takes in a call of an owner: what was lent, what came back, what the second program noted on its way.
+    pub fn call(&mut self, lent: &Lent, owner: i32, number: i32, left: &Lent, events: &Events) {
+        self.events.entry(self.part).or_default().add(events);
         self.note(format!("call returned {number}"));
-        self.order_of_checks(lent, number);
+        self.order_of_checks(lent, owner, number);
         self.unknown_kinds(lent, number);
         self.batch(lent.requests.len(), number);
         if number != 0 {
@@ -155,11 +177,11 @@ impl Seen {
     }
 
     /// Which other refusals would have been due, had the first check not come first.
-    fn order_of_checks(&mut self, lent: &Lent, number: i32) {
+    fn order_of_checks(&mut self, lent: &Lent, owner: i32, number: i32) {
         let Some(place) = CALL_REFUSALS.iter().position(|&n| n == number) else {
             return;
         };
-        for &later in CALL_REFUSALS[place + 1..].iter().filter(|&&n| due(n, lent)) {
+        for &later in CALL_REFUSALS[place + 1..].iter().filter(|&&n| due(n, lent, owner)) {
             self.note(format!("{number} where {later} was due too"));
         }
     }
@@ -191,7 +213,7 @@ impl Seen {
         if lent.work != lent.pool {
             self.note("workspace unlike the pool");
         }
-        match slots_of(lent.pool.len()) {
+        match slots_of(&lent.pool) {
             Some(1) => self.note("pool of 1 slot"),
             Some(2..=12) => self.note("pool of 2 to 12 slots"),
             Some(128) => self.note("pool of 128 slots"),
@@ -232,11 +254,12 @@ impl Seen {
     /// Prints what was met; each thing wanted that was not met is a failure.
     pub fn report(&self, tally: &mut Tally) {
         println!("{} requests done, the tallest tree {} levels", self.requests, self.tallest);
-        let met = |name: &str| self.counts.get(name).copied().unwrap_or(0);
-        let all = WANTED.iter().map(|&name| (name, met(name))).chain(self.events.named());
-        let all = all.chain(self.survey.named()).map(|(name, count)| (name.to_string(), count));
+        let all = WANTED.iter().map(|&name| (name, self.met(name)));
+        let all = all.chain(self.events_of("").named()).chain(self.survey.named());
+        let all =
+            all.map(|(name, count)| (name.to_string(), count)).chain(owners_met::events(self));
         let wanted = carry_met::wanted().into_iter().chain(room_met::wanted());
-        let more = wanted.map(|name| (name.clone(), met(&name)));
+        let more = wanted.chain(owners_met::wanted()).map(|name| (name.clone(), self.met(&name)));
         for (name, count) in all.chain(more) {
             println!("  {count:>9}  {}", name.replace('_', " "));
             tally.hold(count > 0, || format!("{name}: not met"));
@@ -257,11 +280,12 @@ pub fn kind_name(request: &Request) -> &'static str {
     }
 }
 
-/// Whether a row of the table that refuses a call is true of what was lent.
-fn due(number: i32, lent: &Lent) -> bool {
-    let valid_length = slots_of(lent.pool.len()).is_some();
+/// Whether a row of the table that refuses a call is true of what was lent, and by whom.
+fn due(number: i32, lent: &Lent, owner: i32) -> bool {
+    let valid_length = slots_of(&lent.pool).is_some();
     match number {
         9 => lent.requests.len() > MOST_REQUESTS || lent.answers.len() != lent.requests.len(),
+        OTHER_OWNER => Owner::numbered(owner).is_none(),
         1 => !valid_length || lent.work.len() != lent.pool.len(),
         2 => valid_length && !sound(&lent.pool),
         _ => lent.requests.iter().any(|r| !(INSERT..=ENCLOSING).contains(&r.kind)),

@@ -3,7 +3,8 @@
 use crate::lent::Lent;
 use second::call::{DELETE, ENCLOSING, INSERT, INSIDE, MOST_REQUESTS, SEARCH, UPDATE};
 use second::dice::Dice;
-use second::{Answer, Found, Request};
+use second::edition::MOST_SLOTS;
+use second::{Answer, Edition, Found, Request};
 
 /// What is no kind of a request: what stands beside the kinds, and what would be one of them with its sign or its upper bits left out.
 const UNKNOWN: [i32; 13] =
@@ -111,22 +112,21 @@ fn too_many(dice: &mut Dice, lent: &mut Lent) {
 }
 
 fn wrong_work(dice: &mut Dice, lent: &mut Lent) {
-    let length = lent.pool.len();
+    let (length, slot) = (lent.pool.len(), Edition::of(&lent.pool).slot_words());
     let other = dice.pick(&[
         length + 1,
         length.saturating_sub(1),
         0,
-        length + 42,
-        length.saturating_sub(42),
+        length + slot,
+        length.saturating_sub(slot),
     ]);
     lent.work = garbage_words(dice, other);
 }
 
 /// The workspace mostly has the pool's length, so that the fault is the pool's alone.
 fn wrong_pool_length(dice: &mut Dice, lent: &mut Lent) {
-    let length = lent.pool.len();
-    let other =
-        dice.pick(&[length + 1, length.saturating_sub(1), 0, 8, 49, length + 21, 8 + 42 * 4_097]);
+    let (length, too_long) = (lent.pool.len(), Edition::of(&lent.pool).words(MOST_SLOTS + 1));
+    let other = dice.pick(&[length + 1, length.saturating_sub(1), 0, 8, 49, length + 21, too_long]);
     lent.pool.resize(other, 0);
     if dice.chance(80) {
         lent.work = garbage_words(dice, other);

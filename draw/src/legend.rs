@@ -2,12 +2,12 @@
 
 use crate::asked::{shortest, Disc};
 use crate::insert::Insert;
-use crate::look::{colour, new_record, EDGE, FOUND, FULL, RECORD};
+use crate::look::{colour, new_record, of_owner, Group, EDGE, FOUND, FULL};
 use crate::shown::Shown;
 use crate::svg::{circle, rect, text, Place};
 use crate::tree::{Node, Tree};
 use crate::window::Searched;
-use dustmap::Rect;
+use dustmap::{Found, Owner, Rect};
 use std::iter::once;
 
 const PLAIN: &str = "font-size=\"13\" fill=\"#333333\"";
@@ -107,15 +107,9 @@ pub fn legend(tree: &Tree, shown: &Shown, x: f64) -> (String, f64) {
         0.0,
     );
     legend.line(&format!("{} of {} slots in use", tree.nodes.len(), tree.slots), PLAIN, 0.0);
-    let record = format!("fill=\"{RECORD}\" fill-opacity=\"0.22\" stroke=\"{RECORD}\"");
-    let words = match shown.window() {
-        Some(s) => {
-            let others = tree.records().len() - s.found.len();
-            format!("{} not found", counted(others, "record", "records"))
-        }
-        None => "the records".to_string(),
-    };
-    legend.switch("records", &record, &words);
+    for group in shown.groups(tree).into_iter().filter(|group| !group.found) {
+        legend.switch(group.layer(), &group.look(), &records_line(tree, shown, group.owner));
+    }
     legend.heading("The nodes");
     for level in (1..=tree.height).rev() {
         let look =
@@ -125,11 +119,33 @@ pub fn legend(tree: &Tree, shown: &Shown, x: f64) -> (String, f64) {
     legend.line("each level is drawn a little wider", SMALL, 0.0);
     match shown {
         Shown::Nothing => (),
-        Shown::Window(searched) => window_lines(&mut legend, searched),
+        Shown::Window(searched) => {
+            window_lines(&mut legend, searched);
+            for owner in tree.owners() {
+                found_lines(&mut legend, searched, *owner);
+            }
+        }
         Shown::Insert(insert) => insert_lines(&mut legend, insert),
     }
     help(&mut legend);
     (legend.out, legend.y)
+}
+
+/// The records of an owner, or all; where there is a window, those that it does not find.
+fn records_line(tree: &Tree, shown: &Shown, owner: Option<Owner>) -> String {
+    match (shown.window(), owner) {
+        (Some(s), _) => {
+            let others = tree.count_of(owner) - s.found_of(owner).len();
+            format!("{} not found", records_of(others, owner))
+        }
+        (None, None) => "the records".to_string(),
+        (None, Some(_)) => records_of(tree.count_of(owner), owner),
+    }
+}
+
+/// As in "3 records of owner 2".
+fn records_of(count: usize, owner: Option<Owner>) -> String {
+    format!("{}{}", counted(count, "record", "records"), of_owner(owner))
 }
 
 /// What one can do with the page; only where the script runs.
@@ -178,15 +194,16 @@ fn window_lines(legend: &mut Legend, shown: &Searched) {
     }
     let words = format!("{} opened", counted(shown.opened.len(), "node", "nodes"));
     legend.sample(&legend.boxed(&marked(colour(1))), &words);
-    let found = format!("fill=\"{FOUND}\" fill-opacity=\"0.38\" stroke=\"{FOUND}\"");
-    legend.switch(
-        "found",
-        &found,
-        &format!("{} found", counted(shown.found.len(), "record", "records")),
-    );
+}
+
+/// What the window finds of an owner's records, or of all.
+fn found_lines(legend: &mut Legend, shown: &Searched, owner: Option<Owner>) {
+    let (group, found) = (Group { owner, found: true }, shown.found_of(owner));
+    let words = format!("{} found", records_of(found.len(), owner));
+    legend.switch(group.layer(), &group.look(), &words);
     // The mode goes below the count. A search is of the window, so what it finds may lie beside a disc.
     let mode = format!("those {} the window", shown.mode);
-    for words in once(mode).chain(number_lines(shown)) {
+    for words in once(mode).chain(number_lines(&found)) {
         legend.line(&words, SMALL, INDENT);
         legend.y -= 6.0;
     }
@@ -260,12 +277,12 @@ fn wrapped(words: impl Iterator<Item = String>) -> Vec<String> {
 }
 
 /// The numbers found, in found order, as many as have room.
-fn number_lines(shown: &Searched) -> Vec<String> {
-    let mut lines = wrapped(shown.found.iter().map(|record| record.number.to_string()));
+fn number_lines(found: &[Found]) -> Vec<String> {
+    let mut lines = wrapped(found.iter().map(|record| record.number.to_string()));
     if lines.len() > MOST_LINES {
         lines.truncate(MOST_LINES);
         let written: usize = lines.iter().map(|line| line.split_whitespace().count()).sum();
-        lines.push(format!("and {} more", shown.found.len() - written));
+        lines.push(format!("and {} more", found.len() - written));
     }
     lines
 }

@@ -1,9 +1,10 @@
-//! Draws the map that a file of frames leaves, as SVG on standard output.
+//! Draws the map that a file of frames leaves, or that a file carries between offices, as SVG on standard output.
 //!
 //! usage: draw [--slots N] FRAMES [WINDOW [--inside | --enclosing] | --insert LOW-X LOW-Y HIGH-X HIGH-Y]
 
 mod asked;
 mod batch;
+mod carried;
 mod frames;
 mod insert;
 mod labels;
@@ -25,7 +26,7 @@ const SLOTS: usize = 128;
 
 const USAGE: &str = "usage: tools/draw [--slots N] FRAMES [WINDOW [--inside | --enclosing]] > map.svg
        tools/draw [--slots N] FRAMES --insert LOW-X LOW-Y HIGH-X HIGH-Y > map.svg
-FRAMES is a file as dustmap reads it, or - for standard input. WINDOW is in millimetres: LOW-X LOW-Y HIGH-X HIGH-Y, four whole numbers;
+FRAMES is a file as dustmap reads it, or a map's file as tools/save writes it, of either edition; or - for standard input. WINDOW is in millimetres: LOW-X LOW-Y HIGH-X HIGH-Y, four whole numbers;
 or --box LOW-X LOW-Y HIGH-X HIGH-Y, --point X Y or --disc X Y RADIUS, whose numbers need not be whole.
 The records that meet the window are marked; with --inside those alone that lie inside it, with --enclosing those alone that enclose it.
 With --insert, whose four numbers are whole, the way is marked that an insert of that rectangle would go, and the full nodes that it would
@@ -51,7 +52,9 @@ fn run() -> Result<(), String> {
     };
     let (file, words) = rest.split_first().ok_or(USAGE)?;
     let asked = asked::asked(mode, words)?;
-    let mut pool = after(&bytes_of(file)?, slots);
+    let bytes = bytes_of(file)?;
+    let mut pool =
+        if carried::is_file(&bytes) { carried::pool(&bytes, slots)? } else { after(&bytes, slots) };
     let tree = tree::read(&pool);
     let shown = shown::look(&mut pool, &tree, asked)?;
     write(&picture::draw(&tree, &shown))

@@ -96,7 +96,8 @@
 
   // The next record that is shown, or the one before: those found first, each layer in the order of a search's answer.
   function step(by) {
-    const layers = ['found', 'records'].flatMap((name) => [...document.querySelectorAll(`[data-layer="${name}"][data-holds]`)])
+    const layers = ['found', 'found-2', 'records', 'records-2']
+      .flatMap((name) => [...document.querySelectorAll(`[data-layer="${name}"][data-holds]`)])
       .filter((layer) => isShown(layer) && layer.firstElementChild);
     if (layers.length === 0) return null;
     const at = current === null ? -1 : layers.indexOf(current.parentNode);

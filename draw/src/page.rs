@@ -3,10 +3,12 @@
 
 use crate::insert::Insert;
 use crate::legend::counted;
+use crate::look::of_owner;
 use crate::shown::Shown;
 use crate::svg::{rect, Place};
 use crate::tree::Tree;
 use crate::window::Searched;
+use dustmap::Owner;
 
 const STYLE: &str = include_str!("page.css");
 const SCRIPT: &str = include_str!("page.js");
@@ -16,11 +18,8 @@ const HELP: &str = "Map. Arrow keys go from record to record, Home to the first,
 
 /// The name of the page, what it shows in a sentence, and how its parts look.
 pub fn head(tree: &Tree, shown: &Shown) -> String {
-    let map = format!(
-        "Map of {}, height {}",
-        counted(tree.records().len(), "record", "records"),
-        tree.height
-    );
+    let records = counted(tree.records().len(), "record", "records");
+    let map = format!("Map of {records}{}, height {}", owners_told(tree), tree.height);
     let more = match shown {
         Shown::Nothing => String::new(),
         Shown::Window(searched) => window_told(searched),
@@ -29,6 +28,18 @@ pub fn head(tree: &Tree, shown: &Shown) -> String {
     format!(
         "<title id=\"name\">dustmap</title>\n<desc id=\"told\">{map}{more}.</desc>\n<style>\n{STYLE}</style>\n"
     )
+}
+
+/// How many records each owner has, where they have owners.
+fn owners_told(tree: &Tree) -> String {
+    let told = |owner: &Option<Owner>| {
+        owner.map(|_| format!("{}{}", tree.count_of(*owner), of_owner(*owner)))
+    };
+    let each: Vec<String> = tree.owners().iter().filter_map(told).collect();
+    if each.is_empty() {
+        return String::new();
+    }
+    format!(", {}", each.join(" and "))
 }
 
 fn window_told(s: &Searched) -> String {

@@ -3,11 +3,11 @@
 
 use crate::labels::Labels;
 use crate::legend::{counted, legend};
-use crate::look::{colour, new_record, EDGE, FOUND, FULL, RECORD};
+use crate::look::{colour, new_record, of_owner, Group, EDGE, FOUND, FULL};
 use crate::page;
 use crate::shown::{Mark, Shown};
 use crate::svg::{circle, layer, line, rect, text, titled, Place, Scale};
-use crate::tree::{joint, Held, Node, Tree};
+use crate::tree::{joint, Held, Node, Record, Tree};
 use dustmap::Rect;
 
 const SHEET: (f64, f64) = (1280.0, 860.0);
@@ -114,29 +114,28 @@ fn sides(rect: &Rect) -> String {
 
 /// The records, those found on top; then the numbers.
 fn records(tree: &Tree, shown: &Shown, scale: &Scale, sheet: Place) -> String {
-    let window = shown.window();
     let mut all = tree.records();
     all.sort_by_key(|held| held.record);
-    let (found, others): (Vec<Held>, Vec<Held>) =
-        all.into_iter().partition(|held| window.is_some_and(|w| w.finds(&held.record)));
-    let shapes = |held: &[Held], words: &str| -> String {
-        held.iter().map(|h| record(h, words, scale)).collect()
+    let found = |held: &Held| shown.window().is_some_and(|w| w.finds(&held.record));
+    let members = |group: Group| -> Vec<&Held> {
+        let is_member = |h: &&Held| h.record.owner == group.owner && found(h) == group.found;
+        all.iter().filter(is_member).collect()
     };
-    let look = |colour: &str, tint: f64| {
-        format!(
-            "data-holds=\"records\" fill=\"{colour}\" fill-opacity=\"{tint}\" stroke=\"{colour}\" stroke-width=\"{:.2}\"",
-            scale.pen
-        )
-    };
-    let mut out = layer("records", &look(RECORD, 0.22), &shapes(&others, ""));
-    if window.is_some() {
-        out += &layer("found", &look(FOUND, 0.38), &shapes(&found, ", found"));
+    let mut groups: Vec<(Group, Vec<&Held>)> =
+        shown.groups(tree).into_iter().map(|group| (group, members(group))).collect();
+    let out: String = groups.iter().map(|(group, held)| shapes(*group, held, scale)).collect();
+    if all.len() > CROWD {
+        groups.iter_mut().for_each(|(_, held)| held.retain(|h| stands_out(h, shown)));
     }
-    let crowded = found.len() + others.len() > CROWD;
-    let numbered = |held: &&Held| !crowded || stands_out(held, shown);
-    let others: Vec<&Held> = others.iter().filter(numbered).collect();
-    let found: Vec<&Held> = found.iter().filter(numbered).collect();
-    out + &numbers(&others, &found, scale, sheet)
+    out + &numbers(&groups, scale, sheet)
+}
+
+/// The layer of a group.
+fn shapes(group: Group, held: &[&Held], scale: &Scale) -> String {
+    let found = if group.found { ", found" } else { "" };
+    let look = format!("data-holds=\"records\" {} stroke-width=\"{:.2}\"", group.look(), scale.pen);
+    let shapes: String = held.iter().map(|h| record(h, found, scale)).collect();
+    layer(group.layer(), &look, &shapes)
 }
 
 /// Whether a record has its number in a crowd: a record that is found, if they are few, or one in the chosen leaf.
@@ -149,8 +148,8 @@ fn stands_out(held: &Held, shown: &Shown) -> bool {
 }
 
 /// A point is a dot, a line a line, all else a box.
-fn record(held: &Held, found: &str, scale: &Scale) -> String {
-    let Held { record, slot } = held;
+fn record(held: &Held, said: &str, scale: &Scale) -> String {
+    let Held { record: Record { owner, found: record }, slot } = held;
     let place = scale.place(&record.rect);
     let shape = match (place.width < 1.5, place.height < 1.5) {
         (true, true) => circle(
@@ -165,28 +164,31 @@ fn record(held: &Held, found: &str, scale: &Scale) -> String {
             line((place.x, place.y), to, &look)
         }
     };
-    let words =
-        format!("record {}{found}: {}; leaf in slot {slot}", record.number, sides(&record.rect));
+    let name = format!("record {}{}", record.number, of_owner(*owner));
+    let words = format!("{name}{said}: {}; leaf in slot {slot}", sides(&record.rect));
     titled(&words, &shape)
 }
 
 /// The numbers, those found first, since a number is left out where it has no room; a layer of them goes with that of its records.
-fn numbers(others: &[&Held], found: &[&Held], scale: &Scale, sheet: Place) -> String {
+fn numbers(groups: &[(Group, Vec<&Held>)], scale: &Scale, sheet: Place) -> String {
     let mut labels = Labels::new(sheet);
-    let mut of = |held: &[&Held], found: bool| -> String {
+    let mut of = |(group, held): &(Group, Vec<&Held>)| -> String {
         let mut out = String::new();
-        for Held { record, .. } in held.iter().rev() {
-            let words = record.number.to_string();
-            if let Some(at) = labels.put(scale.place(&record.rect), &words) {
-                out += &number(at, &words, found);
+        for Held { record: Record { found, .. }, .. } in held.iter().rev() {
+            let words = found.number.to_string();
+            if let Some(at) = labels.put(scale.place(&found.rect), &words) {
+                out += &number(at, &words, group.found);
             }
         }
-        out
+        if group.found && held.is_empty() {
+            return out;
+        }
+        layer(group.layer(), "class=\"number\" aria-hidden=\"true\"", &out)
     };
-    let (of_found, of_others) = (of(found, true), of(others, false));
-    let class = "class=\"number\" aria-hidden=\"true\"";
-    let of_found = if found.is_empty() { of_found } else { layer("found", class, &of_found) };
-    layer("records", class, &of_others) + &of_found
+    // the groups found are the last
+    let mut layers: Vec<String> = groups.iter().rev().map(&mut of).collect();
+    layers.reverse();
+    layers.concat()
 }
 
 /// A pale rim keeps a number readable where lines cross it.

@@ -2,6 +2,7 @@
 
 use crate::asked::Asked;
 use crate::insert::{self, Insert};
+use crate::look::Group;
 use crate::tree::{Node, Tree};
 use crate::window::{self, Searched};
 use dustmap::Rect;
@@ -39,6 +40,16 @@ impl Shown {
         match self {
             Shown::Window(searched) => Some(searched),
             _ => None,
+        }
+    }
+
+    /// The groups of records, those that lie on top last: where there is a window, those found.
+    pub fn groups(&self, tree: &Tree) -> Vec<Group> {
+        let group =
+            |found: bool| tree.owners().iter().map(move |owner| Group { owner: *owner, found });
+        match self.window() {
+            Some(_) => group(false).chain(group(true)).collect(),
+            None => group(false).collect(),
         }
     }
 

@@ -1,9 +1,10 @@
 //! "What comes back": a batch of requests over one pool, with the table's checks in its order.
 
+use crate::edition::{Edition, Owner, NO_SUCH, OTHER_OWNER};
 use crate::events::{Events, Trace};
 use crate::geometry::Rect;
 use crate::mode::Mode;
-use crate::pool::{slots_of, Map, Pair, RecordNumber};
+use crate::pool::{slots_of, Map, Owned, Pair, RecordNumber};
 use crate::sound::sound;
 use crate::tree::NoSlotFree;
 
@@ -18,9 +19,9 @@ pub const ENCLOSING: i32 = 6;
 /// "A batch has 0 to 1,024 requests."
 pub const MOST_REQUESTS: usize = 1_024;
 
-/// What `call` returns for a request of none of the six kinds. The documents give no number for
-/// it ("A request is of one of the four kinds", and Req 01 adds two); nothing is written.
-pub const NO_SUCH_KIND: i32 = -1;
+/// What `call` returns for a request of none of the six kinds ("A request is of one of the four
+/// kinds", and Req 01 adds two).
+pub const NO_SUCH_KIND: i32 = NO_SUCH;
 
 /// Ten words: the kind, the record number, the rectangle inserted, deleted, to be replaced, or
 /// the window, and the new rectangle of an update.
@@ -120,7 +121,7 @@ impl Found {
     }
 }
 
-/// The batch over one pool.
+/// The batch over one pool, which is owner 1's.
 pub fn call(
     pool: &mut [i32],
     work: &mut [i32],
@@ -128,7 +129,20 @@ pub fn call(
     answers: &mut [Answer],
     found: &mut [Found],
 ) -> i32 {
-    call_counting(pool, work, requests, answers, found, &mut Events::default())
+    call_as(pool, work, requests, answers, found, Owner::One.number())
+}
+
+/// "A batch belongs to one owner, with its own lists; it sees and changes that owner's records
+/// only" (document 02, Req 07).
+pub fn call_as(
+    pool: &mut [i32],
+    work: &mut [i32],
+    requests: &[Request],
+    answers: &mut [Answer],
+    found: &mut [Found],
+    owner: i32,
+) -> i32 {
+    call_counting(pool, work, requests, answers, found, owner, &mut Events::default())
 }
 
 /// The same, adding to the counters what happened on the way.
@@ -138,12 +152,20 @@ pub fn call_counting(
     requests: &[Request],
     answers: &mut [Answer],
     found: &mut [Found],
+    owner: i32,
     events: &mut Events,
 ) -> i32 {
-    if let Some(number) = call_refused(pool, work, requests, answers) {
+    if too_many(requests, answers) {
+        return 9;
+    }
+    let Some(owner) = Owner::numbered(owner) else {
+        return OTHER_OWNER;
+    };
+    if let Some(number) = refused_after_13(pool, work, requests) {
         return number;
     }
-    let mut batch = Batch { map: Map::read(pool), found, filled: 0, events };
+    let map = Map::read(pool);
+    let mut batch = Batch { owner: map.whose(owner), map, found, filled: 0, events };
     for (request, answer) in requests.iter().zip(answers.iter_mut()) {
         *answer = batch.one(request);
     }
@@ -153,17 +175,15 @@ pub fn call_counting(
     0
 }
 
-/// The checks of the whole call, in the table's order: 9, 1, 2; then the kinds.
-fn call_refused(
-    pool: &[i32],
-    work: &[i32],
-    requests: &[Request],
-    answers: &[Answer],
-) -> Option<i32> {
-    if requests.len() > MOST_REQUESTS || answers.len() != requests.len() {
-        return Some(9);
-    }
-    if slots_of(pool.len()).is_none() || work.len() != pool.len() {
+/// "more than 1,024 requests, or answer list of another length than the request list"
+fn too_many(requests: &[Request], answers: &[Answer]) -> bool {
+    requests.len() > MOST_REQUESTS || answers.len() != requests.len()
+}
+
+/// The checks of the whole call in the table's order are 9, then "13 for another owner, after 9",
+/// for a pool of either edition; then these: 1, 2, and the kinds.
+fn refused_after_13(pool: &[i32], work: &[i32], requests: &[Request]) -> Option<i32> {
+    if slots_of(pool).is_none() || work.len() != pool.len() {
         return Some(1);
     }
     if !sound(pool) {
@@ -173,8 +193,10 @@ fn call_refused(
     (!requests.iter().all(known)).then_some(NO_SUCH_KIND)
 }
 
-/// A batch in progress: the map as the requests so far have left it, and the places filled.
+/// A batch in progress: whose records it sees, the map as the requests so far have left it, and the
+/// places filled.
 struct Batch<'a> {
+    owner: Option<Owner>,
     map: Map,
     found: &'a mut [Found],
     filled: usize,
@@ -194,6 +216,17 @@ impl Batch<'_> {
         }
     }
 
+    /// The pair as a record of the batch's owner.
+    fn own(&self, pair: Pair) -> Owned {
+        Owned { owner: self.owner, pair }
+    }
+
+    /// 1 where the other owner holds the pair, else 0: for the counters alone.
+    fn held_by_the_other(&self, pair: Pair) -> u64 {
+        let held = |owner: Owner| self.map.held(&Owned { owner: Some(owner.other()), pair });
+        u64::from(self.owner.is_some_and(held))
+    }
+
     /// Checks 3, 4, 6, 7.
     fn insert(&mut self, request: &Request) -> Answer {
         let pair = request.old_or_only_pair();
@@ -203,11 +236,16 @@ impl Batch<'_> {
         if request.number < 1 {
             return Answer::plain(4);
         }
-        if self.map.held(&pair) {
+        let record = self.own(pair);
+        if self.map.held(&record) {
             return Answer::plain(6);
         }
-        let answer = self.change(|map| map.insert(&pair));
-        self.events.refused_7_insert += u64::from(answer.number == 7);
+        let of_the_other = self.held_by_the_other(pair);
+        let answer = self.change(|map| map.insert(&record));
+        match answer.number {
+            0 => self.events.shares.insert_of_others_pair += of_the_other,
+            _ => self.events.refused_7_insert += 1,
+        }
         answer
     }
 
@@ -220,10 +258,12 @@ impl Batch<'_> {
         if request.number < 1 {
             return Answer::plain(4);
         }
-        if !self.map.held(&pair) {
+        let record = self.own(pair);
+        if !self.map.held(&record) {
+            self.events.shares.delete_5_others_pair += self.held_by_the_other(pair);
             return Answer::plain(5);
         }
-        let answer = self.change(|map| map.delete(&pair));
+        let answer = self.change(|map| map.delete(&record));
         self.events.refused_7_delete += u64::from(answer.number == 7);
         answer
     }
@@ -237,14 +277,20 @@ impl Batch<'_> {
         if request.number < 1 {
             return Answer::plain(4);
         }
-        if !self.map.held(&old) {
+        if !self.map.held(&self.own(old)) {
+            self.events.shares.update_5_others_pair += self.held_by_the_other(old);
             return Answer::plain(5);
         }
-        if self.map.held(&new) && new != old {
+        if self.map.held(&self.own(new)) && new != old {
             return Answer::plain(6);
         }
-        let answer = self.change(|map| map.update(&old, &new.rect));
-        self.events.refused_7_update += u64::from(answer.number == 7);
+        let record = self.own(old);
+        let to_the_others = if new == old { 0 } else { self.held_by_the_other(new) };
+        let answer = self.change(|map| map.update(&record, &new.rect));
+        match answer.number {
+            0 => self.events.shares.update_to_others_pair += to_the_others,
+            _ => self.events.refused_7_update += 1,
+        }
         answer
     }
 
@@ -264,14 +310,18 @@ impl Batch<'_> {
     }
 
     /// Checks 3, 8, the same in every mode ("Refusals: none new"). "8 reports found and opened as
-    /// they would have been, start zero."
+    /// they would have been, start zero." In edition 2 "Opened is reported as 0", beside 8 too.
     fn search(&mut self, request: &Request, mode: Mode) -> Answer {
         let window = Rect::from_words(request.first);
         if !window.valid() {
             return Answer::plain(3);
         }
-        let finding = self.map.search(&window, mode);
-        let (count, opened) = (finding.pairs.len(), finding.opened as i32);
+        let finding = self.map.search(&window, mode, self.owner);
+        let count = finding.pairs.len();
+        let opened = match self.map.edition {
+            Edition::One => finding.opened as i32,
+            Edition::Two => 0,
+        };
         if count > self.found.len() - self.filled {
             return Answer { number: 8, found: count as i32, start: 0, opened };
         }

@@ -1,21 +1,25 @@
 //! "Carry the map between offices" (document 02, Req 02): the records of a pool in one file, and
-//! a pool from such a file.
+//! a pool from such a file. "the file of Req 02 gains edition 2 with kind 19 (owner, then as 17),
+//! ordered by owner first" (Req 07).
 
+use crate::edition::{told, Edition, Owner, NO_SUCH, OTHER_OWNER};
 use crate::frames::{frame, length_of, take_frame};
 use crate::geometry::Rect;
-use crate::pool::{blank, pairs_in_leaves, slots_of, Map, Pair, RecordNumber};
+use crate::pool::{blank_pool_of, records_in_leaves, slots_of, Map, Owned, Pair, RecordNumber};
 use crate::sound::sound;
 use crate::tree::NoSlotFree;
 
 /// "kind 16 first (edition 1, record count)"
 pub const HEAD: u16 = 16;
-pub const FILE_EDITION: i32 = 1;
 
 /// "then kind 17 per record (number, rectangle) in found order"
 pub const RECORD: u16 = 17;
 
 /// "kind 18 last with no words"
 pub const LAST: u16 = 18;
+
+/// "kind 19 (owner, then as 17)"
+pub const OWNED_RECORD: u16 = 19;
 
 /// "10 for a wrong frame, edition or count, or bytes after kind 18"
 pub const WRONG_FRAME: i32 = 10;
@@ -24,15 +28,16 @@ pub const WRONG_FRAME: i32 = 10;
 pub const NOT_AFTER: i32 = 11;
 
 /// "A writer fills the front of a lent buffer": the number, and the bytes written. "1 first, then
-/// 2 ..; 8 if its buffer is short". Beside a refusal nothing is written, and the length is 0.
+/// 2 ..; 8 if its buffer is short". Beside a refusal nothing is written, and the length is 0. The
+/// file has the edition of the pool.
 pub fn write(pool: &[i32], buffer: &mut [u8]) -> (i32, usize) {
-    if slots_of(pool.len()).is_none() {
+    if slots_of(pool).is_none() {
         return (1, 0);
     }
     if !sound(pool) {
         return (2, 0);
     }
-    let file = file_of(&distinct_pairs(pool));
+    let file = file_of(Edition::of(pool), &distinct_records(pool));
     if buffer.len() < file.len() {
         return (8, 0);
     }
@@ -40,13 +45,27 @@ pub fn write(pool: &[i32], buffer: &mut [u8]) -> (i32, usize) {
     (0, file.len())
 }
 
-/// "a reader blanks a pool and inserts in file order". "1 first"; of the pool only the length is
-/// looked at ("2 for the writer only"). A call refused 1 "writes nothing at all".
+/// "a reader blanks a pool and inserts in file order", one of edition 1.
 pub fn read(pool: &mut [i32], work: &mut [i32], file: &[u8]) -> i32 {
-    if slots_of(pool.len()).is_none() || work.len() != pool.len() {
-        return 1;
+    read_told(pool, work, file, Edition::One)
+}
+
+/// "Blanking and reading are told the edition, by an enum that has no other, and go by it."
+pub fn read_as(pool: &mut [i32], work: &mut [i32], file: &[u8], edition: i32, rule: i32) -> i32 {
+    match told(edition, rule) {
+        Some(edition) => read_told(pool, work, file, edition),
+        None => NO_SUCH,
     }
-    let number = match map_of(file, pool.len()) {
+}
+
+/// "1 first"; of the pool only the length is looked at ("2 for the writer only"), and it is measured
+/// by the edition told. A call refused 1 "writes nothing at all".
+fn read_told(pool: &mut [i32], work: &mut [i32], file: &[u8], edition: Edition) -> i32 {
+    let slots = match edition.slots_of(pool.len()) {
+        Some(slots) if work.len() == pool.len() => slots,
+        _ => return 1,
+    };
+    let number = match map_of(file, edition, slots) {
         Ok(map) => {
             map.write(pool);
             0
@@ -59,23 +78,38 @@ pub fn read(pool: &mut [i32], work: &mut [i32], file: &[u8]) -> i32 {
     number
 }
 
-/// The records of a sound pool in found order. "The writer drops a pair held twice".
-pub fn distinct_pairs(pool: &[i32]) -> Vec<Pair> {
-    let mut pairs = pairs_in_leaves(pool);
-    pairs.sort();
-    pairs.dedup();
-    pairs
+/// The records of a sound pool by owner, then in found order. "The writer drops a pair held twice":
+/// twice by one owner, since "a pair counts as held per owner".
+pub fn distinct_records(pool: &[i32]) -> Vec<Owned> {
+    let mut records = records_in_leaves(pool);
+    records.sort();
+    records.dedup();
+    records
 }
 
 /// The file of some records: the count "counts distinct pairs".
-fn file_of(pairs: &[Pair]) -> Vec<u8> {
-    let count = i32::try_from(pairs.len()).expect("a pool holds fewer records");
-    let mut file = frame(HEAD, &[FILE_EDITION, count]);
-    for pair in pairs {
-        file.extend(frame(RECORD, &words_of(pair)));
+fn file_of(edition: Edition, records: &[Owned]) -> Vec<u8> {
+    let count = i32::try_from(records.len()).expect("a pool holds fewer records");
+    let mut file = frame(HEAD, &[edition.number(), count]);
+    for record in records {
+        file.extend(frame(record_kind(edition), &record_words(record)));
     }
     file.extend(frame(LAST, &[]));
     file
+}
+
+/// The kind of a record's frame.
+fn record_kind(edition: Edition) -> u16 {
+    match edition {
+        Edition::One => RECORD,
+        Edition::Two => OWNED_RECORD,
+    }
+}
+
+/// "number, rectangle"; of a record that has an owner, "owner, then as 17".
+pub fn record_words(record: &Owned) -> Vec<i32> {
+    let owner = record.owner.map(Owner::number);
+    owner.into_iter().chain(words_of(&record.pair)).collect()
 }
 
 /// "number, rectangle"
@@ -85,42 +119,41 @@ pub fn words_of(pair: &Pair) -> [i32; 5] {
     [number, low_x, low_y, high_x, high_y]
 }
 
-/// The map that a file gives, from a blank pool of so many words; or the number of the first
-/// frame at fault.
-fn map_of(file: &[u8], pool_words: usize) -> Result<Map, i32> {
-    let mut map = blank_map(pool_words);
+/// The map that a file gives, from a blank pool of so many slots; or the number of the first frame
+/// at fault.
+fn map_of(file: &[u8], edition: Edition, slots: usize) -> Result<Map, i32> {
+    let mut map = Map::read(&blank_pool_of(edition, slots));
     let mut rest = file;
     let mut before = None;
-    for _ in 0..record_count(&mut rest)? {
-        let pair = next_record(&mut rest, before.as_ref())?;
-        map.insert(&pair).map_err(|NoSlotFree| 7)?;
-        before = Some(pair);
+    for _ in 0..record_count(&mut rest, edition)? {
+        let record = next_record(&mut rest, edition, before.as_ref())?;
+        map.insert(&record).map_err(|NoSlotFree| 7)?;
+        before = Some(record);
     }
     last_frame(&mut rest)?;
     Ok(map)
 }
 
-fn blank_map(pool_words: usize) -> Map {
-    let mut pool = vec![0; pool_words];
-    blank(&mut pool);
-    Map::read(&pool)
-}
-
-/// "kind 16 first (edition 1, record count)". A negative count is at fault here; any other says how
-/// many frames of kind 17 are due.
-fn record_count(rest: &mut &[u8]) -> Result<i32, i32> {
+/// "kind 16 first (edition 1, record count)". The edition has to be the one told. A negative count
+/// is at fault here; any other says how many frames of records are due.
+fn record_count(rest: &mut &[u8], told: Edition) -> Result<i32, i32> {
     let words = words_due(rest, HEAD, 2)?;
     let (edition, count) = (words[0], words[1]);
-    if edition != FILE_EDITION || count < 0 {
+    if edition != told.number() || count < 0 {
         return Err(WRONG_FRAME);
     }
     Ok(count)
 }
 
-/// The record of the next frame. Within the frame: 10, "then 3, 4, then 11 for a record not after
-/// its predecessor"; 7 is left to the insert.
-fn next_record(rest: &mut &[u8], before: Option<&Pair>) -> Result<Pair, i32> {
-    let words = words_due(rest, RECORD, 5)?;
+/// The record of the next frame. Within the frame: 10, "then 3, 4", 13 "in a file after 4", "then 11
+/// for a record not after its predecessor"; 7 is left to the insert.
+fn next_record(rest: &mut &[u8], edition: Edition, before: Option<&Owned>) -> Result<Owned, i32> {
+    let words = words_due(rest, record_kind(edition), edition.entry_words())?;
+    // A record has as many words as a leaf entry. In edition 2 the first is the owner.
+    let (owner, words) = match edition {
+        Edition::One => (None, &words[..]),
+        Edition::Two => (Some(words[0]), &words[1..]),
+    };
     let rect = Rect::from_words([words[1], words[2], words[3], words[4]]);
     let pair = Pair { number: RecordNumber(i64::from(words[0])), rect };
     if !pair.rect.valid() {
@@ -129,11 +162,14 @@ fn next_record(rest: &mut &[u8], before: Option<&Pair>) -> Result<Pair, i32> {
     if pair.number.0 < 1 {
         return Err(4);
     }
-    // Pairs are ordered as found records are; an equal one is not after.
-    if before.is_some_and(|before| pair <= *before) {
+    let owner = owner.map(|owner| Owner::numbered(owner).ok_or(OTHER_OWNER)).transpose()?;
+    let record = Owned { owner, pair };
+    // Records are ordered as in a file: by owner first, then as found records are. An equal one is
+    // not after.
+    if before.is_some_and(|before| record <= *before) {
         return Err(NOT_AFTER);
     }
-    Ok(pair)
+    Ok(record)
 }
 
 /// "kind 18 last with no words", and no "bytes after kind 18".

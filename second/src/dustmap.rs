@@ -1,10 +1,10 @@
-//! The program `dustmap`: frames in, lines out.
+//! The program `dustmap`: frames in, lines out. Its pool is of edition 1, and its batches are owner 1's.
 
 use crate::call::{
     call, Answer, Found, Request, DELETE, ENCLOSING, INSERT, INSIDE, SEARCH, UPDATE,
 };
 use crate::frames::{take_frame, Frame};
-use crate::pool::{blank, HEAD_WORDS, SLOT_WORDS};
+use crate::script::blank_pool;
 
 /// "a 128-slot pool (5,384 words)"
 const POOL_SLOTS: usize = 128;
@@ -43,8 +43,7 @@ pub fn run(input: &[u8]) -> String {
 
 impl Station {
     fn new() -> Station {
-        let mut pool = vec![0; HEAD_WORDS + SLOT_WORDS * POOL_SLOTS];
-        blank(&mut pool);
+        let pool = blank_pool(POOL_SLOTS);
         let work = pool.clone();
         Station { pool, work, found: vec![Found::default(); FOUND_PLACES] }
     }

@@ -29,6 +29,54 @@ impl Decided {
     }
 }
 
+/// Where the records of the other owner came in (document 02, Req 07). In an edition 1 pool nothing
+/// of this happens.
+#[derive(Clone, Debug, Default, PartialEq, Eq)]
+pub struct Shares {
+    /// Leaves split whose nine entries were of both owners.
+    pub split_of_both: u64,
+    /// Entries of the other owner that were set aside and inserted again.
+    pub other_set_aside: u64,
+    /// The same pair of the other owner, met by FindLeaf before the owner's own.
+    pub find_leaf_passed_other: u64,
+    /// Records of the other owner that a search met and the mode lists.
+    pub search_passed_other: u64,
+    /// Inserts, and updates to another rectangle, of a pair that the other owner holds.
+    pub insert_of_others_pair: u64,
+    pub update_to_others_pair: u64,
+    /// Deletes and updates refused 5, where the other owner holds the pair.
+    pub delete_5_others_pair: u64,
+    pub update_5_others_pair: u64,
+}
+
+impl Shares {
+    /// Each counter with its name, in a fixed order.
+    pub fn named(&self) -> [(&'static str, u64); 8] {
+        [
+            ("split_of_both", self.split_of_both),
+            ("other_set_aside", self.other_set_aside),
+            ("find_leaf_passed_other", self.find_leaf_passed_other),
+            ("search_passed_other", self.search_passed_other),
+            ("insert_of_others_pair", self.insert_of_others_pair),
+            ("update_to_others_pair", self.update_to_others_pair),
+            ("delete_5_others_pair", self.delete_5_others_pair),
+            ("update_5_others_pair", self.update_5_others_pair),
+        ]
+    }
+
+    /// Adds the counts of another.
+    fn add(&mut self, other: &Shares) {
+        self.split_of_both += other.split_of_both;
+        self.other_set_aside += other.other_set_aside;
+        self.find_leaf_passed_other += other.find_leaf_passed_other;
+        self.search_passed_other += other.search_passed_other;
+        self.insert_of_others_pair += other.insert_of_others_pair;
+        self.update_to_others_pair += other.update_to_others_pair;
+        self.delete_5_others_pair += other.delete_5_others_pair;
+        self.update_5_others_pair += other.update_5_others_pair;
+    }
+}
+
 /// What one request did to the tree. Levels are counted from the leaves, leaf 1.
 #[derive(Clone, Debug, Default)]
 pub struct Trace {
@@ -42,6 +90,7 @@ pub struct Trace {
     /// As in the events of the same names.
     pub flat_inner_chosen: u64,
     pub flat_inner_split: u64,
+    pub shares: Shares,
 }
 
 impl Trace {
@@ -63,11 +112,13 @@ impl Trace {
 }
 
 /// What one search met: the covers of the children that it opened, and the rectangles of all
-/// records that meet the window, listed by the mode or not.
+/// records that meet the window, listed by the mode or not. Records of the other owner are only
+/// counted, those that the mode lists.
 #[derive(Clone, Debug, Default)]
 pub struct Sight {
     pub covers: Vec<Rect>,
     pub records: Vec<Rect>,
+    pub others: u64,
 }
 
 /// Counters over all requests of a call. All but the refusals count accepted requests alone.
@@ -114,6 +165,8 @@ pub struct Events {
     /// does not enclose it: what a search would lose that asked the mode of covers too.
     pub inside_opened_not_inside: u64,
     pub enclosing_opened_not_enclosing: u64,
+    /// Where the records of the other owner came in. They have a list of names of their own.
+    pub shares: Shares,
 }
 
 impl Events {
@@ -129,10 +182,12 @@ impl Events {
         self.decided.add(&trace.decided);
         self.flat_inner_chosen += trace.flat_inner_chosen;
         self.flat_inner_split += trace.flat_inner_split;
+        self.shares.add(&trace.shares);
     }
 
     /// Takes in what an accepted search met.
     pub fn note_search(&mut self, mode: Mode, window: &Rect, sight: &Sight) {
+        self.shares.search_passed_other += sight.others;
         for record in &sight.records {
             self.note_record(mode, window, record);
         }
@@ -226,6 +281,7 @@ impl Events {
         self.enclosing_passed_over += other.enclosing_passed_over;
         self.inside_opened_not_inside += other.inside_opened_not_inside;
         self.enclosing_opened_not_enclosing += other.enclosing_opened_not_enclosing;
+        self.shares.add(&other.shares);
     }
 
     /// `events name=value name=value ..`

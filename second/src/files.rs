@@ -1,15 +1,19 @@
-//! Cases of the two calls of Req 02, written as lines; and what comes of them.
+//! Cases of the two calls of Req 02, and of the reader of Req 07 that is told the edition, written as
+//! lines; and what comes of them.
 
-use crate::carry::{read, write};
+use crate::carry::{read, read_as, write};
 use crate::dice::Dice;
+use crate::edition::Edition;
 use crate::files_drawn::drawn;
 use crate::files_kept::kept;
+use crate::files_shared::kept_shared;
 
 /// What is lent to a call.
 #[derive(Clone, Debug, PartialEq, Eq)]
 pub enum Case {
     Write { pool: Vec<i32>, buffer: Vec<u8> },
     Read { pool: Vec<i32>, work: Vec<i32>, file: Vec<u8> },
+    ReadAs { pool: Vec<i32>, work: Vec<i32>, file: Vec<u8>, edition: i32, rule: i32 },
 }
 
 /// What the call returns, and what was lent for writing, as the call left it.
@@ -30,14 +34,23 @@ pub fn outcome(case: &Case) -> Outcome {
             let number = read(&mut pool, &mut work, &file);
             Outcome::Read { number, pool, work }
         }
+        Case::ReadAs { mut pool, mut work, file, edition, rule } => {
+            let number = read_as(&mut pool, &mut work, &file, edition, rule);
+            Outcome::Read { number, pool, work }
+        }
     }
 }
 
-/// Cases from a seed, one a line with what is due: the list first, then drawn ones.
-pub fn cases(seed: u64, count: usize) -> String {
+/// Cases from a seed, one a line with what is due: the list first, then drawn ones. They are about
+/// pools of an edition.
+pub fn cases(edition: Edition, seed: u64, count: usize) -> String {
     let mut dice = Dice::new(seed);
-    let drawn = std::iter::repeat_with(|| drawn(&mut dice));
-    kept().into_iter().chain(drawn).take(count).map(|case| answered(&case) + "\n").collect()
+    let drawn = std::iter::repeat_with(|| drawn(edition, &mut dice));
+    let kept = match edition {
+        Edition::One => kept(),
+        Edition::Two => kept_shared(),
+    };
+    kept.into_iter().chain(drawn).take(count).map(|case| answered(&case) + "\n").collect()
 }
 
 /// The cases of a text, each with what is due.
@@ -63,7 +76,8 @@ pub(crate) fn each_line(
     Ok(output)
 }
 
-/// `write POOL BUFFER -> NUMBER LENGTH BUFFER` or `read POOL WORK FILE -> NUMBER POOL WORK`.
+/// `write POOL BUFFER -> NUMBER LENGTH BUFFER`, `read POOL WORK FILE -> NUMBER POOL WORK` or `read-as
+/// POOL WORK FILE EDITION RULE -> NUMBER POOL WORK`.
 pub fn answered(case: &Case) -> String {
     let due = match outcome(case) {
         Outcome::Written { number, length, buffer } => {
@@ -81,6 +95,10 @@ pub fn line(case: &Case) -> String {
         Case::Read { pool, work, file } => {
             format!("read {} {} {}", list(pool), list(work), hex(file))
         }
+        Case::ReadAs { pool, work, file, edition, rule } => {
+            let lists = format!("{} {} {}", list(pool), list(work), hex(file));
+            format!("read-as {lists} {edition} {rule}")
+        }
     }
 }
 
@@ -93,7 +111,14 @@ pub fn parse(line: &str) -> Result<Case, String> {
         ["read", pool, work, file] => {
             Ok(Case::Read { pool: words(pool)?, work: words(work)?, file: bytes(file)? })
         }
-        _ => Err("neither write POOL BUFFER nor read POOL WORK FILE".to_string()),
+        ["read-as", pool, work, file, edition, rule] => Ok(Case::ReadAs {
+            pool: words(pool)?,
+            work: words(work)?,
+            file: bytes(file)?,
+            edition: word(edition)?,
+            rule: word(rule)?,
+        }),
+        _ => Err("neither write POOL BUFFER nor read POOL WORK FILE, nor read-as".to_string()),
     }
 }
 
@@ -119,7 +144,11 @@ pub(crate) fn words(text: &str) -> Result<Vec<i32>, String> {
     if text == "-" {
         return Ok(Vec::new());
     }
-    text.split(',').map(|word| word.parse().map_err(|_| format!("not a word: {word}"))).collect()
+    text.split(',').map(word).collect()
+}
+
+fn word(text: &str) -> Result<i32, String> {
+    text.parse().map_err(|_| format!("not a word: {text}"))
 }
 
 fn bytes(text: &str) -> Result<Vec<u8>, String> {

@@ -1,13 +1,17 @@
 //! Cases of the two calls of Req 02 that meet every sentence of the request.
 
+use crate::edition::{Edition, Owner};
 use crate::files::Case;
 use crate::frames::frame;
 use crate::generate::pair_of;
-use crate::pool::Map;
+use crate::pool::{blank_pool_of, Map, Owned};
 use crate::script::blank_pool;
 
 /// A record in words: number, low x, low y, high x, high y.
 pub type Record = [i32; 5];
+
+/// "owner, then as 17" (Req 07).
+pub type OwnedRecord = [i32; 6];
 
 /// A frame apart: its kind and its words.
 pub type Apart = (u16, Vec<i32>);
@@ -32,10 +36,25 @@ pub fn row(count: i32) -> Vec<Record> {
     (1..=count).map(|n| [n, 10 * n, 0, 10 * n + 10, 10]).collect()
 }
 
-/// The frames of a file of these records, in this order.
-pub fn frames_of(records: &[Record]) -> Vec<Apart> {
-    let mut frames = vec![(16, vec![1, records.len() as i32])];
-    frames.extend(records.iter().map(|record| (17, record.to_vec())));
+/// The edition of a file or a pool whose records are of so many words.
+fn edition_of(words: usize) -> Edition {
+    match words {
+        5 => Edition::One,
+        6 => Edition::Two,
+        _ => panic!("a record is of five words, or six"),
+    }
+}
+
+/// The frames of a file of these records, in this order: of edition 2 where the records have owners.
+pub fn frames_of<const K: usize>(records: &[[i32; K]]) -> Vec<Apart> {
+    frames_of_edition(edition_of(K), records)
+}
+
+/// The same, of records that may be none.
+pub fn frames_of_edition<R: AsRef<[i32]>>(edition: Edition, records: &[R]) -> Vec<Apart> {
+    let kind = if edition == Edition::One { 17 } else { 19 };
+    let mut frames = vec![(16, vec![edition.number(), records.len() as i32])];
+    frames.extend(records.iter().map(|record| (kind, record.as_ref().to_vec())));
     frames.push((18, vec![]));
     frames
 }
@@ -45,17 +64,24 @@ pub fn bytes_of(frames: &[Apart]) -> Vec<u8> {
 }
 
 /// The file of these records, in this order.
-pub fn file(records: &[Record]) -> Vec<u8> {
+pub fn file<const K: usize>(records: &[[i32; K]]) -> Vec<u8> {
     bytes_of(&frames_of(records))
 }
 
+/// A record of five words, or of six with its owner first.
+pub fn record_of(words: &[i32]) -> Owned {
+    let (owner, words) = words.split_at(words.len() - 5);
+    let owner = owner.first().map(|&owner| Owner::numbered(owner).expect("an owner"));
+    Owned { owner, pair: pair_of(words[0], [words[1], words[2], words[3], words[4]]) }
+}
+
 /// A pool of so many slots that takes these records one after another, held or not: a pair given
-/// twice is held twice.
-pub fn pool_holding(slots: usize, records: &[Record]) -> Vec<i32> {
-    let mut pool = blank_pool(slots);
+/// twice is held twice. It is of edition 2 where the records have owners.
+pub fn pool_holding<const K: usize>(slots: usize, records: &[[i32; K]]) -> Vec<i32> {
+    let mut pool = blank_pool_of(edition_of(K), slots);
     let mut map = Map::read(&pool);
-    for [number, rect @ ..] in records {
-        map.insert(&pair_of(*number, *rect)).expect("a slot is free");
+    for record in records {
+        map.insert(&record_of(record)).expect("a slot is free");
     }
     map.write(&mut pool);
     pool
@@ -106,7 +132,8 @@ fn writes() -> Vec<(Vec<i32>, Vec<u8>)> {
 /// for three slots, so the second of these and the third are refused at the last record.
 fn well_made() -> Vec<(usize, Vec<u8>)> {
     let nine = file(&row(9));
-    let files = [file(&[]), file(&row(1)), file(&IN_ORDER), file(&row(8))].map(|file| (1, file));
+    let whole = [file(&row(0)), file(&row(1)), file(&IN_ORDER), file(&row(8))];
+    let files = whole.map(|file| (1, file));
     let nines = [(3, nine.clone()), (2, nine.clone()), (1, nine)];
     nines.into_iter().chain(files).collect()
 }

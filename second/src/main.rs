@@ -1,11 +1,12 @@
 //! `second dustmap | script | generate STYLE SEED N COUNT | damage SEED N | survey SEED COUNT |
-//! carry | carry SEED COUNT | room | room SEED COUNT | selftest`
+//! carry | carry SEED COUNT | room | room SEED COUNT | shared .. | selftest`
 
 use std::io::{Read, Write};
 use std::process::ExitCode;
 
 use second::style::Style;
-use second::{damage, dustmap, files, generate, queries, rooms, script, selftest};
+use second::Edition;
+use second::{damage, dustmap, files, generate, neighbours, queries, rooms, script, selftest};
 
 const USAGE: &str = "usage: second dustmap
        second script
@@ -16,6 +17,10 @@ const USAGE: &str = "usage: second dustmap
        second carry SEED COUNT
        second room
        second room SEED COUNT
+       second shared generate STYLE SEED N COUNT
+       second shared damage SEED N
+       second shared carry SEED COUNT
+       second shared room SEED COUNT
        second selftest
 styles: random clustered grid points lines duplicates limits churn road roads";
 
@@ -40,20 +45,33 @@ fn run(arguments: &[&str]) -> Result<(Vec<u8>, ExitCode), String> {
     let output = match arguments {
         ["dustmap"] => dustmap::run(&input()?),
         ["script"] => script::run(&script::parse(&text_input()?)?),
-        ["generate", style, seed, slots, count] => {
-            let style = Style::named(style).ok_or("unknown style")?;
-            generate::script(style, number(seed)?, slot_count(slots)?, number(count)? as usize)
-        }
-        ["damage", seed, slots] => damage::script(number(seed)?, slot_count(slots)?),
         ["survey", seed, count] => queries::cases(number(seed)?, number(count)? as usize),
         ["carry"] => files::run(&text_input()?)?,
-        ["carry", seed, count] => files::cases(number(seed)?, number(count)? as usize),
         ["room"] => rooms::run(&text_input()?)?,
-        ["room", seed, count] => rooms::cases(number(seed)?, number(count)? as usize),
+        ["shared", drawn @ ..] => cases(Edition::Two, drawn)?,
         ["selftest"] => return Ok(tested()),
-        _ => return Err(USAGE.to_string()),
+        drawn => cases(Edition::One, drawn)?,
     };
     Ok((output.into_bytes(), ExitCode::SUCCESS))
+}
+
+/// Cases drawn from a seed: of edition 1, or `shared` ones of edition 2.
+fn cases(edition: Edition, arguments: &[&str]) -> Result<String, String> {
+    match arguments {
+        ["generate", style, seed, slots, count] => {
+            let style = Style::named(style).ok_or("unknown style")?;
+            let (slots, count) = (slot_count(slots)?, number(count)? as usize);
+            let script = match edition {
+                Edition::One => generate::script,
+                Edition::Two => neighbours::script,
+            };
+            Ok(script(style, number(seed)?, slots, count))
+        }
+        ["damage", seed, slots] => Ok(damage::script(edition, number(seed)?, slot_count(slots)?)),
+        ["carry", seed, count] => Ok(files::cases(edition, number(seed)?, number(count)? as usize)),
+        ["room", seed, count] => Ok(rooms::cases(edition, number(seed)?, number(count)? as usize)),
+        _ => Err(USAGE.to_string()),
+    }
 }
 
 fn tested() -> (Vec<u8>, ExitCode) {

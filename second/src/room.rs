@@ -3,7 +3,8 @@
 //!
 //! "an insert otherwise acceptable is refused 7 exactly when the run of full nodes from the chosen
 //! leaf upward, plus one if the run includes the root, exceeds the free slots." The two sides of
-//! that comparison are counted here, in the pool as it is. No insert is tried.
+//! that comparison are counted here, in the pool as it is. No insert is tried. In a pool of two owners
+//! the slots are shared, so it is the same for both.
 
 use crate::choose::MOST_ENTRIES;
 use crate::geometry::Rect;
@@ -14,7 +15,7 @@ use crate::sound::sound;
 /// refusals in the order of checks: 1 for the pool's length, 2 for a pool that is not sound, 3 for
 /// the rectangle. No record number is given, so nothing is said of 4 and 6.
 pub fn room(pool: &[i32], rect: [i32; 4], slots: &mut [u32; 2]) -> i32 {
-    if slots_of(pool.len()).is_none() {
+    if slots_of(pool).is_none() {
         return 1;
     }
     if !sound(pool) {

@@ -3,9 +3,9 @@
 //! Nothing here uses the code of the call but through `room`: it is held to the answer that the
 //! insert got, and to the slots in use before and after it.
 
-use crate::pool::{HEAD_WORDS, SLOT_WORDS};
+use crate::plain::ensure;
+use crate::pool::each_slot;
 use crate::room::room;
-use crate::selftest::ensure;
 
 /// What is in the two words before the call.
 const UNTOUCHED: [u32; 2] = [71, 72];
@@ -77,5 +77,5 @@ impl Told {
 
 /// "Level 0 is free".
 fn free_slots(pool: &[i32]) -> u32 {
-    pool[HEAD_WORDS..].chunks_exact(SLOT_WORDS).filter(|slot| slot[0] == 0).count() as u32
+    each_slot(pool).filter(|slot| slot[0] == 0).count() as u32
 }

@@ -1,7 +1,9 @@
 //! Cases of the call of Req 06, written as lines; and what comes of them.
 
 use crate::dice::Dice;
+use crate::edition::{Edition, OWNERS};
 use crate::files::{each_line, list, words};
+use crate::neighbours::widened;
 use crate::room::room;
 use crate::rooms_drawn::drawn;
 use crate::rooms_kept::kept;
@@ -22,11 +24,20 @@ pub fn outcome(case: &Case) -> Result<[u32; 2], i32> {
     }
 }
 
-/// Cases from a seed, one a line with what is due: the list first, then drawn ones.
-pub fn cases(seed: u64, count: usize) -> String {
-    let mut dice = Dice::new(seed);
+/// Cases from a seed, one a line with what is due: the list first, then drawn ones. For edition 2 the
+/// same pools are laid out with owners, where they have a length that allows it.
+pub fn cases(edition: Edition, seed: u64, count: usize) -> String {
+    let (mut dice, mut owners) = (Dice::new(seed), Dice::new(seed.wrapping_add(1)));
     let drawn = std::iter::repeat_with(|| drawn(&mut dice));
-    kept().into_iter().chain(drawn).take(count).map(|case| answered(&case) + "\n").collect()
+    let mut output = String::new();
+    for mut case in kept().into_iter().chain(drawn).take(count) {
+        if edition == Edition::Two && Edition::One.slots_of(case.pool.len()).is_some() {
+            case.pool = widened(&case.pool, || owners.pick(&OWNERS).number());
+        }
+        output.push_str(&answered(&case));
+        output.push('\n');
+    }
+    output
 }
 
 /// The cases of a text, each with what is due.

@@ -1,8 +1,9 @@
 //! Cases of the call of Req 06 that meet every sentence of the request.
 
+use crate::edition::Edition;
 use crate::files_kept::pool_holding;
 use crate::geometry::Rect;
-use crate::pool::{slot_start, Entry, Map, Node, Pointer, RecordNumber, Slot};
+use crate::pool::{Entry, Map, Node, Owned, Pair, RecordNumber, Slot};
 use crate::rooms::Case;
 use crate::script::blank_pool;
 
@@ -99,14 +100,15 @@ impl Growing {
         let mut entries = Vec::new();
         for &rect in rects {
             self.records += 1;
-            entries.push(Entry { rect, pointer: Pointer::Record(RecordNumber(self.records)) });
+            let pair = Pair { number: RecordNumber(self.records), rect };
+            entries.push(Entry::of(&Owned { owner: None, pair }));
         }
         self.put(Node { level: 1, entries })
     }
 
     fn inner(&mut self, children: &[Slot]) -> Slot {
         let below = |child: &Slot| &self.nodes[child.0 - 1];
-        let entry = |child| Entry { rect: below(child).cover(), pointer: Pointer::Child(*child) };
+        let entry = |child: &Slot| Entry::over(*child, below(child).cover());
         let entries = children.iter().map(entry).collect();
         let level = below(&children[0]).level + 1;
         self.put(Node { level, entries })
@@ -226,14 +228,17 @@ fn bad() -> [[i32; 4]; 10] {
     ]
 }
 
-/// "1 .. pool length wrong": blank pools cut or too long, and words that are no pool. 1 comes
-/// before 3.
+/// "1 .. pool length wrong": blank pools cut or too long, words that are no pool, and a pool whose
+/// word 0 says edition 2. 1 comes before 3.
 fn wrong_lengths() -> Vec<(Vec<i32>, [i32; 4])> {
     let mut longer = blank_pool(2);
     longer.push(0);
     let cut = |length: usize| blank_pool(3)[..length].to_vec();
-    let pools = [cut(0), cut(1), cut(8), cut(49), cut(91), cut(93), longer, vec![-7; 51]];
-    pools.into_iter().flat_map(|pool| [(pool.clone(), HERE), (pool, bad()[0])]).collect()
+    let mut of_edition_2 = pool_with_way(&[2, 8], 2);
+    of_edition_2[0] = 2;
+    let cuts = [cut(0), cut(1), cut(8), cut(49), cut(91), cut(93)];
+    let pools = cuts.into_iter().chain([longer, vec![-7; 51], of_edition_2]);
+    pools.flat_map(|pool| [(pool.clone(), HERE), (pool, bad()[0])]).collect()
 }
 
 /// "2 .. pool not sound": a word changed, on the way or off it. 2 comes before 3.
@@ -244,9 +249,9 @@ fn not_sound() -> Vec<(Vec<i32>, [i32; 4])> {
         pool
     };
     // Slot 1 is free, 2 is the other leaf, 3 the chosen one, 4 the root, 5 free.
-    let slot = |slot: usize| slot_start(Slot(slot));
+    let slot = |slot: usize| Edition::One.slot_start(Slot(slot));
     let pools = [
-        changed(0, 2),
+        changed(0, 3),
         changed(1, 0),
         changed(1, 6),
         changed(2, 1),

@@ -3,8 +3,9 @@
 use crate::call::{
     call_counting, Answer, Found, Request, DELETE, ENCLOSING, INSERT, INSIDE, SEARCH, UPDATE,
 };
+use crate::edition::{told, Edition};
 use crate::events::Events;
-use crate::pool::{blank, HEAD_WORDS, SLOT_WORDS};
+use crate::pool::blank_pool_of;
 
 /// A script as read. A length of none means: as long as its partner (the workspace as the
 /// pool, the answer list as the request list).
@@ -14,12 +15,13 @@ pub struct Script {
     pub work: Option<usize>,
     pub answers: Option<usize>,
     pub found: usize,
+    pub owner: i32,
     pub requests: Vec<Request>,
 }
 
 /// Reads a script. An error names the line.
 pub fn parse(text: &str) -> Result<Script, String> {
-    let mut script = Script { found: 64, ..Script::default() };
+    let mut script = Script { found: 64, owner: 1, ..Script::default() };
     for (index, line) in text.lines().enumerate() {
         let line = line.trim();
         if line.is_empty() || line.starts_with('#') {
@@ -33,11 +35,12 @@ pub fn parse(text: &str) -> Result<Script, String> {
 fn take_line(script: &mut Script, line: &str) -> Result<(), String> {
     let (name, rest) = line.split_once(char::is_whitespace).unwrap_or((line, ""));
     match name {
-        "blank" => script.pool = blank_pool(one_length(rest)?),
+        "blank" => script.pool = blank_line(rest)?,
         "pool" => script.pool = words(rest)?,
         "work" => script.work = length_or_same(rest)?,
         "answers" => script.answers = length_or_same(rest)?,
         "found" => script.found = one_length(rest)?,
+        "owner" => [script.owner] = exactly(&words(rest)?)?,
         _ => script.requests.push(request(name, rest)?),
     }
     Ok(())
@@ -59,11 +62,17 @@ fn request(name: &str, rest: &str) -> Result<Request, String> {
     }
 }
 
-/// A blank pool of so many slots; where blanking refuses the length, the words stay zero.
+/// `N`, or `N EDITION`; without an edition it is 1.
+fn blank_line(rest: &str) -> Result<Vec<i32>, String> {
+    let (slots, edition) = rest.trim().split_once(char::is_whitespace).unwrap_or((rest, "1"));
+    let [edition] = exactly(&words(edition)?)?;
+    let edition = told(edition, 0).ok_or_else(|| format!("no edition: {edition}"))?;
+    Ok(blank_pool_of(edition, one_length(slots)?))
+}
+
+/// A blank pool of so many slots, of edition 1.
 pub fn blank_pool(slots: usize) -> Vec<i32> {
-    let mut pool = vec![0; HEAD_WORDS + SLOT_WORDS * slots];
-    blank(&mut pool);
-    pool
+    blank_pool_of(Edition::One, slots)
 }
 
 fn words(rest: &str) -> Result<Vec<i32>, String> {
@@ -87,14 +96,21 @@ fn length_or_same(rest: &str) -> Result<Option<usize>, String> {
 
 /// Runs a script as one call and prints what came of it.
 pub fn run(script: &Script) -> String {
-    let Script { requests, .. } = script;
+    let Script { requests, owner, .. } = script;
     let mut pool = script.pool.clone();
     let mut work = vec![0; script.work.unwrap_or(pool.len())];
     let mut answers = vec![Answer::default(); script.answers.unwrap_or(requests.len())];
     let mut found = vec![Found::default(); script.found];
     let mut events = Events::default();
-    let result =
-        call_counting(&mut pool, &mut work, requests, &mut answers, &mut found, &mut events);
+    let result = call_counting(
+        &mut pool,
+        &mut work,
+        requests,
+        &mut answers,
+        &mut found,
+        *owner,
+        &mut events,
+    );
     let filled = places_filled(requests, &answers);
     let mut lines = vec![format!("result {result}")];
     lines.extend(answers.iter().map(answer_line));

@@ -4,12 +4,23 @@
 //! every node in use is looked at by itself: as every node in use has to be sound, and each
 //! entry leads one level lower, the one follows from the other, and no node is visited twice.
 
+use crate::edition::{Edition, Owner};
 use crate::geometry::{cover, Rect};
-use crate::pool::{entry_rect, entry_words, slot_words, slots_of, Slot, ENTRY_WORDS};
+use crate::pool::{entries, slot_words, slots_of, EntryWords, Slot};
+
+/// 1 for a length that no pool of its edition has, 2 for a pool that is not sound, else 0: the rows
+/// of the table that are about the pool alone.
+pub fn check(pool: &[i32]) -> i32 {
+    match slots_of(pool) {
+        None => 1,
+        Some(_) if sound(pool) => 0,
+        Some(_) => 2,
+    }
+}
 
 /// Whether a pool of valid length is sound. A pool of any other length is not.
 pub fn sound(pool: &[i32]) -> bool {
-    let Some(slots) = slots_of(pool.len()) else {
+    let Some(slots) = slots_of(pool) else {
         return false;
     };
     head_as_above(pool)
@@ -22,9 +33,10 @@ pub fn sound(pool: &[i32]) -> bool {
         && records_counted(pool, slots)
 }
 
-/// "word 0 edition, 1; .. words 4 to 7 zero"
+/// "word 0 edition, 1; .. words 4 to 7 zero". A word 0 of 2 is edition 2; any other leaves a pool
+/// that is measured as edition 1 and is not sound.
 fn head_as_above(pool: &[i32]) -> bool {
-    pool[0] == 1 && pool[4..8].iter().all(|&word| word == 0)
+    pool[0] == Edition::of(pool).number() && all_zero(&pool[4..8])
 }
 
 /// "height is 1 or more; root is a slot of level equal to the height"
@@ -54,10 +66,16 @@ fn count_in_range(pool: &[i32], slot: Slot) -> bool {
 fn unused_words_zero(pool: &[i32], slot: Slot) -> bool {
     let words = slot_words(pool, slot);
     if !in_use(pool, slot) {
-        return words.iter().all(|&word| word == 0);
+        return all_zero(words);
     }
-    let used = 2 + ENTRY_WORDS * count(pool, slot) as usize;
-    words[used..].iter().all(|&word| word == 0)
+    let used = 2 + Edition::of(pool).entry_words() * count(pool, slot) as usize;
+    all_zero(&words[used..])
+}
+
+/// Without a stop at the first that is not zero, this is several at a time for the processor: most
+/// words that the self-test looks at are of free slots.
+fn all_zero(words: &[i32]) -> bool {
+    words.iter().fold(0, |any, word| any | word) == 0
 }
 
 /// "A node is sound when its entries are".
@@ -65,31 +83,28 @@ fn entries_sound(pool: &[i32], slots: usize, slot: Slot) -> bool {
     let node_level = level(pool, slot);
     entries(pool, slot).into_iter().all(|words| {
         if node_level == 1 {
-            leaf_entry_sound(words)
+            leaf_entry_sound(Edition::of(pool), &words)
         } else {
-            inner_entry_sound(pool, slots, node_level, words)
+            inner_entry_sound(pool, slots, node_level, &words)
         }
     })
 }
 
-/// "A leaf entry needs a valid rectangle and number."
-fn leaf_entry_sound(words: [i32; ENTRY_WORDS]) -> bool {
-    entry_rect(words).valid() && words[4] >= 1
+/// "A leaf entry needs a valid rectangle and number", and in edition 2 "an owner, 1 or 2".
+fn leaf_entry_sound(edition: Edition, words: &EntryWords) -> bool {
+    let owner_sound = edition == Edition::One || Owner::numbered(words.owner).is_some();
+    words.rect().valid() && words.pointer >= 1 && owner_sound
 }
 
 /// "its pointer is a slot from 1 to N whose node is sound and one level lower, and its
-/// rectangle is the smallest holding that node's entries"
-fn inner_entry_sound(
-    pool: &[i32],
-    slots: usize,
-    node_level: i64,
-    words: [i32; ENTRY_WORDS],
-) -> bool {
+/// rectangle is the smallest holding that node's entries"; the owner is "zero in inner entries".
+fn inner_entry_sound(pool: &[i32], slots: usize, node_level: i64, words: &EntryWords) -> bool {
     let Some(child) = pointer_as_slot(words, slots) else {
         return false;
     };
-    let rects: Vec<Rect> = entries(pool, child).into_iter().map(entry_rect).collect();
-    level(pool, child) == node_level - 1 && cover(&rects) == Some(entry_rect(words))
+    let rects: Vec<Rect> = entries(pool, child).iter().map(EntryWords::rect).collect();
+    let tight = cover(&rects) == Some(words.rect());
+    level(pool, child) == node_level - 1 && tight && words.owner == 0
 }
 
 /// "each non-root node in use is the child of exactly one entry"
@@ -97,7 +112,7 @@ fn each_child_of_exactly_one(pool: &[i32], slots: usize) -> bool {
     let mut parents = vec![0; slots + 1];
     for slot in (1..=slots).map(Slot).filter(|&s| level(pool, s) > 1) {
         for words in entries(pool, slot) {
-            if let Some(child) = pointer_as_slot(words, slots) {
+            if let Some(child) = pointer_as_slot(&words, slots) {
                 parents[child.0] += 1;
             }
         }
@@ -123,25 +138,21 @@ fn height(pool: &[i32]) -> i64 {
     i64::from(pool[2])
 }
 
+#[inline]
 fn level(pool: &[i32], slot: Slot) -> i64 {
-    i64::from(slot_words(pool, slot)[0])
+    i64::from(pool[Edition::of(pool).slot_start(slot)])
 }
 
+#[inline]
 fn count(pool: &[i32], slot: Slot) -> i64 {
-    i64::from(slot_words(pool, slot)[1])
+    i64::from(pool[Edition::of(pool).slot_start(slot) + 1])
 }
 
 fn in_use(pool: &[i32], slot: Slot) -> bool {
     level(pool, slot) != 0
 }
 
-/// The entries in use of a slot whose count is known to be 0 to 8.
-fn entries(pool: &[i32], slot: Slot) -> Vec<[i32; ENTRY_WORDS]> {
-    let words = slot_words(pool, slot);
-    (1..=count(pool, slot) as usize).map(|place| entry_words(words, place)).collect()
-}
-
-fn pointer_as_slot(words: [i32; ENTRY_WORDS], slots: usize) -> Option<Slot> {
-    let slot = usize::try_from(words[4]).ok()?;
+fn pointer_as_slot(words: &EntryWords, slots: usize) -> Option<Slot> {
+    let slot = usize::try_from(words.pointer).ok()?;
     (1..=slots).contains(&slot).then_some(Slot(slot))
 }

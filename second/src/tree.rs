@@ -3,10 +3,11 @@
 //! Guttman's steps are named beside the lines that render them.
 
 use crate::choose::{choose_child_counting, split_nine_counting, LEAST_ENTRIES, MOST_ENTRIES};
+use crate::edition::{Edition, Owner};
 use crate::events::{Decided, Sight};
 use crate::geometry::{compare, Comparison, Rect};
 use crate::mode::Mode;
-use crate::pool::{Entry, Map, Node, Pair, Pointer, Slot};
+use crate::pool::{Entry, Map, Node, Owned, Pair, Pointer, Slot};
 
 /// "the rules call for a slot at a moment when none is free"
 #[derive(Clone, Copy, Debug, PartialEq, Eq)]
@@ -25,6 +26,13 @@ struct SetAside {
     entry: Entry,
 }
 
+/// What is asked for by a search, and by whom.
+struct Asked<'a> {
+    window: &'a Rect,
+    mode: Mode,
+    owner: Option<Owner>,
+}
+
 /// The records found by a search, in order, and the number of nodes opened. The sight notes what
 /// the search met on its way.
 pub struct Finding {
@@ -34,39 +42,49 @@ pub struct Finding {
 }
 
 impl Map {
-    /// Whether the pair is held: a look at every leaf.
-    pub fn held(&self, pair: &Pair) -> bool {
+    /// Whose records a batch of an owner sees and changes: "that owner's records only". In edition 1
+    /// the records are nobody's, and "served on, for owners 1 and 2 alike".
+    pub fn whose(&self, owner: Owner) -> Option<Owner> {
+        (self.edition == Edition::Two).then_some(owner)
+    }
+
+    /// Whether the pair is held: a look at every leaf. "a pair counts as held per owner".
+    pub fn held(&self, record: &Owned) -> bool {
         let mut leaves = self.nodes().iter().filter(|node| node.is_leaf());
-        leaves.any(|leaf| leaf.entries.iter().any(|entry| is_pair(entry, pair)))
+        leaves.any(|leaf| leaf.entries.iter().any(|entry| is_record(entry, record)))
     }
 
     /// "Found records are ordered by record number, then low x, low y, high x, high y."
-    pub fn search(&self, window: &Rect, mode: Mode) -> Finding {
+    pub fn search(&self, window: &Rect, mode: Mode, owner: Option<Owner>) -> Finding {
         let mut finding = Finding { pairs: Vec::new(), opened: 0, sight: Sight::default() };
-        self.open(self.root, window, mode, &mut finding);
+        self.open(self.root, &Asked { window, mode, owner }, &mut finding);
         finding.pairs.sort();
         finding
     }
 
     /// Opens a node. "The root is always opened."
-    fn open(&self, slot: Slot, window: &Rect, mode: Mode, finding: &mut Finding) {
+    fn open(&self, slot: Slot, asked: &Asked, finding: &mut Finding) {
         finding.opened += 1;
         for entry in &self.node(slot).entries {
-            let comparison = compare(&entry.rect, window);
+            let comparison = compare(&entry.rect, asked.window);
             if comparison == Comparison::Apart {
                 continue;
             }
+            let listed = asked.mode.lists(comparison);
             match entry.pointer {
                 // S1: "All modes open the nodes whose cover meets the window", so the mode is
                 // not asked here, also where it would leave a node out.
                 Pointer::Child(child) => {
                     finding.sight.covers.push(entry.rect);
-                    self.open(child, window, mode, finding);
+                    self.open(child, asked, finding);
+                }
+                Pointer::Record(_) if entry.owner != asked.owner => {
+                    finding.sight.others += u64::from(listed);
                 }
                 // S2: a record qualifies by the mode.
                 Pointer::Record(number) => {
                     finding.sight.records.push(entry.rect);
-                    if mode.lists(comparison) {
+                    if listed {
                         finding.pairs.push(Pair { number, rect: entry.rect });
                     }
                 }
@@ -74,46 +92,60 @@ impl Map {
         }
     }
 
-    /// Insert of a pair that is not held.
-    pub fn insert(&mut self, pair: &Pair) -> Result<(), NoSlotFree> {
-        self.insert_entry(record_entry(pair), 1)?;
+    /// Insert of a pair that its owner does not hold.
+    pub fn insert(&mut self, record: &Owned) -> Result<(), NoSlotFree> {
+        self.insert_entry(Entry::of(record), 1)?;
         self.records += 1;
         Ok(())
     }
 
-    /// Delete of a pair that is held: D1 to D4.
-    pub fn delete(&mut self, pair: &Pair) -> Result<(), NoSlotFree> {
-        let mut path = Vec::new();
-        let found = self.find_leaf(self.root, pair, &mut path);
+    /// Delete of a pair that its owner holds: D1 to D4.
+    pub fn delete(&mut self, record: &Owned) -> Result<(), NoSlotFree> {
+        let (mut path, mut passed) = (Vec::new(), 0);
+        let found = self.find_leaf(self.root, record, &mut path, &mut passed);
         assert!(found, "the pair is held");
+        self.trace.shares.find_leaf_passed_other += passed;
         let last = path.pop().expect("the leaf");
         // D2: "Later entries close up".
         self.node_mut(last.node).entries.remove(last.place - 1);
         self.records -= 1;
         let set_aside = self.condense(&path, last.node);
+        let others = set_aside.iter().filter(|aside| of_the_other(&aside.entry, record.owner));
+        self.trace.shares.other_set_aside += others.count() as u64;
         self.insert_again(set_aside)?;
         self.shorten();
         Ok(())
     }
 
     /// "Update deletes the old pair, then inserts the new rectangle under the same number; also
-    /// where old equals new."
-    pub fn update(&mut self, old: &Pair, new: &Rect) -> Result<(), NoSlotFree> {
+    /// where old equals new." It stays its owner's.
+    pub fn update(&mut self, old: &Owned, new: &Rect) -> Result<(), NoSlotFree> {
         self.delete(old)?;
-        self.insert(&Pair { number: old.number, rect: *new })
+        let pair = Pair { number: old.pair.number, rect: *new };
+        self.insert(&Owned { owner: old.owner, pair })
     }
 
-    /// FL1, FL2: "FindLeaf visits children in stored order; the first exact pair found goes."
-    /// The path is left as the steps from the root to the leaf, the last at the pair's place.
-    fn find_leaf(&self, slot: Slot, pair: &Pair, path: &mut Vec<Step>) -> bool {
+    /// FL1, FL2: "FindLeaf visits children in stored order; the first exact pair found goes", the
+    /// first of that owner. The path is left as the steps from the root to the leaf, the last at the
+    /// pair's place. Counted are the same pairs of the other owner before it.
+    fn find_leaf(
+        &self,
+        slot: Slot,
+        record: &Owned,
+        path: &mut Vec<Step>,
+        passed: &mut u64,
+    ) -> bool {
         for (index, entry) in self.node(slot).entries.iter().enumerate() {
             path.push(Step { node: slot, place: index + 1 });
             let found = match entry.pointer {
                 Pointer::Child(child) => {
-                    compare(&entry.rect, &pair.rect) != Comparison::Apart
-                        && self.find_leaf(child, pair, path)
+                    compare(&entry.rect, &record.pair.rect) != Comparison::Apart
+                        && self.find_leaf(child, record, path, passed)
                 }
-                Pointer::Record(_) => is_pair(entry, pair),
+                Pointer::Record(_) => {
+                    *passed += u64::from(!is_record(entry, record) && is_pair(entry, &record.pair));
+                    is_record(entry, record)
+                }
             };
             if found {
                 return true;
@@ -192,6 +224,8 @@ impl Map {
         self.node_mut(slot).entries = members(group_1);
         *self.node_mut(partner) = Node { level, entries: members(group_2) };
         self.trace.note_split(level, &rects, &decided);
+        let of_both = level == 1 && nine.iter().any(|entry| entry.owner != nine[0].owner);
+        self.trace.shares.split_of_both += u64::from(of_both);
         Ok(partner)
     }
 
@@ -269,7 +303,7 @@ impl Map {
 
     /// The entry that a parent holds for a node.
     fn entry_for(&self, slot: Slot) -> Entry {
-        Entry { rect: self.node(slot).cover(), pointer: Pointer::Child(slot) }
+        Entry::over(slot, self.node(slot).cover())
     }
 }
 
@@ -279,7 +313,12 @@ fn is_pair(entry: &Entry, pair: &Pair) -> bool {
         && compare(&entry.rect, &pair.rect) == Comparison::Equal
 }
 
-/// The leaf entry of a pair.
-fn record_entry(pair: &Pair) -> Entry {
-    Entry { rect: pair.rect, pointer: Pointer::Record(pair.number) }
+/// Whether a leaf entry is of the pair and of the owner.
+fn is_record(entry: &Entry, record: &Owned) -> bool {
+    is_pair(entry, &record.pair) && entry.owner == record.owner
+}
+
+/// Whether an entry is of a record that is not this owner's.
+fn of_the_other(entry: &Entry, owner: Option<Owner>) -> bool {
+    matches!(entry.pointer, Pointer::Record(_)) && entry.owner != owner
 }

@@ -32,7 +32,7 @@ fn raw(pool: &[i32], work: usize, requests: &[Request], answers: usize) -> i32 {
 fn refused_calls_in_the_tables_order() {
     let pool = blank_pool(2);
     let mut unsound = pool.clone();
-    unsound[0] = 2;
+    unsound[0] = 3;
     let one = [Request::search(R)];
     assert_eq!(raw(&pool, 92, &one, 1), 0);
     assert_eq!(raw(&pool, 92, &[], 0), 0);

@@ -6,7 +6,7 @@ use common::{batch, blank_pool, frame, point, put, three_levels};
 use second::files::{self, Case};
 use second::generate::history;
 use second::style::STYLES;
-use second::{pairs_in_leaves, read, sound, write, Request};
+use second::{pairs_in_leaves, read, sound, write, Edition, Request};
 
 /// A record: number, low x, low y, high x, high y.
 type Record = [i32; 5];
@@ -659,16 +659,18 @@ fn lines_of_cases() {
 
 #[test]
 fn drawn_cases_are_the_same_each_time() {
-    let text = files::cases(5, 400);
-    assert_eq!(text, files::cases(5, 400));
-    assert_ne!(text, files::cases(6, 400));
-    assert_eq!(files::run(&text), Ok(text));
+    for edition in [Edition::One, Edition::Two] {
+        let text = files::cases(edition, 5, 400);
+        assert_eq!(text, files::cases(edition, 5, 400));
+        assert_ne!(text, files::cases(edition, 6, 400));
+        assert_eq!(files::run(&text), Ok(text));
+    }
 }
 
 /// Every number happens among the drawn cases of both calls.
 #[test]
 fn every_number_is_drawn() {
-    let (text, kept) = (files::cases(1, 3_000), second::files_kept::kept().len());
+    let (text, kept) = (files::cases(Edition::One, 1, 3_000), second::files_kept::kept().len());
     assert!(kept < 200, "{kept} are the same for every seed");
     let drawn = text.lines().skip(kept);
     let mut numbers: Vec<(&str, i32)> = drawn

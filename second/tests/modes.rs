@@ -7,7 +7,8 @@ use second::generate::{history, SEARCHES};
 use second::script::{parse, request_line};
 use second::style::STYLES;
 use second::{
-    call, call_counting, compare, damage, dustmap, Answer, Comparison, Events, Found, Mode, Request,
+    call, call_counting, compare, damage, dustmap, Answer, Comparison, Edition, Events, Found,
+    Mode, Request,
 };
 
 const WINDOW: [i32; 4] = [10, 10, 30, 30];
@@ -352,7 +353,7 @@ fn counted(pool: &[i32], places: usize, requests: &[Request]) -> Vec<u64> {
     let mut answers = vec![Answer::default(); requests.len()];
     let mut found = vec![Found::default(); places];
     let result =
-        call_counting(&mut pool, &mut work, requests, &mut answers, &mut found, &mut events);
+        call_counting(&mut pool, &mut work, requests, &mut answers, &mut found, 1, &mut events);
     assert_eq!(result, 0);
     let named = events.named();
     let first = named.iter().position(|(name, _)| *name == "inside_found").expect("a counter");
@@ -405,7 +406,8 @@ fn histories_search_in_every_mode() {
 
 #[test]
 fn damaged_pools_are_searched_in_every_mode() {
-    let scripts = (1..=40).map(|seed| parse(&damage::script(seed, 2)).expect("a script"));
+    let scripts =
+        (1..=40).map(|seed| parse(&damage::script(Edition::One, seed, 2)).expect("a script"));
     let mut kinds: Vec<i32> = scripts.map(|script| script.requests[0].kind).collect();
     kinds.sort();
     kinds.dedup();

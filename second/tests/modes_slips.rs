@@ -9,7 +9,7 @@ mod common;
 use common::batch;
 use second::call::{ENCLOSING, INSIDE};
 use second::generate::history;
-use second::pool::{entry_rect, entry_words, slot_words, Slot};
+use second::pool::{entries, slot_words, Slot};
 use second::script::{blank_pool, parse};
 use second::style::STYLES;
 use second::{Rect, Request};
@@ -76,14 +76,14 @@ impl Way {
             ENCLOSING => self.opened_by_enclosing,
             _ => meets,
         };
-        let words = slot_words(pool, Slot(slot as usize));
-        for entry in (1..=words[1] as usize).map(|place| entry_words(words, place)) {
-            let rect = entry_rect(entry);
-            if words[0] > 1 && opened(&rect, &window) {
-                self.open(pool, entry[4], request, finding);
+        let level = slot_words(pool, Slot(slot as usize))[0];
+        for entry in entries(pool, Slot(slot as usize)) {
+            let rect = entry.rect();
+            if level > 1 && opened(&rect, &window) {
+                self.open(pool, entry.pointer, request, finding);
             }
-            if words[0] == 1 && self.lists(request.kind, &rect, &window) {
-                finding.0.push(entry[4]);
+            if level == 1 && self.lists(request.kind, &rect, &window) {
+                finding.0.push(entry.pointer);
             }
         }
     }

@@ -219,7 +219,7 @@ fn events_of(pool: &mut [i32], requests: &[Request]) -> Events {
     let mut work = pool.to_vec();
     let mut answers = vec![Answer::default(); requests.len()];
     let mut found = vec![Found::default(); 64];
-    let result = call_counting(pool, &mut work, requests, &mut answers, &mut found, &mut events);
+    let result = call_counting(pool, &mut work, requests, &mut answers, &mut found, 1, &mut events);
     assert_eq!(result, 0);
     events
 }

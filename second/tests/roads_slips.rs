@@ -5,7 +5,7 @@
 //! of the kept examples, and for some of the drawn histories of roads.
 
 use second::generate::history;
-use second::pool::{entry_rect, entry_words, slot_words, Slot};
+use second::pool::{entries, slot_words, Slot};
 use second::script::{blank_pool, parse};
 use second::style::{Style, STYLES};
 use second::{call, cover, joint_cover, Answer, Found, Rect, Request};
@@ -106,11 +106,11 @@ enum Tree {
 impl Tree {
     /// What is below a slot of a pool.
     fn read(pool: &[i32], slot: i32) -> Tree {
-        let words = slot_words(pool, Slot(slot as usize));
-        let mut entries = (1..=words[1] as usize).map(|place| entry_words(words, place));
-        match words[0] {
-            1 => Tree::Leaf(entries.map(|entry| (entry_rect(entry), entry[4])).collect()),
-            _ => Tree::Inner(entries.by_ref().map(|entry| Tree::read(pool, entry[4])).collect()),
+        let slot = Slot(slot as usize);
+        let entries = entries(pool, slot).into_iter();
+        match slot_words(pool, slot)[0] {
+            1 => Tree::Leaf(entries.map(|entry| (entry.rect(), entry.pointer)).collect()),
+            _ => Tree::Inner(entries.map(|entry| Tree::read(pool, entry.pointer)).collect()),
         }
     }
 

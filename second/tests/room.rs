@@ -7,7 +7,7 @@ use second::generate::Generator;
 use second::rooms::{self, outcome, Case};
 use second::rooms_kept::{kept, pool_over, pool_with_way, HERE, WAYS};
 use second::style::STYLES;
-use second::{room, sound, Request};
+use second::{room, sound, Edition, Request};
 
 const LIMIT: i32 = 1_000_000_000;
 
@@ -196,7 +196,7 @@ fn refused_1() {
 fn refused_2() {
     let pool = full_pool_of_four();
     let last_leaf = 8 + 42 * 2;
-    for (word, value) in [(0, 2), (1, 0), (2, 3), (3, 18), (5, 1), (last_leaf + 1, 7)] {
+    for (word, value) in [(0, 3), (1, 0), (2, 3), (3, 18), (5, 1), (last_leaf + 1, 7)] {
         let mut damaged = pool.clone();
         damaged[word] = value;
         assert!(!sound(&damaged));
@@ -307,17 +307,19 @@ fn lines_of_cases() {
 
 #[test]
 fn drawn_cases_are_the_same_each_time() {
-    let text = rooms::cases(5, 400);
-    assert_eq!(text, rooms::cases(5, 400));
-    assert_ne!(text, rooms::cases(6, 400));
-    assert_eq!(rooms::run(&text), Ok(text));
+    for edition in [Edition::One, Edition::Two] {
+        let text = rooms::cases(edition, 5, 400);
+        assert_eq!(text, rooms::cases(edition, 5, 400));
+        assert_ne!(text, rooms::cases(edition, 6, 400));
+        assert_eq!(rooms::run(&text), Ok(text));
+    }
 }
 
 /// What the kept cases and the drawn ones meet, each on their own: every number, needed slots from
 /// none to the whole way, too few and just enough.
 #[test]
 fn every_number_is_met() {
-    let (text, count) = (rooms::cases(1, 3_000), kept().len());
+    let (text, count) = (rooms::cases(Edition::One, 1, 3_000), kept().len());
     assert!(count < 200, "{count} are the same for every seed");
     let drawn = text.lines().skip(count).map(|line| rooms::parse(line).expect("a case"));
     for cases in [kept(), drawn.collect()] {

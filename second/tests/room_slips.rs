@@ -4,7 +4,7 @@
 //! it is what `room` tells; with one step wrong it is another for some kept case.
 
 use second::dice::Dice;
-use second::pool::{entry_rect, entry_words, slot_words, Slot, HEAD_WORDS, SLOT_WORDS};
+use second::pool::{each_slot, entries, slot_words, Slot};
 use second::rooms::{answered, outcome, Case};
 use second::rooms_drawn::drawn;
 use second::rooms_kept::kept;
@@ -66,14 +66,15 @@ fn leaf(way: &[bool]) -> bool {
 
 impl Way {
     fn told(&self, Case { pool, rect }: &Case) -> Result<[u32; 2], i32> {
-        let length_right = (50..=172_040).contains(&pool.len()) && pool.len() % 42 == 8;
+        let (slot, longest) = if pool.first() == Some(&2) { (50, 204_808) } else { (42, 172_040) };
+        let length_right =
+            (8 + slot..=longest).contains(&pool.len()) && pool.len() % slot == 8 % slot;
         let rect = Rect::from_words(*rect);
         match (self.refusal)(length_right, sound(pool), rect.valid()) {
             0 => (),
             number => return Err(number),
         }
-        let slots: Vec<(i32, i32)> =
-            pool[HEAD_WORDS..].chunks_exact(SLOT_WORDS).map(|slot| (slot[0], slot[1])).collect();
+        let slots: Vec<(i32, i32)> = each_slot(pool).map(|slot| (slot[0], slot[1])).collect();
         let needed = (self.needed)(&self.down(pool, &rect));
         Ok([needed as u32, (self.free)(&slots) as u32])
     }
@@ -87,9 +88,9 @@ impl Way {
             if words[0] == 1 {
                 return way;
             }
-            let entries = (1..=words[1] as usize).map(|place| entry_words(words, place));
-            let chosen = entries.min_by_key(|entry| (self.choose)(&entry_rect(*entry), rect));
-            slot = chosen.expect("an inner node has entries")[4];
+            let entries = entries(pool, Slot(slot as usize)).into_iter();
+            let chosen = entries.min_by_key(|entry| (self.choose)(&entry.rect(), rect));
+            slot = chosen.expect("an inner node has entries").pointer;
         }
     }
 }

@@ -2,7 +2,7 @@
 
 use second::script::{parse, run};
 use second::style::STYLES;
-use second::{damage, generate, sound};
+use second::{check, damage, generate, Edition};
 
 fn output(text: &str) -> String {
     run(&parse(text).expect("a script"))
@@ -55,17 +55,20 @@ fn generated_scripts_are_the_same_each_time() {
     }
 }
 
-/// Damaged pools are refused 2 or not, as `sound` says; both happen.
+/// Damaged pools are refused 2 or not, as `check` says, and 1 where word 0 says another edition: all
+/// three happen.
 #[test]
 fn damaged_pools() {
-    let mut refused = 0;
-    for seed in 1..=200 {
-        let is_sound = sound(&damage::damaged_pool(seed, 6));
-        let due = if is_sound { "result 0" } else { "result 2" };
-        assert_eq!(first_lines(&damage::script(seed, 6), 1), [due], "seed {seed}");
-        refused += usize::from(!is_sound);
+    for edition in [Edition::One, Edition::Two] {
+        let mut results = [0; 3];
+        for seed in 1..=200 {
+            let number = check(&damage::damaged_pool_of(edition, seed, 6));
+            let due = format!("result {number}");
+            assert_eq!(first_lines(&damage::script(edition, seed, 6), 1), [due], "seed {seed}");
+            results[number as usize] += 1;
+        }
+        assert!(results.iter().all(|&count| count > 0), "{results:?}");
     }
-    assert!((1..200).contains(&refused));
 }
 
 /// A script kept beside the program, and what is due.
@@ -95,6 +98,7 @@ fn the_examples_kept() {
         kept!("roads-crossing"),
         kept!("roads-blocks"),
         kept!("roads-far"),
+        kept!("shared"),
     ];
     for (name, script, due) in kept {
         assert_eq!(output(script), due, "{name}");

@@ -29,7 +29,7 @@ fn sound_pools() {
 
 #[test]
 fn the_head() {
-    for (word, value) in [(0, 0), (0, 2), (4, 1), (5, -1), (6, 1), (7, 9)] {
+    for (word, value) in [(0, 0), (0, 2), (0, 3), (0, -1), (4, 1), (5, -1), (6, 1), (7, 9)] {
         assert!(!sound(&changed(word, value)), "word {word} as {value}");
     }
 }

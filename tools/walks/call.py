@@ -106,7 +106,7 @@ class Call:
                 walk.head(3, slice_.word, slice_.token)
 
     def steps(self, walk, says, operands, promise, result="r", equation_="e", is_="is", longs=None):
-        """The call: `operands` are the locals passed; `promise` is what the callee says of the result and of the last lists `zs`.
+        """The call: `operands` are the locals passed, or a term for a literal; `promise` is what the callee says of the result and of the last lists `zs`.
 
         After it, `promise` is known by the name `equation_`, that the local's value v stands for the result by `is_`, and that each
         list lent is as long as it was by the names of `longs`.
@@ -134,7 +134,8 @@ class Call:
         walk.put_line(f"calls ! (fmOf 𝓤 H (W .laws) 𝓣) {count} {callee.alias}.ended ({callee.alias}.clauses 𝓤 H A mem run) {callee.known}")
         walk.lines += self.bound(walk.indent)
         walk.put_line(f"({self.asked(says)})")
-        walk.binds(f"{after.operands(*map(after.held, operands))} (λ v {result} zs.")
+        held = (after.held(operand) if isinstance(operand, int) else operand for operand in operands)
+        walk.binds(f"{after.operands(*held)} (λ v {result} zs.")
         walk.head(count, *(a.token for a in self.slices), "result", "lasts", "promise")
 
     def last_values(self, walk, longs):

@@ -1,26 +1,28 @@
-"""The walk of `batch::carry`: a loop that reads an item from two `&[i32]` and stores it as a record in a `&mut [Record]`."""
+"""The walk of `batch::carry`: a loop that reads an item from two `&[i32]` and stores it as a record in a `&mut [FoundRecord]`."""
 
 from call import Call, Given, Passed
 from declare import abbreviation, lemma
 from function import Function
 from parameters import Callee, Number, Slice
 from rows import I32, UNIT, USIZE, pruned
-from structs import RECORD
+from structs import FOUND_RECORD
 from walk import Walk
 
 POOL = Slice("pool", "p", False, I32, "ps", 0)
 WORK = Slice("work", "w", False, I32, "ws", 1)
-FOUND = Slice("found", "f", True, RECORD, "fs", 2)
+FOUND = Slice("found", "f", True, FOUND_RECORD, "fs", 2)
 ITEM = Callee("found_items", "item", "item")
 LOCALS = ["tyUnit", "ty-p", "ty-w", "word", "ty-f", "word", "word", "F′.mir", "tyBool", "word", "word", "tyPtr"]
 ASKS = "(2 * n ≤ length ws) × Pointing ps ws 0 n × (at + n ≤ length fs)"
-CARRY = Function("batch", "carry", [POOL, WORK, Number("n"), FOUND, Number("at")], UNIT, LOCALS, [RECORD], [ITEM], ASKS)
+CARRY = Function("batch", "carry", [POOL, WORK, Number("n", USIZE), FOUND, Number("at", USIZE)], UNIT, LOCALS, [FOUND_RECORD], [ITEM], ASKS)
 
 WHY = """The found list is opened before the loop and closed after it; a turn has `item` read a record and stores it. \
 What a turn keeps, on lists, is in `Carries.antt`."""
 IMPORTS = """
 lib.Seq: sets
-Rattle.found_items.specs.Items: itemAt itemsFrom spotAt Pointing
+Rattle.rules.specs.Layout: rectSize
+Rattle.found_items.specs.Items: shownAt shownFrom spotAt Pointing
+Rattle.found_items.proofs.Words: pointing-rect
 Rattle.batch.proofs.Carries: Upto ≺ wf start next less stored stored-long stored-none stored-more
 """
 
@@ -43,18 +45,18 @@ def turn():
     walk = tested()
     walk.put_line(f"stays ! {walk.held(8)} $")
     walk.note("let r = found_items::item(pool, work, k);")
-    call = Call(ITEM, [Passed(POOL, 0), Passed(WORK, 1), Given(USIZE, "s .k", "k-fits")], RECORD, 7)
-    call.steps(walk, "says-all ! (more-facts 𝓤 in-w (one-fact 𝓤 in-p))", [1, 2, 6], "r ≡ itemAt ps ws (s .k)")
-    walk.rewrite("_7", CARRY.holds(7, "u", "u : Val"), RECORD.told("r"))
+    call = Call(ITEM, [Passed(POOL, 0), Passed(WORK, 1), Given(USIZE, "s .k", "k-fits")], FOUND_RECORD, 7)
+    call.steps(walk, "says-all ! (more-facts 𝓤 in-w (one-fact 𝓤 in-p))", [1, 2, 6], "r ≡ shownAt ps ws (s .k)")
+    walk.rewrite("_7", CARRY.holds(7, "u", "u : Val"), FOUND_RECORD.told("r"))
     walk.note("found[at + k] = r;")
     walk.assign(9, f"(bin ! {walk.held(5)} {walk.held(6)} (record {{ fits = sum-fits }}))", "tt, record { fits = sum-fits }")
     walk.assign(10, f"(bin ! {walk.held(9)} (lit ! tt) (record {{ fits = place-fits }}))", "tt, record { fits = place-fits }")
     walk.assign(11, f"(bin ! {walk.field(4, 0)} {walk.held(10)} tt)", "tt, tt")
     walk.rewrite("_11", CARRY.holds(11, "vptr bf p", "p : ℕ"), "sym (place-is 20 of (at + s .k))")
-    walk.store(FOUND, "now-at s", "at + s .k", 11, 7, "r", RECORD.spelt("r"), "in-f")
+    walk.store(FOUND, "now-at s", "at + s .k", 11, 7, "r", FOUND_RECORD.spelt("r"), "in-f")
     row = "‵ (row F.the-row fullShare {} bf of)"
-    walk.rewrite("found.row", f"λ (x : Record). {row.format('(set (now-at s) (at + s .k) x)')}", "e")
-    walk.rewrite("found.row", f"λ (l : List Record). {row.format('l')}", "stored-more ps ws fs at (s .k)")
+    walk.rewrite("found.row", f"λ (x : FoundRecord). {row.format('(set (now-at s) (at + s .k) x)')}", "e")
+    walk.rewrite("found.row", f"λ (l : List FoundRecord). {row.format('l')}", "stored-more ps ws fs at (s .k)")
     walk.note("k += 1;")
     walk.assign(6, f"(bin ! {walk.held(6)} (lit ! tt) (record {{ fits = next-fits }}))", "tt, record { fits = next-fits }", last=True)
     walk.rewrite("_6", CARRY.holds(6, "vint w64 m", "m : ℕ"), "add-one (s .k)")
@@ -77,7 +79,7 @@ def opens():
     """The found list is opened."""
     walk = Walk(BEFORE, 10)
     walk.open(FOUND)
-    walk.rewrite("found.row", "λ (l : List Record). ‵ (row F.the-row fullShare l bf of)", "stored-none ps ws fs at")
+    walk.rewrite("found.row", "λ (l : List FoundRecord). ‵ (row F.the-row fullShare l bf of)", "stored-none ps ws fs at")
     walk.go_to(TEST, "looped (start n)")
     return walk.text()
 
@@ -92,7 +94,7 @@ FACTS_OF_A_TURN = """
 lt : s .k < n = ltb-true _ _ test
 k-fits : s .k < 2 ^ 64 = omega (arith, lt, n-fits)
 in-w : 2 * s .k + 2 ≤ length ws = omega (arith, lt, pre .0)
-in-p : spotAt ws (s .k) + 4 ≤ length ps = pre .1 .inside (s .k) (omega arith) (omega (arith, lt))
+in-p : spotAt ws (s .k) + rectSize ≤ length ps = pointing-rect (pre .1) (s .k) (omega arith) (omega (arith, lt))
 sum-fits : at + s .k < 2 ^ 64 = omega (arith, lt, pre .2, room-f .0)
 place-fits : (at + s .k) * 20 < 2 ^ 64 = omega (arith, lt, pre .2, room-f .1)
 next-fits : s .k + 1 < 2 ^ 64 = omega (arith, lt, n-fits)
@@ -120,12 +122,12 @@ def loop():
 
 def text():
     """The proof of `carry`."""
-    now = abbreviation("now-at", "Upto n → List Record", "stored ps ws fs at (s .k)", 2, "s", "the found list once k records are stored")
+    now = abbreviation("now-at", "Upto n → List FoundRecord", "stored ps ws fs at (s .k)", 2, "s", "the found list once k records are stored")
     return pruned(
         CARRY.head(WHY, IMPORTS)
         + CARRY.opening()
         + CARRY.basics("opened-found")
-        + CARRY.exits("nf ≡ sets fs at (itemsFrom ps ws 0 n)")
+        + CARRY.exits("nf ≡ sets fs at (shownFrom ps ws 0 n)")
         + now
         + CARRY.machine()
         + CARRY.left("mir.t-3")

@@ -7,7 +7,7 @@ them between the texts that `Function` gives: see README.md. The steps that are 
 from declare import abbreviation, imported, lemma, signature
 from layout import bracketed, list_of, part, product_of, subscript, tuple_lines, tuple_of, wrapped
 from parameters import Number, Slice
-from rows import I32, UNIT, USIZE
+from rows import I32, UNIT
 from walk import Context, Walk, is_of_local
 
 # What a walk may import. Names that a file does not use are taken out when it is written (`generate`).
@@ -45,7 +45,7 @@ denote.RattleType: owns
 denote.Laws: Is Typed shows
 denote.Memory: pointee
 denote.Plain: uint-vals uint-tells bool-tells bool-lawful nothing-lawful
-denote.Signed: sint-tells sint-lawful
+denote.Signed: sint-vals sint-tells sint-lawful
 denote.Builtin: i32 bool unit usize
 denote.Ref: RefT
 denote.Slice: sliceTy sliceVal slice-vals MutSlice ShrSlice Room mut-slice-tells shr-slice-tells
@@ -152,7 +152,7 @@ class Function:
         stays = []
         for parameter in self.parameters:
             if isinstance(parameter, Number):
-                stays.append("stay-none (λ _. usize) yes")
+                stays.append(f"stay-none (λ _. {parameter.row.row}) yes")
             elif parameter.mutable:
                 stays.append(f"stay-slice ({parameter.number} ∷ []) tt (plain (λ _. {parameter.row.row}))")
             else:
@@ -180,8 +180,8 @@ class Function:
         binders, rooms = [], []
         for p in self.parameters:
             if isinstance(p, Number):
-                binders.append(f"({p.name} : ℕ)")
-                rooms.append(f"({p.fits} : {p.name} < 2 ^ 64)")
+                binders.append(f"({p.name} : {p.row.element})")
+                rooms.append(f"({p.fits} : {p.row.bound.format(p.name)})")
             else:
                 binders.append(f"({p.block} {p.offset} : ℕ) ({p.ghost} : GName) ({p.list} : List {p.row.element})")
                 rooms.append(f"({p.room} : Room {p.row.row} (length {p.list}))")
@@ -198,7 +198,7 @@ class Function:
         for slice_ in self.slices:
             right = f"sliceVal ({slice_.block}, {slice_.offset}) (length {slice_.list})"
             text += abbreviation(slice_.value, "Val", right, 2)
-        types = [f"RefT (List {p.row.element})" if isinstance(p, Slice) else "ℕ" for p in self.parameters]
+        types = [f"RefT (List {p.row.element})" if isinstance(p, Slice) else p.row.element for p in self.parameters]
         terms = [f"ref {p.spot} {p.list}" if isinstance(p, Slice) else p.name for p in self.parameters]
         text += abbreviation("passed", product_of(types), tuple_of(terms), 2, why="the arguments, and their machine values")
         text += abbreviation("vals", product_of(["List Val"] * len(terms)), tuple_of([f"{p.value} ∷ []" for p in self.parameters]), 2)
@@ -248,7 +248,7 @@ class Function:
             walk.rewrite(s.word, f"λ (m : ℕ). ‵ ({at})", s.long)
         walk.note("the tokens, what is had of the parameters, and the result")
         walk.frame([s.token for s in self.slices])
-        walk.own([(p.word,) if isinstance(p, Slice) else (USIZE, p.name, p.fits) for p in self.parameters])
+        walk.own([(p.word,) if isinstance(p, Slice) else (p.row, p.name, p.fits) for p in self.parameters])
         if self.result is UNIT:
             walk.put("feqI ! (List Val) (vunit ∷ []) (vunit ∷ []) refl $")
         else:
@@ -301,7 +301,7 @@ class Function:
             walk.head(0, f"_{number}", f"d{number}")
         walk.put("alloc0 ! $ params1 ! $")
         for number, p in enumerate(self.parameters, 1):
-            typed = f"tt, (tt, (record {{ fits = {p.room} .0 }}, tt))" if isinstance(p, Slice) else f"tt, record {{ fits = {p.fits} }}"
+            typed = f"tt, (tt, (record {{ fits = {p.room} .0 }}, tt))" if isinstance(p, Slice) else p.row.cell.format(p.name, p.fits)
             walk.put(f"pass1 ! {walk.writes(number, typed)} $")
         walk.put("pass0 ! $")
         begin(walk)
@@ -316,7 +316,7 @@ class Function:
         tokens = "‵ ftrue"
         for s in reversed(self.slices):
             tokens = f"(‵ (flft {s.lifetime} {s.share}) ⊛ {tokens})"
-        types = [f"{p.kind} (named {p.number}) {p.lifetime} {p.row.row}" if isinstance(p, Slice) else "usize" for p in self.parameters]
+        types = [f"{p.kind} (named {p.number}) {p.lifetime} {p.row.row}" if isinstance(p, Slice) else p.row.row for p in self.parameters]
         walk.put_line(f"qed W ({tokens} ∷ ‵ (owns ({list_of(types)}) passed vals) ∷ []) ∵")
         walk.note("the tokens and the parameters, apart")
         for s in self.slices:
@@ -341,8 +341,8 @@ class Function:
         for index, p in enumerate(self.parameters):
             given, are = part("given", index), part("are", index)
             if isinstance(p, Number):
-                spells.append("uint-vals w64")
-                tells.append("uint-tells w64")
+                spells.append(p.row.spells)
+                tells.append(p.row.tells)
                 ghosts.append(f"({given})")
                 rooms.append(f"({are} .1)")
             else:
@@ -368,7 +368,7 @@ class Function:
         goes, count = [], len(self.slices)
         for p in self.parameters:
             if isinstance(p, Number):
-                goes.append(f"goes-none 𝓤 H A W {count} (λ _. usize) yes (λ κs x f. refl)")
+                goes.append(f"goes-none 𝓤 H A W {count} (λ _. {p.row.row}) yes (λ κs x f. refl)")
             elif p.mutable:
                 goes.append(f"goes-slice 𝓤 H A W {count} {p.number} tt (plain (λ _. {p.row.row}))")
             else:

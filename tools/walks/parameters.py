@@ -53,10 +53,10 @@ class Slice:
 
 
 class Number:
-    """A parameter of type usize."""
+    """A parameter that is a number, of the type `row`: a usize or an i32."""
 
-    def __init__(self, name):
-        self.name, self.value, self.fits = name, f"vint w64 {name}", f"{name}-fits"
+    def __init__(self, name, row):
+        self.name, self.row, self.value, self.fits = name, row, row.value(name), f"{name}-fits"
 
 
 class Callee:

@@ -9,9 +9,10 @@ from layout import bracketed
 class Scalar:
     """A type of numbers or truth values, as the kit has it; `has` is the step by which what is owned of a value is had."""
 
-    def __init__(self, row, element, written, value, has, lawful, tells):
+    def __init__(self, row, element, written, value, has, lawful, tells, spells=None, fits=None, typed=None):
         self.row, self.element, self.written = row, element, written
         self.form, self.step, self.lawful, self.tells = value, has, lawful, tells
+        self.spells, self.bound, self.cell = spells, fits, typed
 
     def value(self, term):
         """The machine value of a term."""
@@ -26,8 +27,14 @@ class Scalar:
         return f"ap only ({self.tells} {term} (v ∷ []) is)"
 
 
-I32 = Scalar("i32", "ℤ", "tyInt w32", "vint w32 (ofZ w32 {})", "has-i32", "sint-lawful 𝓤 H A W w32", "sint-tells w32")
-USIZE = Scalar("usize", "ℕ", "tyInt w64", "vint w64 {}", "has-usize", None, None)
+I32 = Scalar(
+    *("i32", "ℤ", "tyInt w32", "vint w32 (ofZ w32 {})", "has-i32", "sint-lawful 𝓤 H A W w32", "sint-tells w32"),
+    *("sint-vals w32", "mag {} < 2 ^ hbits w32", "sint-lawful 𝓤 H A W w32 .typed {} _ (refl, {}) .0"),
+)
+USIZE = Scalar(
+    *("usize", "ℕ", "tyInt w64", "vint w64 {}", "has-usize", None, "uint-tells w64"),
+    *("uint-vals w64", "{} < 2 ^ 64", "tt, record {{ fits = {1} }}"),
+)
 BOOL = Scalar("bool", "Bool", "tyBool", "vbool {}", "has-bool", "bool-lawful 𝓤 H A W", "bool-tells")
 UNIT = Scalar("unit", "Unit {0}", "tyUnit", "vunit", None, "nothing-lawful 𝓤 H A W", None)
 

@@ -3,16 +3,16 @@
 from call import Call, Given, Lent
 from declare import abbreviation, lemma
 from function import Function
-from parameters import Callee, Slice
+from parameters import Callee, Number, Slice
 from rows import I32, UNIT, USIZE, pruned
-from structs import ANSWER, FREE_SLOTS, PROGRESS, RECORD, REQUEST, SERVED, STEPPED
+from structs import ANSWER, FOUND_RECORD, FREE_SLOTS, PROGRESS, REQUEST, SERVED, STEPPED
 from walk import Walk
 
 POOL = Slice("pool", "p", True, I32, "ps", 0)
 WORK = Slice("work", "w", True, I32, "ws", 1)
 REQUESTS = Slice("requests", "q", False, REQUEST, "qs", 2)
 ANSWERS = Slice("answers", "r", True, ANSWER, "rs", 3)
-FOUND = Slice("found", "f", True, RECORD, "fs", 4)
+FOUND = Slice("found", "f", True, FOUND_RECORD, "fs", 4)
 BEGUN = Callee("batch", "begun", "begun")
 ONE_REQUEST = Callee("request", "one_request", "request")
 STEP = Callee("batch", "step", "step")
@@ -22,19 +22,19 @@ CARRY = Callee("batch", "carry", "carry")
 SEEN, CHANGED = "tyRef erased imm (tyInt w32)", "tyRef erased mut (tyInt w32)"
 LISTED = "tyRef erased mut (pointee (F.the-row .written))"
 LOCALS = [
-    *("tyUnit", "ty-p", "ty-w", "ty-q", "ty-r", "ty-f", "K′.mir", "word", "Q′.mir", "word", "word", "S′.mir", "D′.mir", "T′.mir", "word"),
-    *("word", "word", "R′.mir", SEEN, "lent-imm", "word", "tyBool", "tyPtr", "Q′.mir", CHANGED, "lent-mut", CHANGED, "lent-mut", "tyUnit"),
+    *("tyUnit", "ty-p", "ty-w", "ty-q", "ty-r", "ty-f", "tyInt w32", "K′.mir", "word", "Q′.mir", "word", "word", "S′.mir", "D′.mir", "T′.mir"),
+    *("word", "word", "word", "R′.mir", SEEN, "lent-imm", "word", "tyBool", "tyPtr", "Q′.mir", CHANGED, "lent-mut", CHANGED, "lent-mut", "tyUnit"),
     *(SEEN, "lent-imm", SEEN, "lent-imm", LISTED, "lent-f", "tyPtr"),
 ]
 SERVE = Function(
     "batch",
     "serve",
-    [POOL, WORK, REQUESTS, ANSWERS, FOUND],
+    [POOL, WORK, REQUESTS, ANSWERS, FOUND, Number("who", I32)],
     UNIT,
     LOCALS,
-    [REQUEST, ANSWER, RECORD, SERVED, FREE_SLOTS, PROGRESS, STEPPED],
+    [REQUEST, ANSWER, FOUND_RECORD, SERVED, FREE_SLOTS, PROGRESS, STEPPED],
     [BEGUN, ONE_REQUEST, STEP, CARRY],
-    "callFault (lentOf ps ws qs rs fs) ≡ none",
+    "callFault (lentOf (owner who) ps ws qs rs fs) ≡ none",
 )
 
 WHY = """The requests are looked into and the answers opened before the loop, and shut after it; the pool, the workspace and \
@@ -43,8 +43,9 @@ what becomes of it, `carry` stores its records, its answer is stored. What a tur
 IMPORTS = """
 lib.Seq: sets
 mathlib.Core.WellFounded: WellFounded InvImage·wf
+Rattle.rules.specs.Owners: owner
 Rattle.rules.specs.Call: Lent callFault
-Rattle.found_items.specs.Items: itemsFrom Pointing
+Rattle.found_items.specs.Items: shownFrom Pointing
 Rattle.promises.specs.Calls: lent=lentOf
 Rattle.batch.specs.Batching: Begun stepOf batchOf Batched
 Rattle.batch.proofs.Asks: none=nothing-asked
@@ -66,10 +67,10 @@ def turning(pool, work, found, values):
 
 # the contexts of the cuts, in the order in which they come
 ENTRY = SERVE.lists("ps", "ws", "rs", "fs")
-BEGINNING = SERVE.context([ENTRY], {19: "sliceVal (bp, op) (length ps)"})
-BEGUN_AT = SERVE.context([ENTRY], {6: "k-val x"})
+BEGINNING = SERVE.context([ENTRY], {20: "sliceVal (bp, op) (length ps)"})
+BEGUN_AT = SERVE.context([ENTRY], {7: "k-val x"})
 TURNING = turning("s .st .pool", "s .st .work", "s .st .found", {})
-NOW = {6: "k-val (s .st .prog)"}
+NOW = {7: "k-val (s .st .prog)"}
 TEST = turning("s .st .pool", "s .st .work", "s .st .found", NOW)
 READ = turning(
     "s .st .pool",
@@ -77,17 +78,17 @@ READ = turning(
     "s .st .found",
     {
         **NOW,
-        8: "q-val (q s lt)",
-        9: f"vint w64 ({FILLED})",
-        10: "vint w64 (room s lt)",
-        11: "s-val (s .st .prog .free)",
-        25: "sliceVal (bp, op) (length (s .st .pool))",
-        27: "sliceVal (bw, ow) (length (s .st .work))",
+        9: "q-val (q s lt)",
+        10: f"vint w64 ({FILLED})",
+        11: "vint w64 (room s lt)",
+        12: "s-val (s .st .prog .free)",
+        26: "sliceVal (bp, op) (length (s .st .pool))",
+        28: "sliceVal (bw, ow) (length (s .st .work))",
     },
 )
-REQUESTED = turning("p", "w", "s .st .found", {**NOW, 12: "d-val r"})
-STEPPED_ON = turning("p", "w", "s .st .found", {**NOW, 13: "t-val (gives s r)"})
-CARRIED = turning("p", "w", "fs′", {**NOW, 13: "t-val (gives s r)"})
+REQUESTED = turning("p", "w", "s .st .found", {**NOW, 13: "d-val r"})
+STEPPED_ON = turning("p", "w", "s .st .found", {**NOW, 14: "t-val (gives s r)"})
+CARRIED = turning("p", "w", "fs′", {**NOW, 14: "t-val (gives s r)"})
 SHUT = SERVE.context([SERVE.lists("s .st .pool", "s .st .work", "s .st .answers", "s .st .found")], emptied=True)
 
 
@@ -95,9 +96,9 @@ def tested():
     """The loop's test, up to the branch."""
     walk = Walk(TEST, 12)
     walk.note("p.done < requests.len()")
-    walk.copy(20, walk.field(3, 1), "tt, record { fits = room-q .0 }")
-    walk.assign(21, f"(bin ! {walk.field(6, 0)} {walk.held(20)} tt)", "tt, tt")
-    walk.rewrite("_21", SERVE.holds(21, "vbool t", "t : Bool"), "test")
+    walk.copy(21, walk.field(3, 1), "tt, record { fits = room-q .0 }")
+    walk.assign(22, f"(bin ! {walk.field(7, 0)} {walk.held(21)} tt)", "tt, tt")
+    walk.rewrite("_22", SERVE.holds(22, "vbool t", "t : Bool"), "test")
     return walk
 
 
@@ -109,25 +110,25 @@ def counted(walk, local, slice_, equation):
 def reads():
     """The request is copied out, and what `one_request` takes is made ready."""
     walk = tested()
-    walk.put_line(f"stays ! {walk.held(21)} $")
+    walk.put_line(f"stays ! {walk.held(22)} $")
     walk.note("let i = p.done; let q = requests[i];")
-    walk.copy(7, walk.field(6, 0), "tt, record { fits = done-fits }")
-    walk.assign(20, f"(bin ! {walk.held(7)} (lit ! tt) (record {{ fits = q-place }}))", "tt, record { fits = q-place }")
-    walk.assign(22, f"(bin ! {walk.field(3, 0)} {walk.held(20)} tt)", "tt, tt")
-    walk.rewrite("_22", SERVE.holds(22, "vptr bq p", "p : ℕ"), f"sym (place-is 40 oq ({DONE}))")
-    walk.copy_out(REQUESTS, f"π qs ({DONE}) nothing-asked bq oq lt", 22, 23, "q s lt", "g")
-    walk.copy(8, walk.held(23), "q-typed (q s lt) g .0")
+    walk.copy(8, walk.field(7, 0), "tt, record { fits = done-fits }")
+    walk.assign(21, f"(bin ! {walk.held(8)} (lit ! tt) (record {{ fits = q-place }}))", "tt, record { fits = q-place }")
+    walk.assign(23, f"(bin ! {walk.field(3, 0)} {walk.held(21)} tt)", "tt, tt")
+    walk.rewrite("_23", SERVE.holds(23, "vptr bq p", "p : ℕ"), f"sym (place-is 40 oq ({DONE}))")
+    walk.copy_out(REQUESTS, f"π qs ({DONE}) nothing-asked bq oq lt", 23, 24, "q s lt", "g")
+    walk.copy(9, walk.held(24), "q-typed (q s lt) g .0")
     walk.note("let filled = p.filled; let room = found.len() - filled; let free = p.free;")
-    walk.copy(9, walk.field(6, 1), "tt, record { fits = filled-fits }")
-    walk.copy(20, walk.field(5, 1), "tt, record { fits = room-f .0 }")
-    walk.rewrite("_20", SERVE.holds(20, "vint w64 m", "m : ℕ"), "sym (s .st .found-long)")
-    walk.assign(10, f"(bin ! {walk.held(20)} {walk.held(9)} filled-in)", "tt, record { fits = room-fits s lt }")
-    walk.copy(11, walk.field(6, 2), "s-typed (s .st .prog .free) (free-is (s .st .prog) (s .is)) .0")
+    walk.copy(10, walk.field(7, 1), "tt, record { fits = filled-fits }")
+    walk.copy(21, walk.field(5, 1), "tt, record { fits = room-f .0 }")
+    walk.rewrite("_21", SERVE.holds(21, "vint w64 m", "m : ℕ"), "sym (s .st .found-long)")
+    walk.assign(11, f"(bin ! {walk.held(21)} {walk.held(10)} filled-in)", "tt, record { fits = room-fits s lt }")
+    walk.copy(12, walk.field(7, 2), "s-typed (s .st .prog .free) (free-is (s .st .prog) (s .is)) .0")
     walk.note("pool and work are lent")
-    walk.lend(24, 25, 1, "room-p .0")
-    counted(walk, 25, POOL, "sym (s .st .pool-long)")
-    walk.lend(26, 27, 2, "room-w .0")
-    counted(walk, 27, WORK, "sym (s .st .work-long)")
+    walk.lend(25, 26, 1, "room-p .0")
+    counted(walk, 26, POOL, "sym (s .st .pool-long)")
+    walk.lend(27, 28, 2, "room-w .0")
+    counted(walk, 28, WORK, "sym (s .st .work-long)")
     walk.go_to(READ, "calls-request s lt g")
     return walk.text()
 
@@ -135,22 +136,23 @@ def reads():
 def requests():
     """The request is done."""
     walk = Walk(READ, 12)
-    walk.note("let s = request::one_request(pool, work, q, filled, room, free);")
+    walk.note("let s = request::one_request(pool, work, owner, q, filled, room, free);")
     arguments = [
         Lent(POOL, 0, "s .st .pool", ROOM_POOL),
         Lent(WORK, 1, "s .st .work", ROOM_WORK),
+        Given(I32, "who", "who-fits"),
         Given(REQUEST, "q s lt", "g"),
         Given(USIZE, FILLED, "filled-fits"),
         Given(USIZE, "room s lt", "room-fits s lt"),
         Given(FREE_SLOTS, "s .st .prog .free", "free-is (s .st .prog) (s .is)"),
     ]
     asks = "one-fact 𝓤 (Batches.many l ok (s .st) lt)"
-    for fact in ("Batches.q-asked l ok (s .st) lt", "Batches.same-long l ok (s .st) lt", "s .st .ready"):
+    for fact in ("ok .owner", "Batches.q-asked l ok (s .st) lt", "Batches.same-long l ok (s .st) lt", "s .st .ready"):
         asks = f"more-facts 𝓤 ({fact}) ({asks})"
     promise = "Batches.Does l ok (s .st) lt r (zs .0) (zs .1 .0)"
     longs = {"pool": "lp", "work": "lw"}
-    Call(ONE_REQUEST, arguments, SERVED, 12).steps(walk, f"says-all ! ({asks})", [25, 27, 8, 9, 10, 11], promise, longs=longs)
-    walk.rewrite("_12", SERVE.holds(12, "u", "u : Val"), SERVED.told("r"))
+    Call(ONE_REQUEST, arguments, SERVED, 13).steps(walk, f"says-all ! ({asks})", [26, 28, 6, 9, 10, 11, 12], promise, longs=longs)
+    walk.rewrite("_13", SERVE.holds(13, "u", "u : Val"), SERVED.told("r"))
     walk.go_to(REQUESTED, f"calls-step s lt r (zs .0) (zs .1 .0) lp lw ({SERVED.spelt('r')}) e")
     return walk.text()
 
@@ -161,11 +163,11 @@ def steps():
     walk.note("let t = step(p, s);")
     few = ["done-few l ok (s .st) lt", "many l ok (s .st) lt", "listed-few l ok (s .st) lt r p w does"]
     says = f"says ! ({', '.join(f'Batches.{fact}' for fact in few)})"
-    call = Call(STEP, [Given(PROGRESS, "s .st .prog", "s .is"), Given(SERVED, "r", "is")], STEPPED, 13)
-    call.steps(walk, says, [6, 12], "t ≡ stepOf (s .st .prog) r", result="t", is_="is′")
-    walk.rewrite("_13", SERVE.holds(13, "u", "u : Val"), STEPPED.told("t", "is′"))
+    call = Call(STEP, [Given(PROGRESS, "s .st .prog", "s .is"), Given(SERVED, "r", "is")], STEPPED, 14)
+    call.steps(walk, says, [7, 13], "t ≡ stepOf (s .st .prog) r", result="t", is_="is′")
+    walk.rewrite("_14", SERVE.holds(14, "u", "u : Val"), STEPPED.told("t", "is′"))
     gives = "e ∙ Batches.step-gives (s .st .prog) r"
-    walk.rewrite("_13", SERVE.holds(13, "t-val x", "x : Stepped"), gives)
+    walk.rewrite("_14", SERVE.holds(14, "t-val x", "x : Stepped"), gives)
     is_t = f"subst (λ (x : Stepped). Is T.the-row x (t-val x ∷ [])) ({gives}) ({STEPPED.spelt('t', 'is′')})"
     walk.go_to(STEPPED_ON, f"calls-carry s lt r p w lp lw does ({is_t})")
     return walk.text()
@@ -175,14 +177,14 @@ def carries():
     """The records are carried to the found list."""
     walk = Walk(STEPPED_ON, 12)
     walk.note("let listed = t.listed; let start = t.start; pool, work and found are lent")
-    walk.copy(14, walk.field(13, 2), "tt, record { fits = listed-fits }")
-    walk.copy(15, walk.field(13, 3), "tt, record { fits = filled-fits }")
-    walk.lend(29, 30, 1, "room-p .0")
-    counted(walk, 30, POOL, "sym (lp ∙ s .st .pool-long)")
-    walk.lend(31, 32, 2, "room-w .0")
-    counted(walk, 32, WORK, "sym (lw ∙ s .st .work-long)")
-    walk.lend(33, 34, 5, "room-f .0")
-    counted(walk, 34, FOUND, "sym (s .st .found-long)")
+    walk.copy(15, walk.field(14, 2), "tt, record { fits = listed-fits }")
+    walk.copy(16, walk.field(14, 3), "tt, record { fits = filled-fits }")
+    walk.lend(30, 31, 1, "room-p .0")
+    counted(walk, 31, POOL, "sym (lp ∙ s .st .pool-long)")
+    walk.lend(32, 33, 2, "room-w .0")
+    counted(walk, 33, WORK, "sym (lw ∙ s .st .work-long)")
+    walk.lend(34, 35, 5, "room-f .0")
+    counted(walk, 35, FOUND, "sym (s .st .found-long)")
     walk.note("carry(pool, work, listed, found, start);")
     arguments = [
         Lent(POOL, 0, "p", "subst (Room i32) (sym (lp ∙ s .st .pool-long)) room-p", shared=True),
@@ -191,8 +193,8 @@ def carries():
         Lent(FOUND, 2, "s .st .found", ROOM_FOUND),
         Given(USIZE, FILLED, "filled-fits"),
     ]
-    promise = f"zs .1 .1 .1 .0 ≡ sets (s .st .found) ({FILLED}) (itemsFrom p w 0 (r .listed))"
-    Call(CARRY, arguments, UNIT, 28).steps(walk, "says ! asked", [30, 32, 14, 34, 15], promise, result="u", longs={"found": "lf"})
+    promise = f"zs .1 .1 .1 .0 ≡ sets (s .st .found) ({FILLED}) (shownFrom p w 0 (r .listed))"
+    Call(CARRY, arguments, UNIT, 29).steps(walk, "says ! asked", [31, 33, 15, 35, 16], promise, result="u", longs={"found": "lf"})
     walk.go_to(CARRIED, "stores s lt r p w does (zs .1 .1 .1 .0) is-t e")
     return walk.text()
 
@@ -201,14 +203,14 @@ def stores():
     """The answer is stored, and the turn ends."""
     walk = Walk(CARRIED, 12)
     walk.note("let place = t.place; let answer = t.answer; answers[place] = answer;")
-    walk.copy(16, walk.field(13, 1), "tt, record { fits = done-fits }")
-    walk.copy(17, walk.field(13, 0), "r-typed (r .answer) (answer-is (gives s r) is-t) .0")
-    walk.assign(20, f"(bin ! {walk.held(16)} (lit ! tt) (record {{ fits = r-place }}))", "tt, record { fits = r-place }")
-    walk.assign(35, f"(bin ! {walk.field(4, 0)} {walk.held(20)} tt)", "tt, tt")
-    walk.rewrite("_35", SERVE.holds(35, "vptr br p", "p : ℕ"), f"sym (place-is 16 or ({DONE}))")
-    walk.store(ANSWERS, "s .st .answers", DONE, 35, 17, "r .answer", "answer-is (gives s r) is-t", "r-lt")
+    walk.copy(17, walk.field(14, 1), "tt, record { fits = done-fits }")
+    walk.copy(18, walk.field(14, 0), "r-typed (r .answer) (answer-is (gives s r) is-t) .0")
+    walk.assign(21, f"(bin ! {walk.held(17)} (lit ! tt) (record {{ fits = r-place }}))", "tt, record { fits = r-place }")
+    walk.assign(36, f"(bin ! {walk.field(4, 0)} {walk.held(21)} tt)", "tt, tt")
+    walk.rewrite("_36", SERVE.holds(36, "vptr br p", "p : ℕ"), f"sym (place-is 16 or ({DONE}))")
+    walk.store(ANSWERS, "s .st .answers", DONE, 36, 18, "r .answer", "answer-is (gives s r) is-t", "r-lt")
     walk.note("p = t.next;")
-    walk.copy(6, walk.field(13, 4), "k-typed (gives s r .next) (next-is (gives s r) is-t) .0", last=True)
+    walk.copy(7, walk.field(14, 4), "k-typed (gives s r .next) (next-is (gives s r) is-t) .0", last=True)
     after = "record { st = Batches.next l ok (s .st) lt r p w does fs′ carried; is = next-is (gives s r) is-t }"
     walk.go_to(TEST, f"again ! ⊰ Inv s ({after})\n            (Batches.less l ok (s .st) lt r p w does fs′ carried)")
     return walk.text()
@@ -217,7 +219,7 @@ def stores():
 def ends():
     """The turn that leaves the loop."""
     walk = tested()
-    walk.put_line(f"leaves-loop ! {walk.held(21)} $ exec ! (𝓣 .C) (𝓣 .Λ) E mir.t-5 (atRet E Post) $")
+    walk.put_line(f"leaves-loop ! {walk.held(22)} $ exec ! (𝓣 .C) (𝓣 .Λ) E mir.t-5 (atRet E Post) $")
     walk.go_to(TEST, "shuts-lists s out")
     return walk.text()
 
@@ -255,16 +257,16 @@ def begun():
     """No request is done."""
     walk = Walk(BEGINNING, 10)
     walk.note("let mut p = begun(pool);")
-    call = Call(BEGUN, [Lent(POOL, 0, "ps", "room-p", shared=True)], PROGRESS, 6)
-    call.steps(walk, "says ! (ok .right)", [19], "Begun ps x", result="x")
-    walk.rewrite("_6", SERVE.holds(6, "u", "u : Val"), PROGRESS.told("x"))
+    call = Call(BEGUN, [Lent(POOL, 0, "ps", "room-p", shared=True)], PROGRESS, 7)
+    call.steps(walk, "says ! (ok .right)", [20], "Begun ps x", result="x")
+    walk.rewrite("_7", SERVE.holds(7, "u", "u : Val"), PROGRESS.told("x"))
     walk.go_to(BEGUN_AT, f"opened x ({PROGRESS.spelt('x')}) e")
     return walk.text()
 
 
 def begins(walk):
     """The pool is lent."""
-    walk.lend(18, 19, 1, "room-p .0")
+    walk.lend(19, 20, 1, "room-p .0")
 
 
 LENT_TYPES = {"lent-imm": SEEN, "lent-mut": CHANGED, "lent-f": LISTED}
@@ -284,7 +286,7 @@ next-is x is = LL.owed T.the-type T′.the-laws x _ is .1 .1 .1 .1 .0
 
 STATE = """
   abbrev l : Lent
-  l = lentOf ps ws qs rs fs
+  l = lentOf (owner who) ps ws qs rs fs
 
   ok : Fine l
   ok = fine l pre
@@ -351,7 +353,7 @@ MORE = "(s : At) (lt : More s)"
 DID = f"{MORE} (r : Served) (p w : List ℤ)"
 KEPT = "length p ≡ length (s .st .pool) → length w ≡ length (s .st .work)"
 DOES, IS_STEPPED = "Batches.Does l ok (s .st) lt r p w", "Is T.the-row (gives s r) (t-val (gives s r) ∷ [])"
-IS_CARRIED = f"fs′ ≡ sets (s .st .found) ({FILLED}) (itemsFrom p w 0 (r .listed))"
+IS_CARRIED = f"fs′ ≡ sets (s .st .found) ({FILLED}) (shownFrom p w 0 (r .listed))"
 TESTED = f"ltb ({DONE}) (length qs)"
 
 
@@ -363,7 +365,7 @@ def part_of_turn(name, hypotheses, place, context, arguments, cut, unfolding=Non
 
 def turn():
     """The five parts of a turn, from the last to the first."""
-    stored = f"{DID} (does : {DOES}) (fs′ : List Record) → {IS_STEPPED} → {IS_CARRIED}"
+    stored = f"{DID} (does : {DOES}) (fs′ : List FoundRecord) → {IS_STEPPED} → {IS_CARRIED}"
     carried = f"{DID} → {KEPT} → {DOES} → {IS_STEPPED}"
     stepped = f"{DID} → {KEPT} → Is D.the-row r (d-val r ∷ []) → {DOES}"
     asked = f"{MORE} → Is Q.the-row (q s lt) (q-val (q s lt) ∷ [])"
@@ -402,7 +404,7 @@ def loop():
     """What holds at the loop's test, a turn, and the loop."""
     turn_type = "Sq W Γ (runs (𝓣 .C) (𝓣 .Λ) E (rest-of k mir.turn-1) (anyQ (afterTurn 𝓤 H (Below 𝓤 H A ⊰ Inv s) Left)))"
     lists = "the-pool p ++ the-work w ++ the-found f ++ looked-requests π ++ opened-answers (s .st .answers)"
-    lists_type = "At → List ℤ → List ℤ → List Record → List (Item 𝓤)"
+    lists_type = "At → List ℤ → List ℤ → List FoundRecord → List (Item 𝓤)"
     why = "the lists inside the loop: the pool, the workspace and the found list may be others than at the test"
     return (
         "      module _ (π : Share) where\n"

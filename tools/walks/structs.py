@@ -4,7 +4,7 @@ from rows import Struct
 
 REQUEST = Struct("Q", "rules", "Request")
 ANSWER = Struct("R", "rules", "Answer")
-RECORD = Struct("F", "rules", "Record")
+FOUND_RECORD = Struct("F", "rules", "FoundRecord")
 SERVED = Struct("D", "request", "Served")
 FREE_SLOTS = Struct("S", "free_slots", "FreeSlots")
 PROGRESS = Struct("K", "batch", "Progress")

@@ -3,10 +3,17 @@
 //! The numbers that come back are those of the header; `numbers` has a name and the words for each. A rectangle that a surveyor or
 //! dispatch gives in doubles is made by `Rect::from_box`, `Rect::from_point` and `Rect::from_disc`. `room` tells beforehand whether
 //! an insert fits. `write` and `read` carry a map between offices, as one file of its records.
+//!
+//! Two owners share a pool of edition 2: `blank_as` and `read_as` are told the edition, and `call_as` the owner. What is told is a
+//! case of an enum here; `plain` has the same calls for any number.
 
 pub mod numbers;
+mod owners;
+pub mod plain;
 
-/// The words of a pool before its first slot, and of a slot.
+pub use owners::{Edition, Owner, Rule};
+
+/// The words of a pool before its first slot, and of a slot of edition 1.
 pub const HEAD_WORDS: usize = 8;
 pub const SLOT_WORDS: usize = 42;
 
@@ -159,24 +166,36 @@ impl Request {
     }
 }
 
-/// The words of a pool of so many slots.
+/// The words of a pool of edition 1 of so many slots; `Edition::words` has those of each edition.
 pub const fn words(slots: usize) -> usize {
-    HEAD_WORDS + SLOT_WORDS * slots
+    Edition::One.words(slots)
 }
 
-/// Bytes that are always enough for the file of a pool of so many slots, which holds at most eight records for each: 12 for the
-/// first frame, 24 for each record, 4 for the last frame.
+/// Bytes that are always enough for the file of such a pool; `Edition::file_bytes` has those of each edition.
 pub const fn file_bytes(slots: usize) -> usize {
-    12 + 24 * 8 * slots + 4
+    Edition::One.file_bytes(slots)
 }
 
-/// A blank pool of so many slots, 1 to 4,096; none for any other number.
+/// A blank pool of edition 1 of so many slots, 1 to 4,096; none for any other number.
 pub fn blank_pool(slots: usize) -> Option<Vec<i32>> {
+    blanked(slots, Edition::One, blank)
+}
+
+/// The same of that edition and rule.
+pub fn blank_pool_as(slots: usize, edition: Edition, rule: Rule) -> Option<Vec<i32>> {
+    blanked(slots, edition, |pool| blank_as(pool, edition, rule))
+}
+
+fn blanked(
+    slots: usize,
+    edition: Edition,
+    blank: impl FnOnce(&mut [i32]) -> i32,
+) -> Option<Vec<i32>> {
     if !(1..=MOST_SLOTS).contains(&slots) {
         return None;
     }
-    let mut pool = vec![0; words(slots)];
-    (blank(&mut pool) == 0).then_some(pool)
+    let mut pool = vec![0; edition.words(slots)];
+    (blank(&mut pool) == numbers::ACCEPTED).then_some(pool)
 }
 
 mod exported {
@@ -186,6 +205,7 @@ mod exported {
     // pointer.
     extern "C" {
         pub fn dustmap_blank(pool: *mut i32, pool_len: usize) -> i32;
+        pub fn dustmap_blank_as(pool: *mut i32, pool_len: usize, edition: i32, rule: i32) -> i32;
         pub fn dustmap_check(pool: *const i32, pool_len: usize) -> i32;
         pub fn dustmap_call(
             pool: *mut i32,
@@ -198,6 +218,19 @@ mod exported {
             n_answers: usize,
             found: *mut Found,
             n_found: usize,
+        ) -> i32;
+        pub fn dustmap_call_as(
+            pool: *mut i32,
+            pool_len: usize,
+            work: *mut i32,
+            work_len: usize,
+            requests: *const Request,
+            n_requests: usize,
+            answers: *mut Answer,
+            n_answers: usize,
+            found: *mut Found,
+            n_found: usize,
+            owner: i32,
         ) -> i32;
         pub fn dustmap_room(
             pool: *const i32,
@@ -229,23 +262,38 @@ mod exported {
             file: *const u8,
             file_len: usize,
         ) -> i32;
+        pub fn dustmap_read_as(
+            pool: *mut i32,
+            pool_len: usize,
+            work: *mut i32,
+            work_len: usize,
+            file: *const u8,
+            file_len: usize,
+            edition: i32,
+            rule: i32,
+        ) -> i32;
     }
 }
 
-/// Blanks a pool: 0, or 1 for a wrong length and nothing written.
+/// Blanks a pool, of edition 1 and with the quadratic split: 0, or 1 for a wrong length and nothing written.
 pub fn blank(pool: &mut [i32]) -> i32 {
     // SAFETY: the pointer and the count are those of one slice, and its words may be any: the function is proved for
     // every list of words, and a proved function reads and writes no place outside the lists that it is lent.
     unsafe { exported::dustmap_blank(pool.as_mut_ptr(), pool.len()) }
 }
 
-/// 1 for a wrong length, 2 for a pool that is not sound, else 0. Nothing is written.
+/// The same for that edition, by which the length is measured, and that rule. Of the pool's words before that none is looked at.
+pub fn blank_as(pool: &mut [i32], edition: Edition, rule: Rule) -> i32 {
+    plain::blank_as(pool, edition as i32, rule as i32)
+}
+
+/// 1 for a wrong length, 2 for a pool that is not sound, else 0. Nothing is written. `Edition::of` says how a pool is measured.
 pub fn check(pool: &[i32]) -> i32 {
     // SAFETY: as above; a list lent to be read is not written.
     unsafe { exported::dustmap_check(pool.as_ptr(), pool.len()) }
 }
 
-/// Does each request in turn: 0, or the refusal of the whole call, 9, 1, 2 or -1, and nothing written.
+/// Does each request in turn, for owner 1: 0, or the refusal of the whole call, 9, 1, 2 or -1, and nothing written.
 pub fn call(
     pool: &mut [i32],
     work: &mut [i32],
@@ -271,8 +319,25 @@ pub fn call(
     }
 }
 
+/// The same as a batch of that owner. In a pool of edition 2 it sees and changes that owner's records only, holds a pair for that
+/// owner, and reports no nodes opened; a pool of edition 1 serves both owners alike.
+///
+/// The owners share the tree and its slots. Where no request is refused 7, an owner's answers and found lists are the same whatever
+/// the other owner's batches are. But whoever has the pool can read it, and `room` and `write` tell of both owners' records.
+pub fn call_as(
+    pool: &mut [i32],
+    work: &mut [i32],
+    requests: &[Request],
+    answers: &mut [Answer],
+    found: &mut [Found],
+    owner: Owner,
+) -> i32 {
+    plain::call_as(pool, work, requests, answers, found, owner as i32)
+}
+
 /// What an insert of this rectangle would need, and what there is, in the pool as it is: requests made before the insert, in the
-/// same batch too, may change both. An insert that nothing else is wrong with is refused 7 exactly where it does not fit.
+/// same batch or by the other owner too, may change both. An insert that nothing else is wrong with is refused 7 exactly where it
+/// does not fit.
 ///
 /// The error is a number, checked in this order: 1 for a wrong length of the pool, 2 for a pool that is not sound, 3 for a bad
 /// rectangle.
@@ -292,7 +357,8 @@ pub fn room_into(pool: &[i32], rect: [i32; 4], slots: &mut [u32; 2]) -> i32 {
 }
 
 /// Writes the records of a pool, in found order and each pair once, to the front of the list of bytes, and gives the length of the
-/// file; bytes beyond stay. `file_bytes` are always enough. It keeps 512 KiB on the stack while it works.
+/// file; bytes beyond stay. `file_bytes` are always enough. It keeps 512 KiB on the stack while it works. Of a pool of edition 2 the
+/// file is of edition 2: owner 1's records, then owner 2's, each with its owner.
 ///
 /// The error is a number, checked in this order, and then no byte is written: 1 for a wrong length of the pool, 2 for a pool that is
 /// not sound, 8 for too few bytes.
@@ -314,8 +380,8 @@ pub fn write(pool: &[i32], file: &mut [u8]) -> Result<usize, i32> {
     }
 }
 
-/// Blanks the pool and inserts the records of a file in their order; the workspace then equals the pool. Of the pool's words before
-/// that none is looked at. A pool of N slots takes every file of up to 2N + 1 records, and none of more than 8N.
+/// Blanks the pool and inserts the records of a file of edition 1 in their order; the workspace then equals the pool. Of the pool's
+/// words before that none is looked at. A pool of N slots takes every file of up to 2N + 1 records, and none of more than 8N.
 ///
 /// The error is a number: 1 for a wrong length of the pool or the workspace, and nothing is written; otherwise what is wrong with
 /// the first frame at fault, 10, 3, 4, 11 or 7, and then the pool is as it was and the workspace equal to it.
@@ -331,6 +397,23 @@ pub fn read(pool: &mut [i32], work: &mut [i32], file: &[u8]) -> Result<(), i32> 
             file.len(),
         )
     };
+    accepted(number)
+}
+
+/// The same for a file of that edition, into a pool of that edition, by which the lengths are measured, and that rule. In edition 2
+/// each record is inserted for its owner. The error is as above; a record whose owner is neither 1 nor 2 is 13, after 4 and before
+/// 11, and a file of another edition is 10.
+pub fn read_as(
+    pool: &mut [i32],
+    work: &mut [i32],
+    file: &[u8],
+    edition: Edition,
+    rule: Rule,
+) -> Result<(), i32> {
+    accepted(plain::read_as(pool, work, file, edition as i32, rule as i32))
+}
+
+fn accepted(number: i32) -> Result<(), i32> {
     match number {
         numbers::ACCEPTED => Ok(()),
         refusal => Err(refusal),

@@ -6,13 +6,13 @@ use dustmap::{blank_pool, call, check, words, Answer, Rect, Request};
 #[test]
 fn every_number_has_words_and_no_other() {
     let order: Vec<i32> = NUMBERS.iter().map(|m| m.number).collect();
-    assert_eq!(order, [0, 9, 1, 2, -1, 12, 10, 3, 4, 11, 5, 6, 7, 8], "the order of checks");
-    for number in -1..=12 {
+    assert_eq!(order, [0, 9, 13, 1, 2, -1, 12, 10, 3, 4, 11, 5, 6, 7, 8], "the order of checks");
+    for number in -1..=13 {
         let found = meaning(number).expect("words");
         assert_eq!(found.number, number);
         assert!(!found.when.is_empty() && !found.what_to_do.is_empty());
     }
-    assert!([-2, 13].iter().all(|number| meaning(*number).is_none()));
+    assert!([-2, 14].iter().all(|number| meaning(*number).is_none()));
 }
 
 #[test]

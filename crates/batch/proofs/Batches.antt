@@ -13,26 +13,31 @@ use lib.WfN.{Nat·lt-wfRel}
 use lib.Dec.{ltb, eqb}
 use lib.IntN.{ℤ}
 use borrow.Author.Tests.{ltb-false, eqb-true}
-use Rattle.rules.specs.declared.Record.{Record}
+use Rattle.rules.specs.declared.Edition.{Edition}
+use Rattle.rules.specs.declared.Owner.{Owner}
+use Rattle.rules.specs.declared.FoundRecord.{FoundRecord}
 use Rattle.rules.specs.declared.Request.{Request}
 use Rattle.rules.specs.declared.Asked.{Asked}
 use Rattle.rules.specs.declared.Answer.{Answer}
-use Rattle.rules.specs.declared.Verdict.the-variants.{BadLists, BadLength, NotSound, NoRequest}
+use Rattle.rules.specs.declared.Verdict.the-variants.{BadLists, BadOwner, BadLength, NotSound, NoRequest}
 use Rattle.rules.specs.Lists.{every}
-use Rattle.rules.specs.Numbers.{mostRequests}
-use Rattle.rules.specs.Layout.{validLength, words, read}
+use Rattle.rules.specs.Numbers.{mostRequests, goodOwner}
+use Rattle.rules.specs.Owners.{ownerIn}
+use Rattle.rules.specs.Pool.{Pool}
+use Rattle.rules.specs.Layout.{editionOf, validLength, words, read}
 use Rattle.rules.specs.Sound.{sound}
 use Rattle.rules.specs.Insert.{ours}
 use Rattle.rules.specs.Request.{Turn, asked, request}
-use Rattle.rules.specs.Call.{Lent, Batch, afterTurn, doRequest, doRequests, isRequest, callFault, starting}
+use Rattle.rules.specs.Call.{Lent, Batch, afterTurn, doRequest, doRequests, isRequest, callFault, batchOwner, starting}
 use Rattle.rules_laws.proofs.Bools.{not-false, or-neither}
 use Rattle.rules_laws.proofs.Places.{at-place}
 use Rattle.rules_laws.proofs.Everies.{every-is}
 use Rattle.in_force_laws.proofs.Faults.{no-row}
-use Rattle.found_items.specs.Items.{itemsFrom, Pointing}
+use Rattle.found_items.specs.Items.{shownFrom, Pointing}
 use Rattle.request.specs.declared.Served.{Served}
 use Rattle.request.specs.Serving.{Ready, Serves}
 use Rattle.in_force_laws.proofs.Sounds.{sound-fit}
+use Rattle.in_force_laws.proofs.Many.{request-edition}
 use Rattle.in_force_laws.proofs.Asks.{asks-something}
 use Rattle.batch.specs.declared.Progress.{Progress}
 use Rattle.batch.specs.declared.Stepped.{Stepped}
@@ -45,6 +50,7 @@ use Rattle.batch.proofs.Listed.{Placed, request-placed}
 pub record Fine (l : Lent) : Type 0 where
   pub many : length (l .requests) ≤ 1024
   pub answers : length (l .answers) ≡ length (l .requests)
+  pub owner : goodOwner (l .owner) ≡ true
   pub right : validLength (l .pool) ≡ true
   pub workspace : length (l .workspace) ≡ length (l .pool)
   pub sound : sound (l .pool) ≡ true
@@ -54,7 +60,8 @@ pub fine : (l : Lent) → callFault l ≡ none → Fine l
 unfolding callFault
 fine l h =
     let a = no-row (ltb mostRequests (length (l .requests)) || not (eqb (length (l .answers)) (length (l .requests)))) BadLists _ h in
-    let b = no-row (not (validLength (l .pool)) || not (eqb (length (l .workspace)) (length (l .pool)))) BadLength _ (a .1) in
+    let o = no-row (not (goodOwner (l .owner))) BadOwner _ (a .1) in
+    let b = no-row (not (validLength (l .pool)) || not (eqb (length (l .workspace)) (length (l .pool)))) BadLength _ (o .1) in
     let c = no-row (not (sound (l .pool))) NotSound _ (b .1) in
     let d = no-row (not (every isRequest (l .requests))) NoRequest _ (c .1) in
     let lists = or-neither (ltb mostRequests (length (l .requests))) (not (eqb (length (l .answers)) (length (l .requests)))) (a .0) in
@@ -62,6 +69,7 @@ fine l h =
     record {
       many = ltb-false mostRequests (length (l .requests)) (lists .0);
       answers = eqb-true (length (l .answers)) (length (l .requests)) (not-false _ (lists .1));
+      owner = not-false _ (o .0);
       right = not-false _ (lengths .0);
       workspace = eqb-true (length (l .workspace)) (length (l .pool)) (not-false _ (lengths .1));
       sound = not-false _ (c .0);
@@ -92,17 +100,18 @@ module _ (l : Lent) (f : Fine l) where
   qs = l .requests
 
   -- how far the batch has come, read off the lists lent
-  abbrev pub batchAt : Progress → List ℤ → List Answer → List Record → Batch
-  batchAt p pool answers found = record { pool = read pool; answers = answers; found = found; filled = p .filled }
+  abbrev pub batchAt : Progress → List ℤ → List Answer → List FoundRecord → Batch
+  batchAt p pool answers found = record { owner = batchOwner l; pool = read pool; answers = answers; found = found; filled = p .filled }
 
   pub record St : Type 0 where
     pub prog : Progress
     pub pool : List ℤ
     pub work : List ℤ
     pub answers : List Answer
-    pub found : List Record
+    pub found : List FoundRecord
     pub within : prog .done ≤ length qs
     pub ready : Ready pool (prog .free)
+    pub edition : editionOf pool ≡ editionOf (l .pool)
     pub pool-long : length pool ≡ length (l .pool)
     pub work-long : length work ≡ length (l .workspace)
     pub answers-long : length answers ≡ length (l .answers)
@@ -121,7 +130,13 @@ module _ (l : Lent) (f : Fine l) where
   module _ (p : Progress) (b : Begun (l .pool) p) where
     pub start-batch : doRequests ours (p .done) (drop (p .done) qs) (batchAt p (l .pool) (l .answers) (l .found)) ≡ batchOf l
     unfolding batchOf starting
-    start-batch = λ i. doRequests ours (b .done i) (drop (b .done i) qs) (record { pool = read (l .pool); answers = l .answers; found = l .found; filled = b .filled i })
+    start-batch = λ i. doRequests ours (b .done i) (drop (b .done i) qs) (record {
+      owner = batchOwner l;
+      pool = read (l .pool);
+      answers = l .answers;
+      found = l .found;
+      filled = b .filled i;
+    })
 
     abbrev pub started : St
     started = record {
@@ -132,6 +147,7 @@ module _ (l : Lent) (f : Fine l) where
       found = l .found;
       within = omega (arith, b .done);
       ready = record { right = f .right; sound = f .sound; known = b .known };
+      edition = refl;
       pool-long = refl;
       work-long = refl;
       answers-long = refl;
@@ -161,19 +177,27 @@ module _ (l : Lent) (f : Fine l) where
     pub same-long : length (s .work) ≡ length (s .pool)
     same-long = s .work-long ∙ f .workspace ∙ sym (s .pool-long)
 
+    -- whose request it is: the edition is that of the pool lent
+    abbrev pub who : Owner
+    who = ownerIn (editionOf (s .pool)) (l .owner)
+
+    who-is : batchOwner l ≡ who
+    unfolding batchOwner read
+    who-is = ap (λ (e : Edition). ownerIn e (l .owner)) (sym (s .edition))
+
     -- what `one_request` promises
     abbrev pub Does : Served → List ℤ → List ℤ → Type 0
-    Does r p w = (a : Asked) → asked q ≡ some a → Serves (length (s .pool)) (request ours (read (s .pool)) (s .prog .filled) room a) r p w
+    Does r p w = (a : Asked) → asked who q ≡ some a → Serves (length (s .pool)) (request ours (read (s .pool)) (s .prog .filled) room a) r p w
 
     module _ (r : Served) (p w : List ℤ) (does : Does r p w) where
       abbrev a : Asked
-      a = asks-something q q-asked .0
+      a = asks-something who q q-asked .0
 
       abbrev t : Turn
       t = request ours (read (s .pool)) (s .prog .filled) room a
 
       pub serves : Serves (length (s .pool)) t r p w
-      serves = does a (asks-something q q-asked .1)
+      serves = does a (asks-something who q q-asked .1)
 
       placed : Placed room (length (s .pool)) t
       placed = request-placed (s .pool) (s .ready .right) (s .ready .sound) ours (s .prog .filled) room a
@@ -191,7 +215,7 @@ module _ (l : Lent) (f : Fine l) where
       listed-room = omega (arith, serves .listed, placed .places, s .space, s .found-long)
 
       -- .. and what `carry` leaves
-      module _ (fs : List Record) (carried : fs ≡ sets (s .found) (s .prog .filled) (itemsFrom p w 0 (r .listed))) where
+      module _ (fs : List FoundRecord) (carried : fs ≡ sets (s .found) (s .prog .filled) (shownFrom p w 0 (r .listed))) where
         abbrev pub next-prog : Progress
         next-prog = record { done = s .prog .done + 1; filled = s .prog .filled + r .listed; free = r .free }
 
@@ -201,18 +225,21 @@ module _ (l : Lent) (f : Fine l) where
         is-turn : batchAt next-prog p next-answers fs ≡ afterTurn (s .prog .done) (batchAt (s .prog) (s .pool) (s .answers) (s .found)) t
         unfolding afterTurn
         is-turn = λ i. record {
+          owner = batchOwner l;
           pool = serves .pool i;
           answers = set (s .answers) (s .prog .done) (serves .answer i);
           found = (carried ∙ ap (sets (s .found) (s .prog .filled)) (serves .items)) i;
           filled = s .prog .filled + serves .listed i;
         }
 
-        does-request : doRequest ours (s .prog .done) (batchAt (s .prog) (s .pool) (s .answers) (s .found)) (asked q) ≡ batchAt next-prog p next-answers fs
+        does-request : doRequest ours (s .prog .done) (batchAt (s .prog) (s .pool) (s .answers) (s .found)) (asked (batchOwner l) q) ≡ batchAt next-prog p next-answers fs
         unfolding doRequest
         does-request =
-            ap (doRequest ours (s .prog .done) (batchAt (s .prog) (s .pool) (s .answers) (s .found))) (asks-something q q-asked .1) ∙ sym is-turn
+            ap (doRequest ours (s .prog .done) (batchAt (s .prog) (s .pool) (s .answers) (s .found)))
+            (ap (λ (o : Owner). asked o q) who-is ∙ asks-something who q q-asked .1)
+            ∙ sym is-turn
 
-        one-more : (i : ℕ) (x : Request) (xs : List Request) (b : Batch) → doRequests ours i (x ∷ xs) b ≡ doRequests ours (suc i) xs (doRequest ours i b (asked x))
+        one-more : (i : ℕ) (x : Request) (xs : List Request) (b : Batch) → doRequests ours i (x ∷ xs) b ≡ doRequests ours (suc i) xs (doRequest ours i b (asked (b .owner) x))
         unfolding doRequests
         one-more i x xs b = refl
 
@@ -224,6 +251,11 @@ module _ (l : Lent) (f : Fine l) where
             ∙ ap (λ (xs : List Request). doRequests ours (s .prog .done) xs (batchAt (s .prog) (s .pool) (s .answers) (s .found)))
             (sym (drop-cons qs (s .prog .done) nothing-asked more)) ∙ s .batch
 
+        pub next-edition : editionOf p ≡ editionOf (l .pool)
+        unfolding read
+        next-edition =
+            ap (λ (x : Pool). x .edition) (serves .pool) ∙ request-edition ours (read (s .pool)) (s .prog .filled) room a ∙ s .edition
+
         abbrev pub next : St
         next = record {
           prog = next-prog;
@@ -233,10 +265,11 @@ module _ (l : Lent) (f : Fine l) where
           found = fs;
           within = omega (arith, more);
           ready = serves .ready;
+          edition = next-edition;
           pool-long = serves .same ∙ s .pool-long;
           work-long = serves .work ∙ s .pool-long ∙ sym (f .workspace);
           answers-long = length-set (s .answers) (s .prog .done) (r .answer) ∙ s .answers-long;
-          found-long = ap length carried ∙ length-sets (s .found) (s .prog .filled) (itemsFrom p w 0 (r .listed)) ∙ s .found-long;
+          found-long = ap length carried ∙ length-sets (s .found) (s .prog .filled) (shownFrom p w 0 (r .listed)) ∙ s .found-long;
           space = omega (arith, listed-room, s .found-long);
           few = omega (arith, s .few, listed-few);
           batch = next-batch;

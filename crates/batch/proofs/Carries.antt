@@ -9,8 +9,8 @@ use lib.ListN.{length, set}
 use lib.Seq.{sets, length-sets}
 use lib.WfN.{Nat·lt-wfRel}
 use lib.IntN.{ℤ}
-use Rattle.rules.specs.declared.Record.{Record}
-use Rattle.found_items.specs.Items.{itemAt, itemsFrom}
+use Rattle.rules.specs.declared.FoundRecord.{FoundRecord}
+use Rattle.found_items.specs.Items.{shownAt, shownFrom}
 use Rattle.found_items.proofs.Words.{items-none, items-one, items-length, items-append}
 use Rattle.layout_laws.proofs.Runs.{sets-more}
 
@@ -35,25 +35,25 @@ module _ (n : ℕ) where
   pub less : (s : Upto) (lt : s .k < n) → ≺ (next s lt) s
   less s lt = omega arith
 
-module _ (p w : List ℤ) (fs : List Record) (at : ℕ) where
-  abbrev pub stored : ℕ → List Record
-  stored k = sets fs at (itemsFrom p w 0 k)
+module _ (p w : List ℤ) (fs : List FoundRecord) (at : ℕ) where
+  abbrev pub stored : ℕ → List FoundRecord
+  stored k = sets fs at (shownFrom p w 0 k)
 
   pub stored-long : (k : ℕ) → length (stored k) ≡ length fs
-  stored-long k = length-sets fs at (itemsFrom p w 0 k)
+  stored-long k = length-sets fs at (shownFrom p w 0 k)
 
   pub stored-none : fs ≡ stored 0
-  stored-none = ap (sets fs at) (sym (items-none p w 0))
+  stored-none = ap (sets fs at) (sym (items-none (shownAt p w) 0))
 
-  last : (k : ℕ) → itemsFrom p w 0 k ++ itemAt p w k ∷ [] ≡ itemsFrom p w 0 (suc k)
+  last : (k : ℕ) → shownFrom p w 0 k ++ shownAt p w k ∷ [] ≡ shownFrom p w 0 (suc k)
   last k =
-      ap (λ (l : List Record). itemsFrom p w 0 k ++ l) (sym (items-one p w k) ∙ ap (λ (i : ℕ). itemsFrom p w i 1) (sym none-before))
-      ∙ sym (items-append p w 0 k 1) ∙ ap (itemsFrom p w 0) (add-one k)
+      ap (λ (l : List FoundRecord). shownFrom p w 0 k ++ l) (sym (items-one (shownAt p w) k) ∙ ap (λ (i : ℕ). shownFrom p w i 1) (sym none-before))
+      ∙ sym (items-append (shownAt p w) 0 k 1) ∙ ap (shownFrom p w 0) (add-one k)
     where
       none-before : 0 + k ≡ k
       none-before = omega arith
 
-  pub stored-more : (k : ℕ) → set (stored k) (at + k) (itemAt p w k) ≡ stored (suc k)
+  pub stored-more : (k : ℕ) → set (stored k) (at + k) (shownAt p w k) ≡ stored (suc k)
   stored-more k =
-      ap (λ (i : ℕ). sets (stored k) (at + i) (itemAt p w k ∷ [])) (sym (items-length p w 0 k))
-      ∙ sets-more (itemsFrom p w 0 k) (itemAt p w k ∷ []) fs at ∙ ap (sets fs at) (last k)
+      ap (λ (i : ℕ). sets (stored k) (at + i) (shownAt p w k ∷ [])) (sym (items-length (shownAt p w) 0 k))
+      ∙ sets-more (shownFrom p w 0 k) (shownAt p w k ∷ []) fs at ∙ ap (sets fs at) (last k)

@@ -12,7 +12,8 @@ use lib.Signed.{leZ}
 use borrow.Author.Tests.{le-leb, lt-leb}
 use Rattle.rules.specs.declared.Request.{Request}
 use Rattle.rules.specs.declared.Verdict.{Verdict}
-use Rattle.rules.specs.Numbers.{mostRequests}
+use Rattle.rules.specs.Numbers.{mostRequests, goodOwner}
+use Rattle.rules.specs.Owners.{owner}
 use Rattle.rules.specs.Lists.{every, oneOf, same}
 use Rattle.rules.specs.Layout.{validLength}
 use Rattle.rules.specs.Sound.{sound}
@@ -24,39 +25,44 @@ use Rattle.in_force_laws.proofs.Call.{callBy-refused, callBy-served}
 use Rattle.promises.specs.Calls.{nothingAsked}
 use Rattle.batch.specs.Batching.{faultNumber, refusalOf, batchOf}
 
-module _ (w : List ℤ) (ws qs rs : ℕ) (all : Bool) where
+module _ (w : List ℤ) (who : ℤ) (ws qs rs : ℕ) (all : Bool) where
   abbrev lists : Bool
   lists = ltb mostRequests qs || not (eqb rs qs)
 
   abbrev lengths : Bool
   lengths = not (validLength w) || not (eqb ws (length w))
 
-  pub bad-lists : lists ≡ true → refusalOf w ws qs rs all ≡ pos 9
+  pub bad-lists : lists ≡ true → refusalOf w who ws qs rs all ≡ pos 9
   unfolding refusalOf firstRow faultNumber verdictNumber
   bad-lists a = rw (refusalOf, a)
 
-  pub bad-length : lists ≡ false → lengths ≡ true → refusalOf w ws qs rs all ≡ pos 1
+  pub bad-owner : lists ≡ false → goodOwner (owner who) ≡ false → refusalOf w who ws qs rs all ≡ pos 13
   unfolding refusalOf firstRow faultNumber verdictNumber
-  bad-length a b = rw (refusalOf, a, b)
+  bad-owner a o = rw (refusalOf, a, o)
 
-  pub not-sound : lists ≡ false → lengths ≡ false → sound w ≡ false → refusalOf w ws qs rs all ≡ pos 2
-  unfolding refusalOf firstRow faultNumber verdictNumber
-  not-sound a b c = rw (refusalOf, a, b, c)
+  module _ (a : lists ≡ false) (o : goodOwner (owner who) ≡ true) where
+    pub bad-length : lengths ≡ true → refusalOf w who ws qs rs all ≡ pos 1
+    unfolding refusalOf firstRow faultNumber verdictNumber
+    bad-length b = rw (refusalOf, a, o, b)
 
-  pub no-request : lists ≡ false → lengths ≡ false → sound w ≡ true → all ≡ false → refusalOf w ws qs rs all ≡ negsuc 0
-  unfolding refusalOf firstRow faultNumber verdictNumber
-  no-request a b c d = rw (refusalOf, a, b, c, d)
+    pub not-sound : lengths ≡ false → sound w ≡ false → refusalOf w who ws qs rs all ≡ pos 2
+    unfolding refusalOf firstRow faultNumber verdictNumber
+    not-sound b c = rw (refusalOf, a, o, b, c)
 
-  pub none-refuses : lists ≡ false → lengths ≡ false → sound w ≡ true → all ≡ true → refusalOf w ws qs rs all ≡ pos 0
-  unfolding refusalOf firstRow faultNumber verdictNumber
-  none-refuses a b c d = rw (refusalOf, a, b, c, d)
+    pub no-request : lengths ≡ false → sound w ≡ true → all ≡ false → refusalOf w who ws qs rs all ≡ negsuc 0
+    unfolding refusalOf firstRow faultNumber verdictNumber
+    no-request b c d = rw (refusalOf, a, o, b, c, d)
+
+    pub none-refuses : lengths ≡ false → sound w ≡ true → all ≡ true → refusalOf w who ws qs rs all ≡ pos 0
+    unfolding refusalOf firstRow faultNumber verdictNumber
+    none-refuses b c d = rw (refusalOf, a, o, b, c, d)
 
 pub right-first : (a b : Bool) → (not a || not b) ≡ false → a ≡ true
 right-first true b h = refl
 right-first false b h = sym h
 
 -- the number of a call, by the row that refuses it
-pub refusal-is : (l : Lent) → refusalOf (l .pool) (length (l .workspace)) (length (l .requests)) (length (l .answers)) (every isRequest (l .requests)) ≡ faultNumber (callFault l)
+pub refusal-is : (l : Lent) → refusalOf (l .pool) (l .owner .0) (length (l .workspace)) (length (l .requests)) (length (l .answers)) (every isRequest (l .requests)) ≡ faultNumber (callFault l)
 unfolding refusalOf callFault
 refusal-is l = refl
 
@@ -69,7 +75,7 @@ pub call-served : (l : Lent) → callFault l ≡ none → call l ≡ served (bat
 unfolding call batchOf
 call-served l h = callBy-served ours l h
 
-pub call-number : (l : Lent) → refusalOf (l .pool) (length (l .workspace)) (length (l .requests)) (length (l .answers)) (every isRequest (l .requests)) ≡ call l .number
+pub call-number : (l : Lent) → refusalOf (l .pool) (l .owner .0) (length (l .workspace)) (length (l .requests)) (length (l .answers)) (every isRequest (l .requests)) ≡ call l .number
 unfolding faultNumber refused served verdictNumber
 call-number l = refusal-is l ∙ go (callFault l) refl
   where
@@ -77,7 +83,7 @@ call-number l = refusal-is l ∙ go (callFault l) refl
     go none h = ap faultNumber h ∙ ap (λ (x : Left). x .number) (sym (call-served l h))
     go (some v) h = ap faultNumber h ∙ ap (λ (x : Left). x .number) (sym (call-refused l v h))
 
-pub check-number : (w : List ℤ) → refusalOf w (length w) 0 0 true ≡ call (nothingAsked w) .number
+pub check-number : (w : List ℤ) → refusalOf w (pos 1) (length w) 0 0 true ≡ call (nothingAsked w) .number
 unfolding every
 check-number w = call-number (nothingAsked w)
 

@@ -7,11 +7,12 @@ use Prim.Native.Nat.{ℕ, _+_}
 use lib.ListN.{length}
 use lib.Dec.{ltb, eqb}
 use lib.IntN.{ℤ, pos}
-use Rattle.rules.specs.declared.Record.{Record}
+use Rattle.rules.specs.declared.FoundRecord.{FoundRecord}
 use Rattle.rules.specs.declared.Answer.{Answer}
 use Rattle.rules.specs.declared.Verdict.{Verdict}
-use Rattle.rules.specs.declared.Verdict.the-variants.{BadLists, BadLength, NotSound, NoRequest}
-use Rattle.rules.specs.Numbers.{mostRequests}
+use Rattle.rules.specs.declared.Verdict.the-variants.{BadLists, BadOwner, BadLength, NotSound, NoRequest}
+use Rattle.rules.specs.Numbers.{mostRequests, goodOwner}
+use Rattle.rules.specs.Owners.{owner}
 use Rattle.rules.specs.Layout.{validLength, read, words}
 use Rattle.rules.specs.Sound.{sound}
 use Rattle.rules.specs.Answers.{verdictNumber, row, firstRow}
@@ -27,11 +28,12 @@ unfoldable pub faultNumber : Option Verdict → ℤ
 faultNumber none = pos 0
 faultNumber (some v) = verdictNumber v
 
--- `callFault`, from the pool's words, the lengths of the other lists, and whether everything asked is a request
-unfoldable pub refusalOf : List ℤ → ℕ → ℕ → ℕ → Bool → ℤ
-refusalOf pool workspace requests answers asked =
+-- `callFault`, from the pool's words, the owner, the lengths of the other lists, and whether everything asked is a request
+unfoldable pub refusalOf : List ℤ → ℤ → ℕ → ℕ → ℕ → Bool → ℤ
+refusalOf pool who workspace requests answers asked =
     faultNumber (firstRow (
     row (ltb mostRequests requests || not (eqb answers requests)) BadLists
+    ∷ row (not (goodOwner (owner who))) BadOwner
     ∷ row (not (validLength pool) || not (eqb workspace (length pool))) BadLength
     ∷ row (not (sound pool)) NotSound
     ∷ row (not asked) NoRequest
@@ -59,7 +61,7 @@ unfoldable pub batchOf : Lent → Batch
 batchOf l = doRequests ours 0 (l .requests) (starting l)
 
 -- the lists lent hold what the batch has done
-pub record Batched (b : Batch) (pool : List ℤ) (answers : List Answer) (found : List Record) : Type 0 where
+pub record Batched (b : Batch) (pool : List ℤ) (answers : List Answer) (found : List FoundRecord) : Type 0 where
   pub pool-is : pool ≡ words (b .pool)
   pub answers-are : answers ≡ b .answers
   pub found-is : found ≡ b .found

@@ -8,16 +8,18 @@ ghost use lib.ListN.{length};
 ghost use lib.Seq.{sets};
 ghost use Rattle.rules.specs.Lists.{every};
 ghost use Rattle.rules.specs.Numbers.{mostRequests};
+ghost use Rattle.rules.specs.Owners as O;
 ghost use Rattle.rules.specs.Layout as L;
 ghost use Rattle.rules.specs.Call as C;
-ghost use Rattle.found_items.specs.Items.{itemsFrom, Pointing};
+ghost use Rattle.found_items.specs.Items.{shownFrom, Pointing};
 ghost use Rattle.promises.specs.Calls.{lent};
 ghost use Rattle.batch.specs.Batching.{refusalOf, Begun, stepOf, batchOf, Batched};
 use free_slots::FreeSlots;
 use request::Served;
 use rules::Answer;
+use rules::FoundRecord;
 use rules::MOST_REQUESTS;
-use rules::Record;
+use rules::Owner;
 use rules::Request;
 
 // How far a batch has come: the requests done, the places of the found list filled, and what is known of the free slots.
@@ -46,14 +48,26 @@ fn lists_fit(requests: usize, answers: usize) -> bool
     answers == requests
 }
 
-// "The table's order is the order of checks.": 9, 1, 2; last, -1 for a list that holds something which is no request. 0 where nothing refuses.
-pub fn refusal(pool: &[i32], workspace: usize, requests: usize, answers: usize, asked: bool) -> i32
-    ensures { λ r. ⌜ r ≡ refusalOf (now (pool .entry)) workspace requests answers asked ⌝ }
+// "The table's order is the order of checks.": 9, then 13 for another owner, 1, 2; last, -1 for a list that holds something which is no
+// request. 0 where nothing refuses.
+pub fn refusal(
+    pool: &[i32],
+    owner: i32,
+    workspace: usize,
+    requests: usize,
+    answers: usize,
+    asked: bool,
+) -> i32
+    ensures { λ r. ⌜ r ≡ refusalOf (now (pool .entry)) owner workspace requests answers asked ⌝ }
 {
     let lists = lists_fit(requests, answers);
+    let known = pool::good_owner(Owner(owner));
     let lengths = pool::lengths_fit(pool, workspace);
     if !lists {
         return 9;
+    }
+    if !known {
+        return 13;
     }
     if !lengths {
         return 1;
@@ -97,9 +111,9 @@ pub fn all_asked(requests: &[Request]) -> bool
 }
 
 // The first n items of the workspace go, as records, to the places of the found list from `at` on.
-fn carry(pool: &[i32], work: &[i32], n: usize, found: &mut [Record], at: usize)
+fn carry(pool: &[i32], work: &[i32], n: usize, found: &mut [FoundRecord], at: usize)
     requires { ⌜ (2 * n ≤ length (now work)) × Pointing (now pool) (now work) 0 n × (at + n ≤ length (now found)) ⌝ }
-    ensures { λ _. ⌜ now (found .exit) ≡ sets (now (found .entry)) at (itemsFrom (now (pool .entry)) (now (work .entry)) 0 n) ⌝ }
+    ensures { λ _. ⌜ now (found .exit) ≡ sets (now (found .entry)) at (shownFrom (now (pool .entry)) (now (work .entry)) 0 n) ⌝ }
 {
     let mut k: usize = 0;
     while k < n {
@@ -144,17 +158,18 @@ fn step(at: Progress, s: Served) -> Stepped
     }
 }
 
-// "each request is done in turn over a lent list of request records": a thin loop above `one_request`. The free slots are counted once, at
-// the start.
+// "each request is done in turn over a lent list of request records", as an owner's: a thin loop above `one_request`. The free slots are
+// counted once, at the start.
 pub fn serve(
     pool: &mut [i32],
     work: &mut [i32],
     requests: &[Request],
     answers: &mut [Answer],
-    found: &mut [Record],
+    found: &mut [FoundRecord],
+    owner: i32,
 )
-    requires { ⌜ C.callFault (lent (now pool) (now work) (now requests) (now answers) (now found)) ≡ none ⌝ }
-    ensures { λ _. ⌜ Batched (batchOf (lent (now (pool .entry)) (now (work .entry)) (now (requests .entry)) (now (answers .entry)) (now (found .entry)))) (now (pool .exit)) (now (answers .exit)) (now (found .exit)) ⌝ }
+    requires { ⌜ C.callFault (lent (O.owner owner) (now pool) (now work) (now requests) (now answers) (now found)) ≡ none ⌝ }
+    ensures { λ _. ⌜ Batched (batchOf (lent (O.owner owner) (now (pool .entry)) (now (work .entry)) (now (requests .entry)) (now (answers .entry)) (now (found .entry)))) (now (pool .exit)) (now (answers .exit)) (now (found .exit)) ⌝ }
 {
     let mut p = begun(pool);
     while p.done < requests.len() {
@@ -163,7 +178,7 @@ pub fn serve(
         let filled = p.filled;
         let room = found.len() - filled;
         let free = p.free;
-        let s = request::one_request(pool, work, q, filled, room, free);
+        let s = request::one_request(pool, work, owner, q, filled, room, free);
         let t = step(p, s);
         let listed = t.listed;
         let start = t.start;

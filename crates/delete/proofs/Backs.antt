@@ -1,13 +1,16 @@
 -- CT6, an entry at a time: what is left to insert again gives what the whole gives, and the entries left wait beside a tree that stands.
 use mathlib.Core.Path.{_≡_, refl, sym, ap, subst, subst₂, _∙_}
 use mathlib.Core.Logic.{⊎-elim}
-use mathlib.Core.List.{List, _∷_, List·Memᴰ·head}
+use mathlib.Core.List.{List, _∷_, List·Memᴰ·head, List·Memᴰ·tail}
 use Prim.Native.Nat.{ℕ, suc, _+_, _-_, _≤_, _<_}
 use native.Mathlib.Omega.{arith}
 use lib.ListN.{length, getD}
 use lib.IntN.{ℤ}
+use mathlib.Core.Bool.{true}
+use Rattle.rules.specs.declared.Edition.{Edition}
 use Rattle.rules.specs.declared.Entry.{Entry}
-use Rattle.rules.specs.Pool.{Pool, noEntry}
+use Rattle.rules.specs.Owners.{ownerSound}
+use Rattle.rules.specs.Pool.{Pool, noEntry, ownerOf}
 use Rattle.rules.specs.Layout.{read}
 use Rattle.rules.specs.Insert.{Change, Done, NoneFree, insertAt, ours}
 use Rattle.rules.specs.Delete.{Aside, reinsert}
@@ -16,15 +19,16 @@ use Rattle.rules_laws.proofs.Splits.{ours-lawful}
 use Rattle.layout_laws.specs.Slots.{Fit}
 use Rattle.free_slots.specs.declared.FreeSlots.{FreeSlots}
 use Rattle.free_slots.specs.Known.{Known}
-use Rattle.insert_laws.specs.Grown.{Fits}
 use Rattle.insert_laws.proofs.Standing.{standing-once}
+use Rattle.insert_laws.proofs.Lasting.{insert-at-edition}
 use Rattle.delete_laws.specs.Shrunk.{slotsAside, Waiting}
 use Rattle.delete_laws.proofs.Again.{reinsert-none, reinsert-done, reinsert-full, first-put, still-waiting}
 use Rattle.insert.specs.declared.Outcome.{Outcome}
 use Rattle.insert.specs.declared.Outcome.the-variants.{Made, Refused}
-use Rattle.insert.specs.Left.{Leaves, Upright}
+use Rattle.insert.specs.Left.{Leaves, MayGo, Upright}
+use Rattle.insert.proofs.Fitted.{fits-kind}
 use Rattle.delete.specs.Removed.{Removes}
-use Rattle.delete.specs.Aside.{asidesFrom}
+use Rattle.delete.specs.Aside.{asidesFrom, OwnedAside}
 use Rattle.delete.proofs.Listed.{aside, listed-none, listed-more}
 
 -- all but the last m are in again
@@ -37,6 +41,7 @@ pub record Returning (w₀ : List ℤ) (es : List Entry) (ls : List ℕ) (n : �
   pub fit : Fit w
   pub known : Known (read w) f
   pub waits : Waiting (read w) (asidesFrom es ls (n - m) m)
+  pub owned : OwnedAside (read w .edition) (asidesFrom es ls (n - m) m)
   pub rest : reinsert ours (read w) (asidesFrom es ls (n - m) m) ≡ reinsert ours (read w₀) (asidesFrom es ls 0 n)
   pub high : read w .height + m ≤ 8 + n
 
@@ -69,8 +74,15 @@ module _ {w₀ : List ℤ} {es : List Entry} {ls : List ℕ} {n : ℕ} {w : List
     there : (d : Entry) → getD es (n - m) d ≡ getD es (n - m) noEntry
     there d = getD-any es (n - m) d noEntry (omega (arith, t .most, t .few, t .entries))
 
-    pub next-fits : (d : Entry) → Fits (read w) (getD ls (n - m) 0) (getD es (n - m) d)
-    next-fits d = subst (Fits (read w) (getD ls (n - m) 0)) (sym (there d)) (next-waits .fit next (List·Memᴰ·head refl))
+    next-owned : OwnedAside (read w .edition) (next ∷ later)
+    next-owned = subst (OwnedAside (read w .edition)) next-list (t .owned)
+
+    pub next-goes : (d : Entry) → MayGo (read w) (getD ls (n - m) 0) (getD es (n - m) d)
+    next-goes d = subst (MayGo (read w) (getD ls (n - m) 0)) (sym (there d)) (record {
+      fits = next-waits .fit next (List·Memᴰ·head refl);
+      kind = fits-kind (read w) (getD ls (n - m) 0) (getD es (n - m) noEntry) (next-waits .fit next (List·Memᴰ·head refl))
+          (next-owned .each next (List·Memᴰ·head refl));
+    })
 
     -- the tree is one level higher at most
     next-high : (q : Pool) → insertAt ours (getD ls (n - m) 0) (read w) (getD es (n - m) noEntry) ≡ Done q → q .height ≤ suc (read w .height)
@@ -97,6 +109,10 @@ module _ {w₀ : List ℤ} {es : List Entry} {ls : List ℕ} {n : ℕ} {w : List
           fit = y .fit;
           known = subst (λ (z : Pool). Known z g) (sym (y .is)) (y .known);
           waits = subst (λ (z : Pool). Waiting z later) (sym (y .is)) (still-waiting ours ours-lawful (read w) next later next-waits p i);
+          owned = record {
+            each = λ a k. subst (λ (e : Edition). a .level ≡ 1 → ownerSound e (ownerOf (a .entry)) ≡ true)
+                (sym (ap (λ (z : Pool). z .edition) (y .is) ∙ insert-at-edition ours (read w) p (getD ls (n - m) 0) (getD es (n - m) noEntry) i)) (next-owned .each a (List·Memᴰ·tail k));
+          };
           rest = ap (λ (z : Pool). reinsert ours z later) (y .is) ∙ sym (reinsert-done ours (read w) next later p i)
               ∙ ap (reinsert ours (read w)) (sym next-list) ∙ t .rest;
           high = omega (arith, ap (λ (z : Pool). z .height) (y .is), next-high p i, t .high);
@@ -131,8 +147,9 @@ module _ {w₀ : List ℤ} {es : List Entry} {ls : List ℕ} {n : ℕ} {w : List
       )
 
 pub returning-first : (w : List ℤ) (es : List Entry) (ls : List ℕ) (n : ℕ) (f : FreeSlots) → n ≤ 14 → length es ≡ 14 → length ls ≡ 14 → Fit w
-    → Known (read w) f → Waiting (read w) (asidesFrom es ls 0 n) → read w .height ≤ 8 → Returning w es ls n w f n
-returning-first w es ls n f few a b fit known waits high =
+    → Known (read w) f → Waiting (read w) (asidesFrom es ls 0 n) → OwnedAside (read w .edition) (asidesFrom es ls 0 n) → read w .height ≤ 8
+    → Returning w es ls n w f n
+returning-first w es ls n f few a b fit known waits owned high =
     let e : 0 ≡ n - n = omega arith in
     record {
       most = omega arith;
@@ -143,6 +160,7 @@ returning-first w es ls n f few a b fit known waits high =
       fit = fit;
       known = known;
       waits = subst (λ (j : ℕ). Waiting (read w) (asidesFrom es ls j n)) e waits;
+      owned = subst (λ (j : ℕ). OwnedAside (read w .edition) (asidesFrom es ls j n)) e owned;
       rest = ap (λ (j : ℕ). reinsert ours (read w) (asidesFrom es ls j n)) (sym e);
       high = omega arith;
     }

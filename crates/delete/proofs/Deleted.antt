@@ -8,13 +8,17 @@ use native.Mathlib.Omega.{arith}
 use lib.ListN.{length}
 use lib.IntN.{ℤ}
 use Rattle.rules.specs.declared.Record.{Record}
-use Rattle.rules.specs.Pool.{Pool, nodeAt, entriesAt, stored, putRecords}
+use Rattle.rules.specs.Owners.{ownerSound}
+use Rattle.rules.specs.Pool.{Pool, recordOf, nodeAt, entriesAt, stored, putRecords}
+use Rattle.rules.specs.Sound.{ownersSound}
 use Rattle.rules.specs.Layout.{read}
 use Rattle.rules.specs.Insert.{Change, Done, NoneFree, ours}
 use Rattle.rules.specs.Delete.{Path, Condensed, pathTo, condense, shorten, shortened, reinsert, deleteRecord}
 use Rattle.rules_laws.proofs.Orders.{never-both}
 use Rattle.rules_laws.proofs.Splits.{ours-lawful}
 use Rattle.rules_laws.proofs.Parts.{counted, those-all}
+use Rattle.rules_laws.proofs.Places.{Among}
+use Rattle.rules_laws.proofs.Everies.{every-is}
 use Rattle.layout_laws.specs.Slots.{Fit, InPool}
 use Rattle.free_slots.specs.declared.FreeSlots.{FreeSlots}
 use Rattle.free_slots.specs.Known.{Known}
@@ -29,7 +33,8 @@ use Rattle.delete_laws.specs.Shrunk.{Shrunk, Waiting, PutBack, EachPool}
 use Rattle.delete_laws.proofs.Finds.{find-leads}
 use Rattle.delete_laws.proofs.Held.{held-stored, find-held}
 use Rattle.delete_laws.proofs.Again.{reinsert-puts}
-use Rattle.delete_laws.proofs.Delete.{short-done, short-none, back-is, stands, way-leads, out, out-is, shrunk, waiting, delete-found}
+use Rattle.delete_laws.proofs.Delete.{short-done, short-none, back-is, stands, way-leads, out, out-is, shrunk, waiting, aside-stored, delete-found}
+use Rattle.delete_laws.proofs.Lasting.{condense-edition}
 use Rattle.delete_laws.proofs.Keeps.{delete-kept}
 use Rattle.find_leaf.specs.declared.Way.{Way}
 use Rattle.find_leaf.specs.Ways.{pathOf, Long, Gives}
@@ -39,7 +44,7 @@ use Rattle.insert.specs.Left.{HoldsPool}
 use Rattle.insert.proofs.Records.{records-few}
 use Rattle.delete.specs.declared.Asides.{Asides}
 use Rattle.delete.specs.Removed.{Removes}
-use Rattle.delete.specs.Aside.{asidesOf, Has, ComesDown, thinAt, StillKnown}
+use Rattle.delete.specs.Aside.{asidesOf, OwnedAside, Has, ComesDown, thinAt, StillKnown}
 use Rattle.delete.proofs.Nodes.{few-read, in-pool}
 use Rattle.delete.proofs.Listed.{listed-length}
 use Rattle.delete.proofs.Climb.{nodeOn, down-high, leaf-rewritable}
@@ -65,6 +70,7 @@ removes-none v w NoneFree h = refl
 pub record ToDelete (w₀ : List ℤ) (r : Record) (way : Way) : Type 0 where
   pub fit : Fit w₀
   pub whole : Whole (read w₀)
+  pub owned : ownersSound (read w₀) ≡ true
   pub found : way .found ≡ true
   pub shows : Gives (pathTo (read w₀) r) (read w₀ .height) way
 
@@ -97,6 +103,10 @@ module _ {w₀ : List ℤ} {r : Record} {way : Way} (g : ToDelete w₀ r way) wh
   high = height-eight p (g .whole) (few-read (g .fit))
 
   -- the pair is one of the records
+  stored-owned : (x : Record) → Among x (stored p) → ownerSound (p .edition) (x .owner) ≡ true
+  unfolding ownersSound
+  stored-owned = every-is (λ (x : Record). ownerSound (p .edition) (x .owner)) (stored p) .0 (g .owned)
+
   pub some-record : 1 ≤ p .records
   some-record =
       let h = find-held p (g .whole) r .1 (subst Found (sym finds) tt) in
@@ -181,6 +191,17 @@ module _ {w₀ : List ℤ} {r : Record} {way : Way} (g : ToDelete w₀ r way) wh
 
       pub back-waits : Waiting (read w₂) (asidesOf a)
       back-waits = subst₂ Waiting (sym (has .pool .is)) (sym (has .list)) (waiting ours ours-lawful p (g .whole) r path led)
+
+      -- the edition is as it was, and each leaf entry set aside was stored
+      back-edition : read w₂ .edition ≡ p .edition
+      unfolding putRecords
+      back-edition = ap (λ (q : Pool). q .edition) (has .pool .is) ∙ ap (λ (x : Condensed). x .pool .edition) done-is ∙ condense-edition less path
+
+      pub back-owned : OwnedAside (read w₂ .edition) (asidesOf a)
+      unfolding recordOf
+      back-owned = subst₂ OwnedAside (sym back-edition) (sym (has .list)) (record {
+        each = aside-stored ours ours-lawful p (g .whole) r path led (λ (x : Record). ownerSound (p .edition) (x .owner)) stored-owned;
+      })
 
       pub asides-few : a .count ≤ 14
       unfolding putRecords

@@ -13,20 +13,19 @@ use Rattle.rules.specs.declared.Entry.{Entry}
 use Rattle.rules.specs.Lists.{without}
 use Rattle.rules.specs.Numbers.{mostSlots}
 use Rattle.rules.specs.Pool.{Node, Pool, slot, node, noEntry, nodeAt, entriesAt, freeCount, putNode, putEntries}
-use Rattle.rules.specs.Layout.{read}
+use Rattle.rules.specs.Layout.{editionOf, read}
 use Rattle.rules.specs.Delete.{place, takeOut}
 use Rattle.rules_laws.proofs.Places.{at-place, each-at}
 use Rattle.rules_laws.proofs.Parts.{length-without, those-fewer, among-without}
-use Rattle.layout_laws.specs.Slots.{InPool, Fit, Small, SmallAll, KindAll}
-use Rattle.layout_laws.proofs.Parts.{slotWords, slot-node}
-use Rattle.layout_laws.proofs.Written.{Kind, Fine, node-fine}
+use Rattle.layout_laws.specs.Slots.{InPool, Fit, Small, SmallAll, KindOf, KindAll}
+use Rattle.layout_laws.proofs.Written.{fine-at}
 use Rattle.sound_laws.specs.Tree.{Slot, Tree}
 use Rattle.sound_laws.proofs.Walk.{tree-node}
 use Rattle.insert_laws.proofs.Under.{tree-fits}
 use Rattle.free_slots.specs.declared.FreeSlots.{FreeSlots}
 use Rattle.free_slots.specs.Known.{Known}
 use Rattle.nodes.proofs.Slots.{most-slots}
-use Rattle.insert.proofs.Fitted.{slot-in, fits-stored}
+use Rattle.insert.proofs.Fitted.{slot-in, fits-small}
 use Rattle.delete.specs.Aside as A
 
 -- ---- slots
@@ -49,18 +48,18 @@ tree-rewritable p few l s low d =
     record {
       slot = n .slot;
       low = omega (arith, n .level);
-      small = record { small = λ i h. fits-stored p l (getD (entriesAt p s) i noEntry) few (tree-fits p l s d _ (at-place (entriesAt p s) i noEntry h)) .small };
+      small = record { small = λ i h. fits-small p l (getD (entriesAt p s) i noEntry) few (tree-fits p l s d _ (at-place (entriesAt p s) i noEntry h)) };
     }
 
 -- ---- an entry goes out
 
 module _ {w : List ℤ} {s : SlotNumber} (f : Fit w) (g : Slot (read w) s) where
-  here-fine : Fine (nodeAt (read w) s)
-  here-fine = let i = in-pool f g in subst Fine (sym (slot-node i)) (node-fine (slotWords w s))
-
-  pub here-kind : (k : ℕ) → k < length (entriesAt (read w) s) → Kind (nodeAt (read w) s .level) (getD (entriesAt (read w) s) k noEntry)
+  pub here-kind : (k : ℕ) → k < length (entriesAt (read w) s)
+      → KindOf (editionOf w) (nodeAt (read w) s .level) (getD (entriesAt (read w) s) k noEntry .pointer)
   unfolding entriesAt
-  here-kind k h = each-at (Kind (nodeAt (read w) s .level)) (nodeAt (read w) s .entries) k noEntry h (here-fine .kinds)
+  here-kind k h =
+      each-at (λ (x : Entry). KindOf (editionOf w) (nodeAt (read w) s .level) (x .pointer)) (nodeAt (read w) s .entries) k noEntry h
+      (fine-at (in-pool f g) .kinds)
 
 module _ {w : List ℤ} {s : SlotNumber} (f : Fit w) (g : A.Rewritable (read w) s) where
   module _ (i n : ℕ) (es rest : List Entry) (there : i < length (entriesAt (read w) s)) (size : n ≡ length (entriesAt (read w) s))
@@ -78,9 +77,10 @@ module _ {w : List ℤ} {s : SlotNumber} (f : Fit w) (g : A.Rewritable (read w) 
     pub rest-small : SmallAll rest (n - 1)
     rest-small = record { small = λ j h. let k = rest-at j h in subst (λ (e : Entry). Small (e .pointer)) (k .2) (g .small .small (k .0) (k .1)) }
 
-    pub rest-kind : (level : ℕ) → level ≡ nodeAt (read w) s .level → KindAll level rest (n - 1)
+    pub rest-kind : (level : ℕ) → level ≡ nodeAt (read w) s .level → KindAll (editionOf w) level rest (n - 1)
     rest-kind level e = record {
-      kind = λ j h. let k = rest-at j h in rw e (subst (Kind (nodeAt (read w) s .level)) (k .2) (here-kind f (g .slot) (k .0) (k .1)));
+      kind = λ j h. let k = rest-at j h in
+          rw e (subst (λ (x : Entry). KindOf (editionOf w) (nodeAt (read w) s .level) (x .pointer)) (k .2) (here-kind f (g .slot) (k .0) (k .1)));
     }
 
     pub taken-out : (level : ℕ) → level ≡ nodeAt (read w) s .level → putNode (read w) s (node level (take (n - 1) rest)) ≡ takeOut (read w) (place s i)

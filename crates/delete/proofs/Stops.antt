@@ -13,18 +13,19 @@ use borrow.Author.Tests.{leb-false, ltb-false, ne-eqb}
 use Rattle.rules.specs.declared.SlotNumber.{SlotNumber}
 use Rattle.rules.specs.declared.Pointer.the-variants.{Child}
 use Rattle.rules.specs.declared.Rect.{Rect}
+use Rattle.rules.specs.declared.Edition.{Edition}
 use Rattle.rules.specs.declared.Entry.{Entry}
 use Rattle.rules.specs.Numbers.{least, mostSlots}
 use Rattle.rules.specs.Geometry.{sameRect}
 use Rattle.rules.specs.Pool.{Pool, entry, slot, nodeAt, entriesAt, entryFrom, entryAt, childOf, rects, coverOf, entryFor, tighten}
 use Rattle.rules.specs.Choose.{rectFrom}
-use Rattle.rules.specs.Layout.{read, natural, pointerWord}
+use Rattle.rules.specs.Layout.{editionOf, read, natural, pointerWord}
 use Rattle.rules.specs.Delete.{place, Condensed, takeOut, relieve, condense}
 use Rattle.rules_laws.proofs.Bools.{not-false}
 use Rattle.rules_laws.proofs.Orders.{never-both}
-use Rattle.layout_laws.specs.Slots.{Fit}
+use Rattle.layout_laws.specs.Slots.{Fit, KindOf}
 use Rattle.layout_laws.proofs.Parts.{rect-entry}
-use Rattle.layout_laws.proofs.Written.{Kind, pointer-child, child-is}
+use Rattle.layout_laws.proofs.Written.{pointer-child, child-is}
 use Rattle.free_slots.specs.Known.{Known}
 use Rattle.sound_laws.specs.Tree.{Slot}
 use Rattle.sound_laws.proofs.Same.{same-rect}
@@ -56,16 +57,16 @@ thin-keeps p s h two = go (leb (length (entriesAt p s)) least) refl (ltb 1 (p .h
 -- ---- a cover that is tight already
 
 -- an entry of an inner node leads to a child
-inner-pointer : (l : ℕ) → 2 ≤ l → (e : Entry) → Kind l e → e .pointer ≡ Child (childOf e)
-inner-pointer l two e k =
+inner-pointer : (ed : Edition) (l : ℕ) → 2 ≤ l → (e : Entry) → KindOf ed l (e .pointer) → e .pointer ≡ Child (childOf e)
+inner-pointer ed l two e k =
     let z = pointerWord (e .pointer) in
-    let q : e .pointer ≡ Child (slot (natural z)) = sym k ∙ pointer-child l z (ne-eqb l 1 (λ o. omega (arith, o, two))) in
+    let q : e .pointer ≡ Child (slot (natural z)) = sym k ∙ pointer-child l z _ (ne-eqb l 1 (λ o. omega (arith, o, two))) in
     q ∙ ap Child (child-is e (natural z) z q refl)
 
 pub read-pointer : {w : List ℤ} → Fit w → (s : SlotNumber) → Slot (read w) s → 2 ≤ nodeAt (read w) s .level → (i : ℕ)
     → i < length (entriesAt (read w) s) → entryAt (read w) s i .pointer ≡ Child (childOf (entryAt (read w) s i))
 unfolding entryAt entryFrom
-read-pointer {w} f s k two i there = inner-pointer (nodeAt (read w) s .level) two (entryAt (read w) s i) (here-kind f k i there)
+read-pointer {w} f s k two i there = inner-pointer (editionOf w) (nodeAt (read w) s .level) two (entryAt (read w) s i) (here-kind f k i there)
 
 -- as the code asks it
 pub wide-told : (p : Pool) (s : SlotNumber) (i : ℕ) (t : SlotNumber) → childOf (entryAt p s i) ≡ t → (a b : Rect)

@@ -1,19 +1,22 @@
 -- The entries set aside as the code has them, and what the steps up the way ask of the pool.
 use mathlib.Core.Path.{_≡_}
-use mathlib.Core.Bool.{Bool, not, _&&_}
+use mathlib.Core.Bool.{Bool, true, not, _&&_}
 use mathlib.Core.Logic.{_≢_}
 use mathlib.Core.List.{List, [], _∷_}
 use Prim.Native.Nat.{ℕ, zero, suc, _≤_, _<_}
 use lib.Dec.{leb, ltb}
 use lib.ListN.{length, getD}
 use lib.IntN.{ℤ}
+use Rattle.rules.specs.declared.Edition.{Edition}
 use Rattle.rules.specs.declared.SlotNumber.{SlotNumber}
 use Rattle.rules.specs.declared.Record.{Record}
 use Rattle.rules.specs.declared.Entry.{Entry}
 use Rattle.rules.specs.Numbers.{least, mostSlots}
+use Rattle.rules.specs.Owners.{ownerSound}
 use Rattle.rules.specs.Geometry.{sameRect}
-use Rattle.rules.specs.Pool.{Pool, noEntry, nodeAt, entriesAt, entryAt, childOf, coverOf}
+use Rattle.rules.specs.Pool.{Pool, noEntry, nodeAt, entriesAt, entryAt, childOf, ownerOf, coverOf}
 use Rattle.rules.specs.Delete.{Aside, Condensed}
+use Rattle.rules_laws.proofs.Places.{Among}
 use Rattle.layout_laws.specs.Slots.{SmallAll}
 use Rattle.free_slots.specs.declared.FreeSlots.{FreeSlots}
 use Rattle.free_slots.specs.Known.{Known, moreSlot}
@@ -41,6 +44,10 @@ withFree a t = record { entries = a .entries; levels = a .levels; count = a .cou
 pub record Roomy (a : Asides) : Type 0 where
   pub entries : length (a .entries) ≡ 14
   pub levels : length (a .levels) ≡ 14
+
+-- the leaf entries among those set aside are of owners that the edition has
+pub record OwnedAside (e : Edition) (xs : List Aside) : Type 0 where
+  pub each : (a : Aside) → Among a xs → a .level ≡ 1 → ownerSound e (ownerOf (a .entry)) ≡ true
 
 -- the words hold the pool of d, and a has what d has set aside
 pub record Has (d : Condensed) (a : Asides) (w : List ℤ) : Type 0 where

@@ -6,6 +6,7 @@ ghost use Prim.Native.Nat.{_+_, _-_, _≤_, _<_};
 ghost use lib.ListN.{length, take};
 ghost use Rattle.rules.specs.Lists.{without};
 ghost use Rattle.rules.specs.Pool as P;
+ghost use Rattle.rules.specs.Sound.{ownersSound};
 ghost use Rattle.rules.specs.Layout as L;
 ghost use Rattle.rules.specs.Insert as I;
 ghost use Rattle.rules.specs.Delete as D;
@@ -18,7 +19,7 @@ ghost use Rattle.delete_laws.specs.Shrunk.{Waiting, condensed};
 ghost use Rattle.find_leaf.specs.Ways.{Gives, pathOf};
 ghost use Rattle.insert.specs.Left.{HoldsPool};
 ghost use Rattle.delete.specs.Removed.{Removes};
-ghost use Rattle.delete.specs.Aside.{asidesOf, Roomy, Has, Rewritable, ChildAt, ComesDown, withFree, thinAt, wideAt, StillKnown};
+ghost use Rattle.delete.specs.Aside.{asidesOf, Roomy, OwnedAside, Has, Rewritable, ChildAt, ComesDown, withFree, thinAt, wideAt, StillKnown};
 use find_leaf::Way;
 use free_slots::FreeSlots;
 use insert::Outcome;
@@ -248,7 +249,7 @@ fn condense(pool: &mut [i32], way: Way, height: usize, free: FreeSlots) -> Aside
 // CT6: "entries set aside are inserted again, lowest level first, in stored order, each at its own level, by the insert rules".
 fn reinsert(pool: &mut [i32], asides: Asides) -> Outcome
     requires { ⌜ Fit (now pool) ⌝ }
-    requires { ⌜ Waiting (L.read (now pool)) (asidesOf asides) ⌝ }
+    requires { ⌜ Waiting (L.read (now pool)) (asidesOf asides) × OwnedAside (L.read (now pool) .edition) (asidesOf asides) ⌝ }
     requires { ⌜ Known (L.read (now pool)) (asides .free) ⌝ }
     requires { ⌜ Roomy asides ⌝ }
     requires { ⌜ (asides .count ≤ 14) × (L.read (now pool) .height ≤ 8) ⌝ }
@@ -300,7 +301,7 @@ fn shorten(pool: &mut [i32], free: FreeSlots) -> FreeSlots
 // cannot know that there are enough slots keeps a copy.
 pub fn delete_record(pool: &mut [i32], r: Record, way: Way, free: FreeSlots) -> Outcome
     requires { ⌜ Fit (now pool) ⌝ }
-    requires { ⌜ Whole (L.read (now pool)) ⌝ }
+    requires { ⌜ Whole (L.read (now pool)) × (ownersSound (L.read (now pool)) ≡ true) ⌝ }
     requires { ⌜ Known (L.read (now pool)) free ⌝ }
     requires { ⌜ way .found ≡ true ⌝ }
     requires { ⌜ Gives (D.pathTo (L.read (now pool)) r) (L.read (now pool) .height) way ⌝ }

@@ -11,7 +11,7 @@ use Rattle.rules.specs.Pool.{Pool, sameSlot, nodeAt, entriesAt}
 use Rattle.rules.specs.Delete.{Aside, asides}
 use Rattle.rules_laws.proofs.Places.{Among, map-same}
 use Rattle.rules_laws.proofs.Joins.{joined-none, joined-more, among-joined, joined-among, count-joined}
-use Rattle.rules_laws.proofs.Sums.{total-none, total-more, total-append, total-alike}
+use Rattle.rules_laws.proofs.Sums.{total-none, total-more, total-append, total-alike, total-member}
 use Rattle.sound_laws.specs.Tree.{times, Used, Tree}
 use Rattle.sound_laws.proofs.Walk.{tree-node}
 use Rattle.sound_laws.proofs.Frame.{slots-frame}
@@ -62,6 +62,10 @@ module _ (p : Pool) where
     pub weight-aside-more : (a : Aside) (xs : List Aside) → weightAside w p (a ∷ xs) ≡ weightUnder w p (a .level) (a .entry) + weightAside w p xs
     unfolding weightAside
     weight-aside-more a xs = total-more (λ (a : Aside). weightUnder w p (a .level) (a .entry)) a xs
+
+    pub aside-member : (a : Aside) (xs : List Aside) → Among a xs → weightUnder w p (a .level) (a .entry) ≤ weightAside w p xs
+    unfolding weightAside
+    aside-member a xs m = total-member (λ (a : Aside). weightUnder w p (a .level) (a .entry)) m
 
     pub weight-aside-append : (xs ys : List Aside) → weightAside w p (xs ++ ys) ≡ weightAside w p xs + weightAside w p ys
     unfolding weightAside

@@ -10,7 +10,7 @@ use lib.ListN.{length}
 use Rattle.rules.specs.declared.SlotNumber.{SlotNumber}
 use Rattle.rules.specs.declared.Record.{Record}
 use Rattle.rules.specs.Lists.{those}
-use Rattle.rules.specs.Pool.{Node, Pool, freeNode, nodeAt, entriesAt, entryAt, childOf, numberOf, recordOf, leafEntry}
+use Rattle.rules.specs.Pool.{Node, Pool, freeNode, nodeAt, entriesAt, entryAt, childOf, numberOf, ownerOf, recordOf, leafEntry}
 use Rattle.rules.specs.Delete.{Place, place, Path, Condensed, takeOut, relieve, condense}
 use Rattle.sound_laws.specs.Tree.{slotsIn, recordsIn, treeSlots, treeRecords, times, Once, Slot, Used, Tree}
 use Rattle.sound_laws.proofs.Times.{times-none, among-times, times-among, not-among}
@@ -34,7 +34,7 @@ module _ (p : Pool) where
   unfolding condense
   condense-one a = refl
 
-  condense-more : (a b : Place) (way : Path) → condense p (a ∷ b ∷ way) ≡ relieve a (b .node) (condense p (b ∷ way))
+  pub condense-more : (a b : Place) (way : Path) → condense p (a ∷ b ∷ way) ≡ relieve a (b .node) (condense p (b ∷ way))
   unfolding condense
   condense-more a b way = refl
 
@@ -71,7 +71,7 @@ module _ (p : Pool) where
 
 module _ (p : Pool) (r : Record) where
   record-back : recordOf (leafEntry r) ≡ r
-  unfolding recordOf leafEntry numberOf
+  unfolding recordOf leafEntry numberOf ownerOf
   record-back = refl
 
   count-record : (f : Record → Bool) → countOf f .ofRecord r ≡ length (those f (r ∷ []))

@@ -1,8 +1,8 @@
 -- A record goes out of a whole pool, and the pool is whole again: nothing is lost but the pair. With enough slots it is never refused.
 use mathlib.Core.Path.{_≡_, refl, sym, ap, subst, _∙_}
 use mathlib.Core.Logic.{_≢_}
-use mathlib.Core.Bool.{Bool, true, false}
-use mathlib.Core.List.{List, [], _∷_}
+use mathlib.Core.Bool.{Bool, true, false, not}
+use mathlib.Core.List.{List, [], _∷_, List·Memᴰ·head}
 use mathlib.Core.Option.{Option, none, some}
 use Prim.Native.Nat.{ℕ, zero, suc, _+_, _-_, _≤_}
 use native.Mathlib.Omega.{arith}
@@ -10,24 +10,28 @@ use lib.ListN.{length}
 use Rattle.rules.specs.declared.SlotNumber.{SlotNumber}
 use Rattle.rules.specs.declared.Record.{Record}
 use Rattle.rules.specs.Lists.{those}
-use Rattle.rules.specs.Pool.{Pool, nodeAt, entriesAt, entryAt, childOf, stored, held, freeCount, putRecords}
+use Rattle.rules.specs.Pool.{Pool, recordOf, nodeAt, entriesAt, entryAt, childOf, stored, held, freeCount, putRecords}
 use Rattle.rules.specs.Sound.{soundPool}
 use Rattle.rules.specs.Insert.{Choice, Change, Done, NoneFree}
 use Rattle.rules.specs.Lawful.{Lawful}
-use Rattle.rules.specs.Delete.{Path, Condensed, pathTo, condense, shorten, shortened, reinsert, putBack, deleteRecord}
+use Rattle.rules.specs.Delete.{Path, Aside, Condensed, pathTo, condense, shorten, shortened, reinsert, putBack, deleteRecord}
 use Rattle.rules_laws.proofs.Orders.{never-both}
-use Rattle.rules_laws.proofs.Parts.{those-all}
+use Rattle.rules_laws.proofs.Parts.{those-all, those-nothing, counted}
+use Rattle.rules_laws.proofs.Places.{Among}
 use Rattle.sound_laws.specs.Tree.{treeRecords, Whole}
 use Rattle.sound_laws.proofs.Whole.{stored-in}
 use Rattle.sound_laws.proofs.Sound.{whole-sound}
 use Rattle.sound_laws.proofs.Free.{head-free}
+use Rattle.insert_laws.specs.Grown.{recordsUnder, weightUnder}
 use Rattle.insert_laws.specs.Standing.{Standing}
+use Rattle.insert_laws.proofs.Counts.{countOf, count-under}
 use Rattle.insert_laws.proofs.Standing.{standing-once}
 use Rattle.insert_laws.proofs.Whole.{head-standing, whole-standing, standing-whole, standing-stored, head-records}
 use Rattle.delete_laws.specs.Way.{Leads, EachWay, Found, mostBack}
-use Rattle.delete_laws.specs.Shrunk.{Shrunk, Waiting, PutBack, Shortened, Deleted, EachPool, Sure, roomFor, SlotRoom}
+use Rattle.delete_laws.specs.Shrunk.{weightAside, Shrunk, Waiting, PutBack, Shortened, Deleted, EachPool, Sure, roomFor, SlotRoom}
 use Rattle.delete_laws.proofs.Finds.{find-leads}
 use Rattle.delete_laws.proofs.Held.{find-held}
+use Rattle.delete_laws.proofs.Asides.{aside-member}
 use Rattle.delete_laws.proofs.Condense.{condense-shrunk, shrunk-count, shrunk-waiting}
 use Rattle.delete_laws.proofs.Thin.{thin-head, condense-few}
 use Rattle.delete_laws.proofs.Again.{reinsert-puts}
@@ -99,6 +103,45 @@ module _ (c : Choice) where
 
     pub waiting : Waiting (out .pool) (out .setAside)
     waiting = shrunk-waiting less stands (head-two p (p .records - 1) w) r out shrunk
+
+    -- how many of the stored records a test holds for, by what is left and what is set aside
+    out-count : (f : Record → Bool) → weightAside (countOf f) (out .pool) (out .setAside) ≤ length (those f (stored p))
+    out-count f =
+        omega (
+          arith,
+          shrunk-count less stands (head-two p (p .records - 1) w) r out shrunk f,
+          ap (λ (rs : List Record). length (those f rs)) (head-tree p (p .records - 1)),
+          stored-in p w f,
+        )
+
+    -- a leaf's entry that is set aside is a stored record: a test that holds for all of these holds for it
+    pub aside-stored : (f : Record → Bool) → ((x : Record) → Among x (stored p) → f x ≡ true) → (a : Aside) → Among a (out .setAside) → a .level ≡ 1
+        → f (recordOf (a .entry)) ≡ true
+    unfolding recordsUnder
+    aside-stored f all a m l = go (f x) refl
+      where
+        x : Record
+        x = recordOf (a .entry)
+
+        others : Record → Bool
+        others y = not (f y)
+
+        here : weightUnder (countOf others) (out .pool) (a .level) (a .entry) ≡ length (those others (x ∷ []))
+        here =
+            ap (λ (k : ℕ). weightUnder (countOf others) (out .pool) k (a .entry)) l
+            ∙ count-under (out .pool) others 1 (a .entry)
+
+        go : (b : Bool) → f x ≡ b → f x ≡ true
+        go true e = e
+        go false e =
+            absurd (omega (
+              arith,
+              here,
+              aside-member (out .pool) (countOf others) a (out .setAside) m,
+              out-count others,
+              ap length (those-nothing others (stored p) (λ y k. ap not (all y k))),
+              counted others {x = x} {xs = x ∷ []} (List·Memᴰ·head refl) (ap not e),
+            ))
 
     module _ (q : Pool) (g : PutBack (out .pool) (out .setAside) q) where
       short : Shortened q (shorten q)
@@ -187,7 +230,7 @@ module _ (c : Choice) where
   -- ---- D1 to D4
 
   module _ (p : Pool) (r : Record) where
-    delete-missing : pathTo p r ≡ none → deleteRecord c p r ≡ Done p
+    pub delete-missing : pathTo p r ≡ none → deleteRecord c p r ≡ Done p
     unfolding deleteRecord
     delete-missing h = rw (h, deleteRecord)
 

@@ -36,7 +36,7 @@ use Rattle.delete_laws.proofs.Delete.{short-done, back-is, stands, way-
 put-own : (p : Pool) (s : SlotNumber) → putEntries p s (entriesAt p s) ≡ p
 unfolding putEntries putNode entriesAt nodeAt
 put-own p s =
-    ap (λ (ns : List Node). record { root = p .root; height = p .height; records = p .records; slots = ns })
+    ap (λ (ns : List Node). record { edition = p .edition; root = p .root; height = p .height; records = p .records; slots = ns })
     (set-getD (p .slots) (s .0 - 1) freeNode)
 
 pub tighten-tight : (p : Pool) (s : SlotNumber) (i : ℕ) → entryFor p (childOf (entryAt p s i)) ≡ entryAt p s i → tighten p s i ≡ p

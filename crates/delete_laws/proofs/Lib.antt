@@ -13,3 +13,4 @@ pub mod Short
 pub mod Delete
 pub mod Keeps
 pub mod Update
+pub mod Lasting

@@ -13,7 +13,7 @@ use Rattle.rules.specs.declared.Record.{Record}
 use Rattle.rules.specs.Lists.{those}
 use Rattle.rules.specs.Numbers.{goodNumber}
 use Rattle.rules.specs.Geometry.{valid}
-use Rattle.rules.specs.Pool.{Pool, stored, held, freeCount}
+use Rattle.rules.specs.Pool.{Pool, moved, stored, held, freeCount}
 use Rattle.rules.specs.Sound.{soundPool}
 use Rattle.rules.specs.Insert.{Choice, Change, Done, NoneFree, insertRecord}
 use Rattle.rules.specs.Lawful.{Lawful}
@@ -27,12 +27,8 @@ use Rattle.delete_laws.specs.Shrunk.{EachPool, Sure, roomFor, SlotRoom}
 use Rattle.delete_laws.proofs.Held.{held-number}
 use Rattle.delete_laws.proofs.Delete.{delete-room, delete-whole, delete-stored}
 
--- "inserts the new rectangle under the same number"
-abbrev pub renewed : Record → Rect → Record
-renewed old new = record { number = old .number; rect = new }
-
 module _ (c : Choice) (p : Pool) (old : Record) (new : Rect) where
-  pub update-done : (q : Pool) → deleteRecord c p old ≡ Done q → updateRecord c p old new ≡ insertRecord c q (renewed old new)
+  pub update-done : (q : Pool) → deleteRecord c p old ≡ Done q → updateRecord c p old new ≡ insertRecord c q (moved old new)
   unfolding updateRecord
   update-done q h = rw (h, updateRecord)
 
@@ -43,7 +39,7 @@ module _ (c : Choice) (p : Pool) (old : Record) (new : Rect) where
   module _ (lawful : Lawful c) (w : Whole p) (y : held p old ≡ true) (v : valid new ≡ true) (z : Pool) (u : updateRecord c p old new ≡ Done z) where
     abbrev Updated : Type 0
     Updated = Whole z × ((f : Record → Bool)
-        → length (those f (stored z)) + length (those f (old ∷ [])) ≡ length (those f (stored p)) + length (those f (renewed old new ∷ [])))
+        → length (those f (stored z)) + length (those f (old ∷ [])) ≡ length (those f (stored p)) + length (those f (moved old new ∷ [])))
 
     updated : Updated
     updated = go (deleteRecord c p old) refl
@@ -55,8 +51,8 @@ module _ (c : Choice) (p : Pool) (old : Record) (new : Rect) where
         go (Done q) h =
             let whole = delete-whole c lawful p w old q h in
             let is = sym (update-done q h) ∙ u in (
-              insert-whole c lawful q whole (renewed old new) v number z is,
-              λ f. omega (arith, delete-stored c lawful p w old q h y f, insert-stored c lawful q whole (renewed old new) v number z is f),
+              insert-whole c lawful q whole (moved old new) v number z is,
+              λ f. omega (arith, delete-stored c lawful p w old q h y f, insert-stored c lawful q whole (moved old new) v number z is f),
             )
         go NoneFree h = absurd (subst (EachPool (λ x. ⊥)) (sym (update-stuck h) ∙ u) tt)
 
@@ -64,7 +60,7 @@ module _ (c : Choice) (p : Pool) (old : Record) (new : Rect) where
     update-whole = updated .0
 
     pub update-stored : (f : Record → Bool)
-        → length (those f (stored z)) + length (those f (old ∷ [])) ≡ length (those f (stored p)) + length (those f (renewed old new ∷ []))
+        → length (those f (stored z)) + length (those f (old ∷ [])) ≡ length (those f (stored p)) + length (those f (moved old new ∷ []))
     update-stored = updated .1
 
     pub update-sound : soundPool z ≡ true
@@ -83,6 +79,6 @@ module _ (c : Choice) (p : Pool) (old : Record) (new : Rect) where
         go : (o : Change) → deleteRecord c p old ≡ o → ⊥
         go (Done q) h =
             let k = subst (Sure (SlotRoom p (mostBack p way))) h sure in
-            insert-fits c lawful q (delete-whole c lawful p w old q h) (renewed old new) v (held-number p w old y)
+            insert-fits c lawful q (delete-whole c lawful p w old q h) (moved old new) v (held-number p w old y)
             (omega (arith, room, k .high, k .left)) (sym (update-done q h) ∙ u)
         go NoneFree h = subst (Sure (SlotRoom p (mostBack p way))) h sure

@@ -14,6 +14,7 @@ use Rattle.rules_laws.proofs.Places.{Among}
 use Rattle.sound_laws.specs.Tree.{slotsIn, treeRecords, Tree, Whole}
 use Rattle.insert_laws.specs.Grown.{slotsUnder, Fits, Weights, weightUnder, spot, weightAt, SameHead}
 use Rattle.insert_laws.specs.Standing.{Standing}
+pub use Rattle.insert_laws.specs.Lasting.{EachPool}
 use Rattle.insert_laws.proofs.Counts.{countOf}
 
 abbrev pub condensed : Pool → List Aside → Condensed
@@ -72,11 +73,6 @@ pub record Shortened (p q : Pool) : Type 0 where
 pub record Deleted (p : Pool) (r : Record) (q : Pool) : Type 0 where
   pub whole : Whole q
   pub stored : (f : Record → Bool) → length (those f (stored q)) + length (those f (r ∷ [])) ≡ length (those f (stored p))
-
--- a pool, where one is given, is as it should be
-abbrev pub EachPool : (Pool → Type 0) → Change → Type 0
-EachPool Good (Done q) = Good q
-EachPool Good NoneFree = Unit {0}
 
 -- a pool is given, and is as it should be
 abbrev pub Sure : (Pool → Type 0) → Change → Type 0

@@ -3,27 +3,31 @@
 use mathlib.Core.Path.{_≡_, refl}
 use mathlib.Core.Bool.{true}
 use mathlib.Core.List.{List, [], _∷_}
+use mathlib.Core.Option.{some}
 use Prim.Native.Nat.{ℕ, _≤_}
 use native.Mathlib.Omega.{arith}
 use lib.ListN.{length, take, replicate}
 use lib.Dec.{ltb}
 use lib.IntN.{ℤ, pos}
 use lib.Signed.{mag}
+use Rattle.rules.specs.declared.Edition.the-variants.{One, Two}
 use Rattle.rules.specs.declared.Record.{Record}
+use Rattle.rules.specs.declared.Request.{Request}
 use Rattle.rules.specs.declared.Mode.the-variants.{Meeting}
 use Rattle.rules.specs.Lists.{those, every}
+use Rattle.rules.specs.Owners.{editionTold, owner, nobody, ofOwner}
 use Rattle.rules.specs.Geometry.{samePair}
 use Rattle.rules.specs.Pool.{blankPool, noRecord, stored}
-use Rattle.rules.specs.Layout.{validLength, slotCount, words, read}
-use Rattle.rules.specs.Search.{ordered}
+use Rattle.rules.specs.Layout.{slotsIn, validSize, words, read}
 use Rattle.rules.specs.Answers.{answer}
 use Rattle.rules.specs.Call.{Lent, call}
-use Rattle.rules.specs.File.{fileBytes, writeFile, readFile}
+use Rattle.rules.specs.File.{fileBytes, recordsCarried, writeFile, readFileAs}
 use Rattle.rules.specs.Computed.{document01, document02}
-use Rattle.rules.specs.Histories.{box, insert, search, shown}
+use Rattle.rules.specs.Histories.{box, insert, search, shown, zone}
+use Rattle.search_laws.specs.Order.{Alike}
 use Rattle.in_force_laws.specs.Force.{forceAfter, filledAfter}
 use Rattle.in_force_laws.specs.Batch.{Told}
-use Rattle.demands.specs.Steps.{Step, Read, Call, poolAfter, History, inForceAfter}
+use Rattle.demands.specs.Steps.{Step, Read, Call, poolAfter, History, recordsTold, inForceAfter}
 use Rattle.demands.specs.Demands.{after}
 use Rattle.demands.specs.Files.{Write, ReadOf, fileOf, WrittenAgain, CarriedOver}
 use Rattle.rules_laws.proofs.Places.{Each}
@@ -45,14 +49,16 @@ writing w buffer =
       allowed = record { number = refl; file = refl; size = refl };
     }
 
-abbrev reading : (file : List ℕ) → List ℤ → ReadOf file
-reading file w =
+abbrev reading : ℤ → (file : List ℕ) → List ℤ → ReadOf file
+reading edition file w =
     record {
+      edition = edition;
+      rule = pos 0;
       pool = w;
       work = w;
-      number = readFile w w file .number;
-      left = readFile w w file .pool;
-      workspace = readFile w w file .workspace;
+      number = readFileAs edition (pos 0) w w file .number;
+      left = readFileAs edition (pos 0) w w file .pool;
+      workspace = readFileAs edition (pos 0) w w file .workspace;
       allowed = record { number = refl; pool = refl; workspace = refl };
     }
 
@@ -62,8 +68,9 @@ reading file w =
 fill : Lent
 fill =
     record {
-      pool = words (blankPool 0);
-      workspace = words (blankPool 0);
+      owner = owner (pos 1);
+      pool = words (blankPool One 0);
+      workspace = words (blankPool One 0);
       requests = insert 9 (box 40 0 50 9) ∷ insert 7 (box 0 0 10 10) ∷ insert 7 (box 0 0 9 9) ∷ [];
       answers = replicate 3 (answer 1 2 3 4);
       found = [];
@@ -72,7 +79,7 @@ fill =
 filled : List Step
 filled = Call fill (call fill) ∷ []
 
-filled-history : History 0 filled
+filled-history : History One 0 filled
 unfolding poolAfter filled fill
 filled-history = (refl, record { number = refl; pool = refl; workspace = refl; answers = refl; found = refl }, tt)
 
@@ -81,7 +88,7 @@ unfolding fill
 home = call fill .pool
 
 abbrev pub carriedRecords : List Record
-carriedRecords = shown 7 (box 0 0 9 9) ∷ shown 7 (box 0 0 10 10) ∷ shown 9 (box 40 0 50 9) ∷ []
+carriedRecords = zone 7 (box 0 0 9 9) ∷ zone 7 (box 0 0 10 10) ∷ zone 9 (box 40 0 50 9) ∷ []
 
 -- written to the front of a buffer of 100 bytes
 pub carried : Write
@@ -91,14 +98,14 @@ closed-written : carried .number ≡ pos 0
 unfolding document01 document02 carried home fill
 closed-written = refl
 
-pub closed-file : fileOf carried ≡ fileBytes carriedRecords
+pub closed-file : fileOf carried ≡ fileBytes One carriedRecords
 unfolding document01 document02 carried home fill
 closed-file = refl
 
 -- ---- read at head office, into words that are no pool yet, and written there
 
 pub office : ReadOf (fileOf carried)
-office = reading (fileOf carried) (replicate 50 (pos 3))
+office = reading (pos 1) (fileOf carried) (replicate 50 (pos 3))
 
 closed-read : office .number ≡ pos 0
 unfolding document01 document02 office carried home fill
@@ -126,42 +133,94 @@ home-fits = fits-by home all
 home-once : (x : Record) → length (those (samePair x) (stored (read home))) ≤ 1
 unfolding poolAfter home filled
 home-once x =
-    let h = history-holds 0 filled filled-history in
+    let h = history-holds One 0 filled filled-history in
     omega (arith, h .once x, h .alike .each (samePair x))
 
 home-few : length (stored (read home)) ≡ 3
 unfolding document01 home fill
 home-few = refl
 
-office-right : validLength (office .pool) ≡ true
-unfolding document01 office
+office-told : editionTold (office .edition) (office .rule) ≡ some (read home .edition)
+unfolding document01 office home fill
+office-told = refl
+
+office-right : validSize (read home .edition) (length (office .pool)) ≡ true
+unfolding document01 office home fill
 office-right = refl
 
-office-slots : slotCount (office .pool) ≡ 1
-unfolding document01 office
+office-slots : slotsIn (read home .edition) (length (office .pool)) ≡ 1
+unfolding document01 office home fill
 office-slots = refl
 
-pub closed-carried : CarriedOver (ordered (stored (read home))) office
+pub closed-carried : CarriedOver (recordsCarried (read home)) office × Alike (stored (read (office .left))) (stored (read home))
 unfolding carried
 closed-carried =
-    carried-whole carried closed-written home-fits home-once (omega (arith, home-few)) office office-right (unfold office in refl)
+    carried-whole carried closed-written home-fits office office-told office-right (unfold office in refl) home-once (omega (arith, home-few))
     (omega (arith, home-few, office-slots))
+
+-- ---- Req 07: "the file of Req 02 gains edition 2 .. ordered by owner first"
+
+abbrev lends : ℕ → List ℤ → List Request → Lent
+lends o w qs =
+    record { owner = owner (pos o); pool = w; workspace = w; requests = qs; answers = replicate (length qs) (answer 1 2 3 4); found = [] }
+
+-- owner 2 holds a pair that owner 1 holds too
+both : Lent
+both =
+    lends 1 (call (lends 2 (words (blankPool Two 0)) (insert 7 (box 0 0 10 10) ∷ [])) .pool) (insert 9 (box 40 0 50 9) ∷ insert 7 (box 0 0 10 10) ∷ [])
+
+pub carried-both : Write
+unfolding both
+carried-both = writing (call both .pool) (replicate 120 9)
+
+both-written : carried-both .number ≡ pos 0
+unfolding document01 document02 carried-both both
+both-written = refl
+
+pub closed-both : fileOf carried-both
+    ≡ fileBytes Two (ofOwner (owner (pos 1)) (shown 7 (box 0 0 10 10)) ∷ ofOwner (owner (pos 1)) (shown 9 (box 40 0 50 9))
+    ∷ ofOwner (owner (pos 2)) (shown 7 (box 0 0 10 10)) ∷ [])
+unfolding document01 document02 carried-both both
+closed-both = refl
+
+-- read as edition 2 it is accepted, and as edition 1 it is refused 10
+pub office-both : ReadOf (fileOf carried-both)
+office-both = reading (pos 2) (fileOf carried-both) (replicate 58 (pos 3))
+
+both-read : office-both .number ≡ pos 0
+unfolding document01 document02 office-both carried-both both
+both-read = refl
+
+pub closed-other-edition : reading (pos 1) (fileOf carried-both) (replicate 50 (pos 3)) .number ≡ pos 10
+unfolding document01 document02 carried-both both
+closed-other-edition = refl
+
+pub again-both : Write
+again-both = writing (office-both .left) (replicate 130 1)
+
+both-long : length (fileOf carried-both) ≤ length (again-both .buffer)
+unfolding document01 document02 again-both office-both carried-both both
+both-long = omega arith
+
+pub closed-trip-both : WrittenAgain (fileOf carried-both) again-both
+closed-trip-both = round-trip carried-both both-written office-both both-read again-both (unfold again-both in refl) both-long
 
 -- ---- a history goes on after a file, and after one that is refused
 
 -- the file without its last byte
 abbrev cut : List ℕ
-cut = take 87 (fileBytes carriedRecords)
+cut = take 87 (fileBytes One carriedRecords)
 
 pub came : List ℤ
-came = readFile (words (blankPool 0)) (replicate 50 (pos 5)) (fileBytes carriedRecords) .pool
+came = readFileAs (pos 1) (pos 0) (words (blankPool One 0)) (replicate 50 (pos 5)) (fileBytes One carriedRecords) .pool
 
 pub kept : List ℤ
-kept = readFile came (replicate 50 (pos 6)) cut .pool
+kept = readFileAs (pos 1) (pos 0) came (replicate 50 (pos 6)) cut .pool
 
 pub asks : Lent
 asks =
     record {
+      owner = owner (pos 2);
       pool = kept;
       workspace = kept;
       requests = search (box 0 0 20 20) ∷ [];
@@ -171,11 +230,11 @@ asks =
 
 before-asks : List Step
 before-asks =
-    Read (replicate 50 (pos 6)) cut (readFile came (replicate 50 (pos 6)) cut)
-    ∷ Read (replicate 50 (pos 5)) (fileBytes carriedRecords) (readFile (words (blankPool 0)) (replicate 50 (pos 5)) (fileBytes carriedRecords))
+    Read (pos 1) (pos 0) (replicate 50 (pos 6)) cut (readFileAs (pos 1) (pos 0) came (replicate 50 (pos 6)) cut)
+    ∷ Read (pos 1) (pos 0) (replicate 50 (pos 5)) (fileBytes One carriedRecords) (readFileAs (pos 1) (pos 0) (words (blankPool One 0)) (replicate 50 (pos 5)) (fileBytes One carriedRecords))
     ∷ []
 
-carried-history : History 0 (Call asks (call asks) ∷ before-asks)
+carried-history : History One 0 (Call asks (call asks) ∷ before-asks)
 unfolding poolAfter before-asks asks kept came
 carried-history = (
   refl,
@@ -187,13 +246,13 @@ asks-served : call asks .number ≡ pos 0
 unfolding document01 document02 asks kept came
 asks-served = refl
 
-pub cut-refused : readFile came (replicate 50 (pos 6)) cut .number ≡ pos 10
+pub cut-refused : readFileAs (pos 1) (pos 0) came (replicate 50 (pos 6)) cut .number ≡ pos 10
 unfolding document01 document02 came
 cut-refused = refl
 
 -- the records in force are those of the first file: the second was refused
-pub closed-after-read : Told (after asks [] .pool) carriedRecords 0 Meeting (box 0 0 20 20) 0 (call asks .answers)
+pub closed-after-read : Told (after asks [] .pool) carriedRecords 0 nobody Meeting (box 0 0 20 20) 0 (call asks .answers)
     (shown 7 (box 0 0 9 9) ∷ shown 7 (box 0 0 10 10) ∷ replicate 3 noRecord)
-unfolding document01 document02 inForceAfter forceAfter filledAfter before-asks asks kept came
+unfolding document01 document02 recordsTold inForceAfter forceAfter filledAfter before-asks asks kept came
 closed-after-read =
-    demand-3 0 before-asks asks (call asks) carried-history asks-served .each [] (search (box 0 0 20 20)) [] refl Meeting (box 0 0 20 20) refl refl (omega arith)
+    demand-3 One 0 before-asks asks (call asks) carried-history asks-served .each [] (search (box 0 0 20 20)) [] refl Meeting (box 0 0 20 20) refl refl (omega arith)

@@ -5,8 +5,10 @@ use mathlib.Core.List.{List, [], _∷_, _++_}
 use Prim.Native.Nat.{ℕ}
 use lib.ListN.{take, replicate}
 use lib.IntN.{pos}
+use Rattle.rules.specs.declared.Edition.the-variants.{One}
 use Rattle.rules.specs.declared.Record.{Record}
 use Rattle.rules.specs.declared.Request.{Request}
+use Rattle.rules.specs.Owners.{owner}
 use Rattle.rules.specs.Pool.{blankPool, freeCount}
 use Rattle.rules.specs.Layout.{Blanked, words, blank}
 use Rattle.rules.specs.Insert.{ours}
@@ -14,7 +16,7 @@ use Rattle.rules.specs.Room.{slotsNeeded, insertRoom, roomNumber, roomWords}
 use Rattle.rules.specs.Answers.{answer}
 use Rattle.rules.specs.Call.{Lent, call}
 use Rattle.rules.specs.Computed.{document01, document02}
-use Rattle.rules.specs.Histories.{box, insert, delete, shown}
+use Rattle.rules.specs.Histories.{box, insert, delete, zone}
 use Rattle.promises.proofs.Once.{allowed}
 use Rattle.demands.specs.Demands.{after, answerAfter}
 use Rattle.demands.specs.Rooms.{Fitting, Asking, ToldBefore}
@@ -22,14 +24,14 @@ use Rattle.demands.proofs.ClosedRoads.{points}
 use Rattle.demands.proofs.Rooms.{know-before}
 
 start : Blanked
-start = blank (words (blankPool 2))
+start = blank One (words (blankPool One 2))
 
 -- the last of the nine, and a point for which there is no slot at first
 abbrev pub ninth : Record
-ninth = shown 9 (box 80 0 80 0)
+ninth = zone 9 (box 80 0 80 0)
 
 abbrev pub late : Record
-late = shown 12 (box 25 0 25 0)
+late = zone 12 (box 25 0 25 0)
 
 abbrev pub eight : List Request
 eight = take 8 points
@@ -44,6 +46,7 @@ again = delete 1 (box 0 0 0 0) ∷ insert 12 (box 25 0 25 0) ∷ []
 pub load : Lent
 load =
     record {
+      owner = owner (pos 1);
       pool = start .pool;
       workspace = start .pool;
       requests = eleven ++ insert 12 (box 25 0 25 0) ∷ again;

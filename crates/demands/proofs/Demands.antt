@@ -3,7 +3,7 @@
 use mathlib.Core.Path.{_≡_, refl, sym, ap, ap₂, subst, _∙_}
 use mathlib.Core.Logic.{_≢_, ⊎-elim}
 use mathlib.Core.Bool.{true, false, not}
-use mathlib.Core.List.{List, [], _∷_, _++_, append-nil, append-assoc}
+use mathlib.Core.List.{List, [], _∷_, _++_, map, append-nil, append-assoc}
 use mathlib.Core.Option.{Option, none, some}
 use Prim.Native.Nat.{ℕ, suc, _+_, _-_, _<_}
 use native.Mathlib.Omega.{arith}
@@ -12,8 +12,11 @@ use lib.Seq.{slice, getD-set-same}
 use lib.Dec.{eqb}
 use lib.IntN.{ℤ, pos}
 use borrow.Author.Tests.{eq-eqb, ne-eqb}
+use Rattle.rules.specs.declared.Edition.{Edition}
+use Rattle.rules.specs.declared.Owner.{Owner}
 use Rattle.rules.specs.declared.Rect.{Rect}
 use Rattle.rules.specs.declared.Mode.{Mode}
+use Rattle.rules.specs.declared.FoundRecord.{FoundRecord}
 use Rattle.rules.specs.declared.Request.{Request}
 use Rattle.rules.specs.declared.Asked.{Asked}
 use Rattle.rules.specs.declared.Asked.the-variants.{Search}
@@ -21,30 +24,30 @@ use Rattle.rules.specs.declared.Answer.{Answer}
 use Rattle.rules.specs.declared.Reply.the-variants.{Listed}
 use Rattle.rules.specs.declared.Verdict.{Verdict}
 use Rattle.rules.specs.Lists.{those}
+use Rattle.rules.specs.Owners.{ownerSound, asFound}
 use Rattle.rules.specs.Pool.{Pool, stored}
 use Rattle.rules.specs.Layout.{validLength, words, read}
-use Rattle.rules.specs.Sound.{sound}
-use Rattle.rules.specs.Search.{ordered, found, opened}
+use Rattle.rules.specs.Sound.{ownersSound, sound}
+use Rattle.rules.specs.Search.{ordered, found, reported, opened}
 use Rattle.rules.specs.Insert.{ours}
 use Rattle.rules.specs.Answers.{answer, answerOf, verdictNumber}
 use Rattle.rules.specs.Request.{Turn, turn, asked}
-use Rattle.rules.specs.Call.{Lent, Left, Batch, isRequest, callFault, refused, served, call, afterTurn, doRequest, doRequests, starting}
+use Rattle.rules.specs.Call.{Lent, Left, Batch, isRequest, callFault, refused, served, call, afterTurn, doRequest, doRequests, batchOwner, starting}
 use Rattle.rules_laws.proofs.Bools.{not-false, or-neither}
 use Rattle.rules_laws.proofs.Splits.{ours-lawful}
 use Rattle.sound_laws.specs.Tree.{Whole}
-use Rattle.search_laws.specs.Window.{recordWanted}
-use Rattle.search_laws.proofs.Order.{alike-length, ordered-alike}
+use Rattle.search_laws.specs.Window.{ownWanted}
 use Rattle.search_laws.proofs.Exact.{search-exact, opened-exact}
 use Rattle.in_force_laws.specs.Force.{forceAfter, filledAfter}
 use Rattle.in_force_laws.specs.Shows.{HoldsRecords, nodesMeeting, High}
-use Rattle.in_force_laws.specs.Batch.{howManyWanted}
-use Rattle.in_force_laws.proofs.Whole.{request-whole}
-use Rattle.in_force_laws.proofs.Search.{holds-high}
-use Rattle.in_force_laws.proofs.Batch.{noAnswer, answers-kept, answers-as-many, listed-end}
+use Rattle.in_force_laws.specs.Batch.{howManyWanted, FairBatch}
+use Rattle.in_force_laws.proofs.Whole.{request-whole, request-owned}
+use Rattle.in_force_laws.proofs.Search.{holds-high, listed-many}
+use Rattle.in_force_laws.proofs.Batch.{noAnswer, step-fair, answers-kept, answers-as-many, listed-end}
 use Rattle.in_force_laws.proofs.Filled.{part-filled}
 use Rattle.in_force_laws.proofs.Call.{callBy-refused, callBy-served, no-fault, left-answers, left-found, left-beyond, answers-long, call-part, call-shows}
-use Rattle.in_force_laws.proofs.Sounds.{sound-fit, sound-tree}
-use Rattle.in_force_laws.proofs.Asks.{asks-something}
+use Rattle.in_force_laws.proofs.Sounds.{sound-fit, sound-tree, sound-owners}
+use Rattle.in_force_laws.proofs.Asks.{asks-something, asked-owner}
 use Rattle.demands.specs.Steps.{Step, Call, poolAfter, History, inForceAfter}
 use Rattle.promises.specs.Calls.{Allowed}
 use Rattle.promises.proofs.Once.{allowed, once}
@@ -53,7 +56,7 @@ use Rattle.demands.specs.Demands.{Accepted, Lists, Does, Shows}
 use Rattle.demands.proofs.Holds.{history-holds}
 use Rattle.demands.proofs.Turns.{Either, either, same-pool}
 use Rattle.rules_laws.proofs.Everies.{every-less}
-use Rattle.demands.proofs.Unasked.{two-after, bare, passed, first-fine, first-pool, less-fine, less-asked, less-end, less-answers}
+use Rattle.demands.proofs.Unasked.{after-owner, next-after, bare, passed, first-fine, first-pool, less-fine, less-asked, less-end, less-answers}
 
 -- ---- one outcome
 
@@ -68,14 +71,14 @@ demand-ends l = record {
 
 module _ (l : Lent) where
   sound-first : callFault l ≡ none → sound (l .pool) ≡ true
-  sound-first h = not-false _ (passed l h .2)
+  sound-first h = not-false _ (passed l h .3)
 
   pub first-whole : callFault l ≡ none → Whole (starting l .pool)
   unfolding starting
   first-whole h = sound-tree (l .pool) (sound-first h)
 
   pub first-right : callFault l ≡ none → validLength (l .pool) ≡ true
-  first-right h = not-false _ (or-neither (not (validLength (l .pool))) _ (passed l h .1) .0)
+  first-right h = not-false _ (or-neither (not (validLength (l .pool))) _ (passed l h .2) .0)
 
   -- the words lent are those of the pool that is read from them
   first-words : callFault l ≡ none → words (starting l .pool) ≡ l .pool
@@ -91,9 +94,30 @@ module _ (l : Lent) where
   pub all-whole : (i : ℕ) (qs : List Request) (b : Batch) → Whole (b .pool) → Whole (doRequests ours i qs b .pool)
   unfolding doRequests
   all-whole i [] b w = w
-  all-whole i (q ∷ qs) b w = all-whole (suc i) qs (doRequest ours i b (asked q)) (step-whole i b (asked q) w)
+  all-whole i (q ∷ qs) b w = all-whole (suc i) qs (doRequest ours i b (asked (b .owner) q)) (step-whole i b (asked (b .owner) q) w)
 
-  module _ (fine : callFault l ≡ none) (done : List Request) (q : Request) (a : Asked) (is : asked q ≡ some a) where
+  -- whose records are stored: of owners that the pool can have, before the first request and after each
+  pub first-owners : callFault l ≡ none → ownersSound (starting l .pool) ≡ true
+  unfolding starting
+  first-owners h = sound-owners (l .pool) (sound-first h)
+
+  step-owners : (i : ℕ) (b : Batch) (q : Request) (o : Option Asked) → asked (b .owner) q ≡ o → Whole (b .pool) → FairBatch b
+      → ownersSound (b .pool) ≡ true → ownersSound (doRequest ours i b o .pool) ≡ true
+  unfolding doRequest afterTurn
+  step-owners i b q none e w f h = h
+  step-owners i b q (some a) e w f h =
+      request-owned ours ours-lawful (b .pool) w (b .filled) (length (b .found) - b .filled) h a
+      (subst (λ (x : Owner). ownerSound (b .pool .edition) x ≡ true) (sym (asked-owner (b .owner) q a e)) f)
+
+  pub all-owners : (i : ℕ) (qs : List Request) (b : Batch) → Whole (b .pool) → FairBatch b → ownersSound (b .pool) ≡ true
+      → ownersSound (doRequests ours i qs b .pool) ≡ true
+  unfolding doRequests
+  all-owners i [] b w f h = h
+  all-owners i (q ∷ qs) b w f h =
+      let a = asked (b .owner) q in
+      all-owners (suc i) qs (doRequest ours i b a) (step-whole i b a w) (step-fair ours i b a f) (step-owners i b q a refl w f h)
+
+  module _ (fine : callFault l ≡ none) (done : List Request) (q : Request) (a : Asked) (is : asked (batchOwner l) q ≡ some a) where
     abbrev now : Batch
     now = after l done
 
@@ -102,7 +126,7 @@ module _ (l : Lent) where
 
     then : after l (done ++ q ∷ []) ≡ next
     unfolding doRequests
-    then = two-after l done (q ∷ []) ∙ ap (λ (o : Option Asked). doRequest ours (length done) now o) is
+    then = next-after l done q [] ∙ ap (λ (o : Option Asked). doRequest ours (length done) now o) is
 
     next-pool : next .pool ≡ turnAfter l done a .pool
     unfolding doRequest afterTurn
@@ -133,9 +157,8 @@ module _ (l : Lent) where
       next-answer = getD-set-same (now .answers) (length done) (answerOf (turnAfter l done a .reply)) noAnswer place-there
 
       whole-parts : doRequests ours 0 (l .requests) (starting l) ≡ doRequests ours (suc (length done)) rest next
-      unfolding doRequests
       whole-parts =
-          ap (λ (qs : List Request). doRequests ours 0 qs (starting l)) all ∙ two-after l done (q ∷ rest)
+          ap (λ (qs : List Request). doRequests ours 0 qs (starting l)) all ∙ next-after l done q rest
           ∙ ap (λ (o : Option Asked). doRequests ours (suc (length done)) rest (doRequest ours (length done) now o)) is
 
       call-answer : getD (call l .answers) (length done) noAnswer ≡ answerOf (turnAfter l done a .reply)
@@ -149,8 +172,8 @@ module _ (l : Lent) where
       call-found = left-found ours l fine ∙ ap (λ (b : Batch). b .found) whole-parts
 
       -- the places filled before it, by the answers
-      filled-before : now .filled ≡ filledAfter 0 0 done (call l .answers)
-      unfolding call starting
+      filled-before : now .filled ≡ filledAfter (batchOwner l) 0 0 done (call l .answers)
+      unfolding call starting batchOwner
       filled-before =
           rw (left-answers ours l fine, all)
           (part-filled ours 0 done (q ∷ rest) (starting l) (omega (arith, answers-long ours l fine, ap length all, length-append done (q ∷ rest))))
@@ -180,7 +203,7 @@ module _ (l : Lent) (o : Left) (k : Allowed l o) where
   taken-on h = k .number ∙ ap (λ (x : Left). x .number) (callBy-served ours l h)
 
   module _ (z : o .number ≡ pos 0) (done : List Request) (q : Request) (rest : List Request) (all : l .requests ≡ done ++ q ∷ rest)
-      (a : Asked) (is : asked q ≡ some a) where
+      (a : Asked) (is : asked (batchOwner l) q ≡ some a) where
     told : answerAfter o done ≡ answerOf (turnAfter l done a .reply)
     told = ap (λ (xs : List Answer). getD xs (length done) noAnswer) (k .answers) ∙ call-answer l (fine z) done q a is rest all
 
@@ -205,10 +228,10 @@ module _ (l : Lent) (o : Left) (k : Allowed l o) where
     abbrev less : Lent
     less = withRequests l (done ++ rest) answers
 
-    none-done : bare (doRequest ours (length done) (after l done) (asked q)) ≡ bare (after l done)
+    none-done : bare (doRequest ours (length done) (after l done) (asked (after l done .owner) q)) ≡ bare (after l done)
     none-done =
         let a = less-asked l (fine z) done q rest all answers long in
-        rw (a .1) (refused-bare l (fine z) done q (a .0) (a .1) (not-zero z done q rest all (a .0) (a .1) n))
+        rw (ap (λ (w : Owner). asked w q) (after-owner l done) ∙ a .1) (refused-bare l (fine z) done q (a .0) (a .1) (not-zero z done q rest all (a .0) (a .1) n))
 
     without : (x : Left) → Allowed less x → SameWithout (length done) o x
     unfolding call served
@@ -232,17 +255,17 @@ module _ (l : Lent) (o : Left) (k : Allowed l o) where
   -- ---- a call that changes nothing
 
   module _ (z : o .number ≡ pos 0)
-      (h : (done : List Request) (q : Request) (rest : List Request) → l .requests ≡ done ++ q ∷ rest → NoChange q (answerAfter o done)) where
+      (h : (done : List Request) (q : Request) (rest : List Request) → l .requests ≡ done ++ q ∷ rest → NoChange (batchOwner l) q (answerAfter o done)) where
     one-still : (done : List Request) (q : Request) (rest : List Request) → l .requests ≡ done ++ q ∷ rest
         → after l (done ++ q ∷ []) .pool ≡ after l done .pool
     one-still done q rest all = ⊎-elim refusal searched (h done q rest all)
       where
         refusal : answerAfter o done .number ≢ 0 → after l (done ++ q ∷ []) .pool ≡ after l done .pool
-        refusal n = let a = asks-something q (every-less isRequest done q rest (rw all at (passed l (fine z) .3)) .0) in stays z done q rest all (a .0) (a .1) n
+        refusal n = let a = asks-something (batchOwner l) q (every-less isRequest done q rest (rw all at (passed l (fine z) .4)) .0) in stays z done q rest all (a .0) (a .1) n
 
-        searched : (mode : Mode) × (window : Rect) × (asked q ≡ some (Search mode window)) → after l (done ++ q ∷ []) .pool ≡ after l done .pool
+        searched : (mode : Mode) × (window : Rect) × (asked (batchOwner l) q ≡ some (Search (batchOwner l) mode window)) → after l (done ++ q ∷ []) .pool ≡ after l done .pool
         searched s =
-            pool-then z done q rest all (Search (s .0) (s .1)) (s .2) ∙ same-pool (one-either l (fine z) done q (Search (s .0) (s .1)) (s .2))
+            pool-then z done q rest all (Search (batchOwner l) (s .0) (s .1)) (s .2) ∙ same-pool (one-either l (fine z) done q (Search (batchOwner l) (s .0) (s .1)) (s .2))
 
     all-still : (done rest : List Request) → l .requests ≡ done ++ rest → after l (done ++ rest) .pool ≡ after l done .pool
     all-still done [] all = ap (λ (qs : List Request). after l qs .pool) (append-nil done)
@@ -261,37 +284,46 @@ module _ (l : Lent) (o : Left) (k : Allowed l o) where
   -- ---- D2
 
   module _ (z : o .number ≡ pos 0) (done : List Request) (q : Request) (rest : List Request) (all : l .requests ≡ done ++ q ∷ rest)
-      (mode : Mode) (window : Rect) (is : asked q ≡ some (Search mode window)) (y : answerAfter o done .number ≡ 0) where
+      (mode : Mode) (window : Rect) (is : asked (batchOwner l) q ≡ some (Search (batchOwner l) mode window)) (y : answerAfter o done .number ≡ 0) where
+    abbrev w : Owner
+    w = batchOwner l
+
+    abbrev search : Asked
+    search = Search w mode window
+
     abbrev p : Pool
     p = after l done .pool
 
-    finds : turnAfter l done (Search mode window) ≡ turn p (Listed (length (found p mode window)) (after l done .filled) (opened p window)) (found p mode window)
-    finds = one-either l (fine z) done q (Search mode window) is .accepted (is-zero z done q rest all (Search mode window) is y) .1
+    abbrev hits : List FoundRecord
+    hits = found p w mode window
 
-    exact : found p mode window ≡ ordered (those (recordWanted mode window) (stored p))
-    exact = search-exact p (now-whole l (fine z) done q (Search mode window) is) mode window
+    finds : turnAfter l done search ≡ turn p (Listed (length hits) (after l done .filled) (opened p window)) hits
+    finds = one-either l (fine z) done q search is .accepted (is-zero z done q rest all search is y) .1
 
-    many : length (found p mode window) ≡ howManyWanted mode window (stored p)
-    many = ap length exact ∙ alike-length (ordered-alike (those (recordWanted mode window) (stored p)))
+    exact : hits ≡ ordered (map asFound (those (ownWanted w mode window) (stored p)))
+    exact = search-exact p (now-whole l (fine z) done q search is) w mode window
 
-    filled-then : after l done .filled ≡ filledAfter 0 0 done (o .answers)
+    many : length hits ≡ howManyWanted w mode window (stored p)
+    many = ap length exact ∙ listed-many (those (ownWanted w mode window) (stored p))
+
+    filled-then : after l done .filled ≡ filledAfter w 0 0 done (o .answers)
     filled-then =
-        filled-before l (fine z) done q (Search mode window) is rest all ∙ ap (filledAfter 0 0 done) (sym (k .answers))
+        filled-before l (fine z) done q search is rest all ∙ ap (filledAfter w 0 0 done) (sym (k .answers))
 
-    says : answerAfter o done ≡ answer 0 (howManyWanted mode window (stored p)) (filledAfter 0 0 done (o .answers)) (suc (nodesMeeting p window))
+    says : answerAfter o done ≡ answer 0 (howManyWanted w mode window (stored p)) (filledAfter w 0 0 done (o .answers)) (reported (p .edition) (suc (nodesMeeting p window)))
     unfolding answerOf
     says =
-        told z done q rest all (Search mode window) is ∙ ap (λ (t : Turn). answerOf (t .reply)) finds
-        ∙ rw (many, filled-then, opened-exact p (now-whole l (fine z) done q (Search mode window) is) window)
+        told z done q rest all search is ∙ ap (λ (t : Turn). answerOf (t .reply)) finds
+        ∙ rw (many, filled-then, opened-exact p (now-whole l (fine z) done q search is) window)
 
-    stands : slice (after l done .filled) (after l done .filled + length (found p mode window)) (o .found) ≡ found p mode window
+    stands : slice (after l done .filled) (after l done .filled + length hits) (o .found) ≡ hits
     stands =
-        ap (slice (after l done .filled) (after l done .filled + length (found p mode window))) (k .found ∙ call-found l (fine z) done q (Search mode window) is rest all)
+        ap (slice (after l done .filled) (after l done .filled + length hits)) (k .found ∙ call-found l (fine z) done q search is rest all)
         ∙ subst (λ (t : Turn). slice (after l done .filled) (after l done .filled + length (t .listed))
-        (doRequests ours (suc (length done)) rest (next l (fine z) done q (Search mode window) is) .found) ≡ t .listed) finds
-        (listed-end ours (length done) (after l done) (Search mode window) rest)
+        (doRequests ours (suc (length done)) rest (next l (fine z) done q search is) .found) ≡ t .listed) finds
+        (listed-end ours (length done) (after l done) search rest)
 
-    listing : Lists p mode window (filledAfter 0 0 done (o .answers)) (answerAfter o done) (o .found)
+    listing : Lists p w mode window (filledAfter w 0 0 done (o .answers)) (answerAfter o done) (o .found)
     listing = record {
       answered = says;
       listed =
@@ -317,18 +349,19 @@ module _ (l : Lent) (o : Left) (k : Allowed l o) where
 
 -- ---- D3
 
-pub demand-3 : (n : ℕ) (steps : List Step) (l : Lent) (o : Left) → History n (Call l o ∷ steps) → o .number ≡ pos 0 → Shows steps l o
+pub demand-3 : (e : Edition) (n : ℕ) (steps : List Step) (l : Lent) (o : Left) → History e n (Call l o ∷ steps) → o .number ≡ pos 0 → Shows steps l o
 unfolding call
-demand-3 n steps l o h z =
+demand-3 e n steps l o h z =
     let k = h .1 in
     let rs = inForceAfter steps in
-    let holds = subst (λ (w : List ℤ). HoldsRecords (read w) rs) (sym (h .0)) (history-holds n steps (h .2)) in
+    let holds = subst (λ (w : List ℤ). HoldsRecords (read w) rs) (sym (h .0)) (history-holds e n steps (h .2)) in
     let y = sym (k .number) ∙ z in
     rw (k .answers, k .found) (record {
       each = λ done q rest all mode window s v room. call-shows ours l ours-lawful rs holds y done q rest all mode window s v room;
-      high = λ done rest all. holds-high (after l done .pool) (forceAfter rs 0 done (call l .answers)) (call-part ours l ours-lawful rs holds y done rest all);
+      high = λ done rest all.
+          holds-high (after l done .pool) (forceAfter (batchOwner l) rs 0 done (call l .answers)) (call-part ours l ours-lawful rs holds y done rest all);
     })
 
 -- .. and of the words that every history leaves, whatever its last step was
-pub demand-height : (n : ℕ) (steps : List Step) → History n steps → High (read (poolAfter n steps)) (inForceAfter steps)
-demand-height n steps h = holds-high (read (poolAfter n steps)) (inForceAfter steps) (history-holds n steps h)
+pub demand-height : (e : Edition) (n : ℕ) (steps : List Step) → History e n steps → High (read (poolAfter e n steps)) (inForceAfter steps)
+demand-height e n steps h = holds-high (read (poolAfter e n steps)) (inForceAfter steps) (history-holds e n steps h)

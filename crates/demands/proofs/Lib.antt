@@ -11,3 +11,5 @@ pub mod Files
 pub mod ClosedFiles
 pub mod Rooms
 pub mod ClosedRooms
+pub mod Neighbour
+pub mod ClosedNeighbour

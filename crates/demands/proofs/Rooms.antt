@@ -1,14 +1,15 @@
 -- Req 06: an insert is refused 7 just where it needs more slots than are free at that moment of its batch, and `dustmap_room` tells so beforehand.
-use mathlib.Core.Path.{_≡_, refl, ap, subst⁻¹, _∙_}
+use mathlib.Core.Path.{_≡_, refl, sym, ap, ap₂, subst⁻¹, _∙_}
 use mathlib.Core.Logic.{_≢_, _↔_}
 use mathlib.Core.Bool.{true, not}
 use mathlib.Core.List.{List, [], _∷_, _++_}
 use mathlib.Core.Option.{none, some}
-use Prim.Native.Nat.{ℕ, _-_, _≤_, _<_}
+use Prim.Native.Nat.{ℕ, _+_, _*_, _-_, _≤_, _<_}
 use native.Mathlib.Omega.{arith}
 use native.Mathlib.Decide.{decLe}
 use lib.ListN.{length, getD}
 use lib.IntN.{pos}
+use Rattle.rules.specs.declared.Edition.{Edition}
 use Rattle.rules.specs.declared.Record.{Record}
 use Rattle.rules.specs.declared.Request.{Request}
 use Rattle.rules.specs.declared.Asked.the-variants.{Insert}
@@ -17,16 +18,16 @@ use Rattle.rules.specs.declared.Reply.the-variants.{BadRectangle, BadNumber, He
 use Rattle.rules.specs.declared.InsertRoom.{InsertRoom}
 use Rattle.rules.specs.declared.InsertRoom.the-variants.{Slots}
 use Rattle.rules.specs.Pool.{Pool, freeCount}
-use Rattle.rules.specs.Layout.{validLength, words, read, rectOf}
-use Rattle.rules.specs.Sound.{sound}
+use Rattle.rules.specs.Layout.{headSize, slotSize, editionOf, slotCount, validLength, words, read, rectOf}
+use Rattle.rules.specs.Sound.{ownersSound, sound}
 use Rattle.rules.specs.Insert.{ours, Change, Done, NoneFree, insertRecord}
 use Rattle.rules.specs.Answers.{answerOf}
 use Rattle.rules.specs.Request.{Turn, asked, afterChange, insertFault}
 use Rattle.rules.specs.Room.{slotsNeeded, insertRoom, roomNumber, roomWords}
-use Rattle.rules.specs.Call.{Lent, Left, callFault, starting}
+use Rattle.rules.specs.Call.{Lent, Left, callFault, batchOwner, starting}
 use Rattle.rules_laws.proofs.Splits.{ours-lawful}
 use Rattle.layout_laws.proofs.Parts.{right-size}
-use Rattle.layout_laws.proofs.Written.{words-size, right-same, read-slots}
+use Rattle.layout_laws.proofs.Written.{words-size, words-edition, right-same, read-slots}
 use Rattle.sound_laws.specs.Tree.{Whole}
 use Rattle.insert_laws.proofs.Slots.{insert-slots, insert-takes, insert-needs-few}
 use Rattle.insert_laws.proofs.Rooms.{room-told}
@@ -34,11 +35,12 @@ use Rattle.in_force_laws.proofs.Faults.{no-rows, row-passed}
 use Rattle.in_force_laws.proofs.Change.{insert-none}
 use Rattle.in_force_laws.proofs.Sounds.{fit-sound}
 use Rattle.in_force_laws.proofs.Written.{whole-reads}
-use Rattle.in_force_laws.proofs.Many.{batch-has}
+use Rattle.in_force_laws.proofs.Many.{batch-has, batch-edition}
+use Rattle.in_force_laws.proofs.Call.{start-fair}
 use Rattle.promises.specs.Calls.{Allowed}
 use Rattle.demands.specs.Demands.{after, turnAfter, answerAfter}
 use Rattle.demands.specs.Rooms.{OtherwiseAcceptable, Fitting, Asking, ToldBefore, KnownBefore}
-use Rattle.demands.proofs.Demands.{first-whole, first-right, all-whole, fine, demand-1, demand-2}
+use Rattle.demands.proofs.Demands.{first-whole, first-right, first-owners, all-whole, all-owners, fine, demand-1, demand-2}
 
 -- ---- the pool that a request finds
 
@@ -50,31 +52,39 @@ module _ (l : Lent) (served : callFault l ≡ none) (done : List Request) where
   then-whole = all-whole l 0 done (starting l) (first-whole l served)
 
   -- it has as many slots as the pool that was lent
-  then-right : validLength (words then) ≡ true
+  then-edition : then .edition ≡ editionOf (l .pool)
+  unfolding starting read
+  then-edition = batch-edition ours 0 done (starting l)
+
+  then-size : length (words then) ≡ headSize + slotSize (editionOf (l .pool)) * slotCount (l .pool)
   unfolding starting
-  then-right =
-      right-same (words then) (l .pool)
-      (omega (
-        arith,
-        words-size then,
-        batch-has (length (read (l .pool) .slots)) ours 0 done (starting l) refl,
-        read-slots (l .pool),
-        right-size (l .pool) (first-right l served),
-      ))
-      (first-right l served)
+  then-size =
+      words-size then
+      ∙ ap₂ (λ (e : Edition) (n : ℕ). headSize + slotSize e * n) then-edition
+      (batch-has (length (read (l .pool) .slots)) ours 0 done (starting l) refl ∙ read-slots (l .pool))
+
+  pub then-long : length (words then) ≡ length (l .pool)
+  then-long = then-size ∙ sym (right-size (l .pool) (first-right l served))
+
+  then-right : validLength (words then) ≡ true
+  then-right = right-same (words then) (l .pool) then-long (words-edition then ∙ then-edition) (first-right l served)
+
+  then-owners : ownersSound then ≡ true
+  then-owners = all-owners l 0 done (starting l) (first-whole l served) (start-fair ours l served) (first-owners l served)
 
   then-reads : read (words then) ≡ then
-  then-reads = whole-reads then then-whole
+  then-reads = whole-reads then then-whole then-owners
 
   -- .. and is sound, so that the next call takes it
   pub then-sound : sound (words then) ≡ true
   then-sound =
       fit-sound (words then) (record { right = then-right; same = ap words then-reads }) (subst⁻¹ Whole then-reads then-whole)
+      (subst⁻¹ (λ (p : Pool). ownersSound p ≡ true) then-reads then-owners)
 
 -- ---- the law
 
 module _ (l : Lent) (o : Left) (k : Allowed l o) (z : o .number ≡ pos 0) (done : List Request) (q : Request) (rest : List Request)
-    (all : l .requests ≡ done ++ q ∷ rest) (r : Record) (is : asked q ≡ some (Insert r)) (good : OtherwiseAcceptable (after l done .pool) r) where
+    (all : l .requests ≡ done ++ q ∷ rest) (r : Record) (is : asked (batchOwner l) q ≡ some (Insert r)) (good : OtherwiseAcceptable (after l done .pool) r) where
   abbrev p : Pool
   p = after l done .pool
 

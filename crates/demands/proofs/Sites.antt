@@ -1,54 +1,74 @@
 -- For planners: over the whole site, a search inside is a search that meets the window. In a whole pool the two find the same records and open
 -- the same nodes, so that a call with the one in the other's place is the same call: refused alike, and otherwise with the same turn there.
-use mathlib.Core.Path.{_≡_, refl, sym, ap, _∙_}
+use mathlib.Core.Path.{_≡_, refl, sym, ap, subst, _∙_}
 use mathlib.Core.Bool.{Bool, true, not, _&&_}
 use mathlib.Core.List.{List, [], _∷_, _++_}
 use mathlib.Core.Option.{Option, none, some}
 use Prim.Native.Nat.{ℕ, suc}
 use lib.ListN.{length, length-append}
 use lib.Dec.{ltb}
+use lib.IntN.{pos}
 use Rattle.rules.specs.declared.Rect.{Rect}
-use Rattle.rules.specs.declared.Record.{Record}
+use Rattle.rules.specs.declared.Owner.{Owner}
+use Rattle.rules.specs.declared.FoundRecord.{FoundRecord}
 use Rattle.rules.specs.declared.Reply.the-variants.{Listed, BadRectangle, NoRoom}
 use Rattle.rules.specs.declared.Request.{Request}
 use Rattle.rules.specs.declared.Asked.{Asked}
-use Rattle.rules.specs.declared.Asked.the-variants.{Search}
-use Rattle.rules.specs.declared.Mode.the-variants.{Meeting, OnlyInside}
+use Rattle.rules.specs.declared.Asked.the-variants.{Insert, Delete, Update, Search}
+use Rattle.rules.specs.declared.Mode.the-variants.{Meeting, OnlyInside, OnlyEnclosing}
 use Rattle.rules.specs.declared.Verdict.{Verdict}
-use Rattle.rules.specs.Lists.{every}
+use Rattle.rules.specs.Lists.{every, same}
+use Rattle.rules.specs.Owners.{nobody}
 use Rattle.rules.specs.Geometry.{valid}
 use Rattle.rules.specs.Pool.{Pool}
 use Rattle.rules.specs.Search.{opened}
 use Rattle.rules.specs.Insert.{ours}
 use Rattle.rules.specs.Answers.{row, firstRow}
-use Rattle.rules.specs.Request.{Turn, turn, asked, searchFault, request}
-use Rattle.rules.specs.Call.{Lent, Left, Batch, isRequest, callFault, refused, served, call, afterTurn, doRequest, doRequests, starting}
+use Rattle.rules.specs.Request.{Turn, turn, pairIn, asked, searchFault, request}
+use Rattle.rules.specs.Call.{Lent, Left, Batch, isRequest, callFault, refused, served, call, afterTurn, doRequest, doRequests, batchOwner, starting}
 use Rattle.sound_laws.specs.Tree.{Whole}
 use Rattle.search_laws.specs.Window.{wholeSite}
 use Rattle.search_laws.proofs.Site.{whole-site}
+use Rattle.in_force_laws.proofs.Faults.{EachGiven, no-row, no-rows, row-passed}
 use Rattle.in_force_laws.proofs.Call.{callBy-refused, callBy-served}
 use Rattle.promises.specs.Calls.{Allowed}
 use Rattle.promises.proofs.Once.{allowed, once}
 use Rattle.demands.specs.Demands.{after, withRequests}
 use Rattle.demands.proofs.Demands.{first-whole, all-whole}
-use Rattle.demands.proofs.Unasked.{two-after}
+use Rattle.demands.proofs.Unasked.{next-after}
 
 -- the turn of a search, by what is found: nothing else of it depends on the mode
-turnBy : Pool → ℕ → ℕ → Rect → List Record → Turn
+turnBy : Pool → ℕ → ℕ → Rect → List FoundRecord → Turn
 turnBy p filled room window fs =
     elim (firstRow (row (not (valid window)) BadRectangle ∷ row (ltb room (length fs)) (NoRoom (length fs) (opened p window)) ∷ [])) [
       | some reply ↦ turn p reply []
       | none ↦ turn p (Listed (length fs) filled (opened p window)) fs
     ]
 
-same-turn : (p : Pool) → Whole p → (filled room : ℕ)
-    → request ours p filled room (Search OnlyInside wholeSite) ≡ request ours p filled room (Search Meeting wholeSite)
+same-turn : (p : Pool) → Whole p → (w : Owner) (filled room : ℕ)
+    → request ours p filled room (Search w OnlyInside wholeSite) ≡ request ours p filled room (Search w Meeting wholeSite)
 unfolding request searchFault turnBy
-same-turn p w filled room = ap (turnBy p filled room wholeSite) (whole-site p w)
+same-turn p h w filled room = ap (turnBy p filled room wholeSite) (whole-site p h w)
 
-request-is : (x : Request) (a : Asked) → asked x ≡ some a → isRequest x ≡ true
-unfolding isRequest
-request-is x a e = rw (e, isRequest)
+-- what asks nothing for one owner asks nothing for another
+none-for : (w v : Owner) (q : Request) → asked w q ≡ none → asked v q ≡ none
+unfolding asked
+none-for w v q h =
+    let r1 = no-row (same (q .kind) (pos 1)) (Insert (pairIn w q)) _ h in
+    let r2 = no-row (same (q .kind) (pos 2)) (Delete (pairIn w q)) _ (r1 .1) in
+    let r3 = no-row (same (q .kind) (pos 3)) (Update (pairIn w q) (q .second)) _ (r2 .1) in
+    let r4 = no-row (same (q .kind) (pos 4)) (Search w Meeting (q .first)) _ (r3 .1) in
+    let r5 = no-row (same (q .kind) (pos 5)) (Search w OnlyInside (q .first)) _ (r4 .1) in
+    let r6 = no-row (same (q .kind) (pos 6)) (Search w OnlyEnclosing (q .first)) _ (r5 .1) in
+    row-passed _ _ _ (r1 .0) (row-passed _ _ _ (r2 .0) (row-passed _ _ _ (r3 .0)
+    (row-passed _ _ _ (r4 .0) (row-passed _ _ _ (r5 .0) (row-passed _ _ _ (r6 .0) no-rows)))))
+
+request-is : (w : Owner) (x : Request) (a : Asked) → asked w x ≡ some a → isRequest x ≡ true
+request-is w x a e = go (asked nobody x) refl
+  where
+    go : (y : Option Asked) → asked nobody x ≡ y → isRequest x ≡ true
+    go none h = absurd (subst (EachGiven (λ b. ⊥)) (sym (none-for nobody w x h) ∙ e) tt)
+    go (some b) h = unfold isRequest in rw (h, isRequest)
 
 same-every : (q s : Request) → isRequest q ≡ true → isRequest s ≡ true → (done rest : List Request)
     → every isRequest (done ++ q ∷ rest) ≡ every isRequest (done ++ s ∷ rest)
@@ -57,7 +77,8 @@ same-every q s a b [] rest = rw (a, b)
 same-every q s a b (x ∷ done) rest = ap (λ (t : Bool). isRequest x && t) (same-every q s a b done rest)
 
 module _ (l : Lent) (done : List Request) (q s : Request) (rest : List Request) (all : l .requests ≡ done ++ q ∷ rest)
-    (inside : asked q ≡ some (Search OnlyInside wholeSite)) (meeting : asked s ≡ some (Search Meeting wholeSite)) where
+    (inside : asked (batchOwner l) q ≡ some (Search (batchOwner l) OnlyInside wholeSite))
+    (meeting : asked (batchOwner l) s ≡ some (Search (batchOwner l) Meeting wholeSite)) where
   abbrev other : Lent
   other = withRequests l (done ++ s ∷ rest) (l .answers)
 
@@ -69,26 +90,25 @@ module _ (l : Lent) (done : List Request) (q s : Request) (rest : List Request) 
       many = ap length all ∙ length-append done (q ∷ rest) ∙ sym (length-append done (s ∷ rest))
 
       are : every isRequest (l .requests) ≡ every isRequest (done ++ s ∷ rest)
-      are = ap (every isRequest) all ∙ same-every q s (request-is q _ inside) (request-is s _ meeting) done rest
+      are = ap (every isRequest) all ∙ same-every q s (request-is (batchOwner l) q _ inside) (request-is (batchOwner l) s _ meeting) done rest
 
   module _ (fine : callFault l ≡ none) where
     abbrev so-far : Batch
     so-far = after l done
 
-    same-step : doRequest ours (length done) so-far (asked q) ≡ doRequest ours (length done) so-far (asked s)
+    same-step : doRequest ours (length done) so-far (asked (batchOwner l) q) ≡ doRequest ours (length done) so-far (asked (batchOwner l) s)
     unfolding doRequest
     same-step =
         rw (inside, meeting)
-        (ap (afterTurn (length done) so-far) (same-turn (so-far .pool) (all-whole l 0 done (starting l) (first-whole l fine)) _ _))
+        (ap (afterTurn (length done) so-far) (same-turn (so-far .pool) (all-whole l 0 done (starting l) (first-whole l fine)) (batchOwner l) _ _))
 
     same-batch : doRequests ours 0 (l .requests) (starting l) ≡ doRequests ours 0 (done ++ s ∷ rest) (starting l)
-    unfolding doRequests
     same-batch =
-        ap (λ (qs : List Request). doRequests ours 0 qs (starting l)) all ∙ two-after l done (q ∷ rest)
-        ∙ ap (doRequests ours (suc (length done)) rest) same-step ∙ sym (two-after l done (s ∷ rest))
+        ap (λ (qs : List Request). doRequests ours 0 qs (starting l)) all ∙ next-after l done q rest
+        ∙ ap (doRequests ours (suc (length done)) rest) same-step ∙ sym (next-after l done s rest)
 
   same-call : call l ≡ call other
-  unfolding call refused served starting
+  unfolding call refused served starting batchOwner
   same-call = go (callFault l) refl
     where
       go : (o : Option Verdict) → callFault l ≡ o → call l ≡ call other

@@ -7,6 +7,7 @@ use lib.ListN.{length}
 use lib.Dec.{eqb}
 use Rattle.rules.specs.declared.Rect.{Rect}
 use Rattle.rules.specs.declared.Mode.{Mode}
+use Rattle.rules.specs.declared.Owner.{Owner}
 use Rattle.rules.specs.declared.Asked.{Asked}
 use Rattle.rules.specs.declared.Asked.the-variants.{Insert, Delete, Update, Search}
 use Rattle.rules.specs.declared.Reply.{Reply}
@@ -26,7 +27,7 @@ abbrev Finds : Pool → ℕ → Asked → Turn → Type 0
 Finds p filled (Insert r) t = Unit {0}
 Finds p filled (Delete r) t = Unit {0}
 Finds p filled (Update old new) t = Unit {0}
-Finds p filled (Search mode window) t = t ≡ turn p (Listed (length (found p mode window)) filled (opened p window)) (found p mode window)
+Finds p filled (Search o mode window) t = t ≡ turn p (Listed (length (found p o mode window)) filled (opened p window)) (found p o mode window)
 
 -- a request is refused, and changes and lists nothing, or accepted and done
 pub record Either (p : Pool) (filled : ℕ) (a : Asked) (t : Turn) : Type 0 where
@@ -42,9 +43,10 @@ module _ (p : Pool) (filled : ℕ) where
   changes a (Done q) h = record { refused = λ n. never-both refl n; accepted = λ y. h q refl (turn q Changed []) }
   changes a NoneFree h = record { refused = λ n. (refl, refl); accepted = λ y. never-both y refl }
 
-  lists : (mode : Mode) (window : Rect) → Either p filled (Search mode window) (turn p (Listed (length (found p mode window)) filled (opened p window)) (found p mode window))
+  lists : (o : Owner) (mode : Mode) (window : Rect)
+      → Either p filled (Search o mode window) (turn p (Listed (length (found p o mode window)) filled (opened p window)) (found p o mode window))
   unfolding answerOf
-  lists mode window = record { refused = λ n. never-both refl n; accepted = λ y. (refl, refl) }
+  lists o mode window = record { refused = λ n. never-both refl n; accepted = λ y. (refl, refl) }
 
   pub either : (room : ℕ) (a : Asked) → Either p filled a (request ours p filled room a)
   either room =
@@ -52,10 +54,10 @@ module _ (p : Pool) (filled : ℕ) where
       (λ r h. changes (Insert r) (insertRecord ours p r) (λ q e t. (e, tt)))
       (λ r h. changes (Delete r) (deleteRecord ours p r) (λ q e t. (e, tt)))
       (λ old new h. changes (Update old new) (updateRecord ours p old new) (λ q e t. (e, tt)))
-      (λ mode window h. lists mode window)
+      (λ o mode window h. lists o mode window)
 
 -- a search, accepted or refused, leaves the pool
-pub same-pool : {p : Pool} {filled : ℕ} {mode : Mode} {window : Rect} {t : Turn} → Either p filled (Search mode window) t → t .pool ≡ p
+pub same-pool : {p : Pool} {filled : ℕ} {o : Owner} {mode : Mode} {window : Rect} {t : Turn} → Either p filled (Search o mode window) t → t .pool ≡ p
 same-pool {p = p} {t = t} e = go (eqb (answerOf (t .reply) .number) 0) refl
   where
     go : (b : Bool) → eqb (answerOf (t .reply) .number) 0 ≡ b → t .pool ≡ p

@@ -10,23 +10,24 @@ use lib.ListN.{length, set, take, drop, length-append}
 use lib.Seq.{sets, take-at}
 use lib.Dec.{ltb, eqb}
 use borrow.Author.Tests.{ltb-false, le-ltb, eq-eqb}
+use Rattle.rules.specs.declared.Owner.{Owner}
 use Rattle.rules.specs.declared.Request.{Request}
 use Rattle.rules.specs.declared.Asked.{Asked}
 use Rattle.rules.specs.declared.Answer.{Answer}
-use Rattle.rules.specs.declared.Verdict.the-variants.{BadLists, BadLength, NotSound, NoRequest}
+use Rattle.rules.specs.declared.Verdict.the-variants.{BadLists, BadOwner, BadLength, NotSound, NoRequest}
 use Rattle.rules.specs.Lists.{every}
-use Rattle.rules.specs.Numbers.{mostRequests}
+use Rattle.rules.specs.Numbers.{mostRequests, goodOwner}
 use Rattle.rules.specs.Layout.{validLength}
 use Rattle.rules.specs.Sound.{sound}
 use Rattle.rules.specs.Insert.{ours}
 use Rattle.rules.specs.Answers.{answerOf}
 use Rattle.rules.specs.Request.{asked, request}
-use Rattle.rules.specs.Call.{Lent, Batch, isRequest, callFault, call, afterTurn, doRequest, doRequests, starting}
+use Rattle.rules.specs.Call.{Lent, Batch, isRequest, callFault, call, afterTurn, doRequest, doRequests, batchOwner, starting}
 use Rattle.rules_laws.proofs.Everies.{every-less, every-first}
 use Rattle.rules_laws.proofs.Bools.{and-both, not-false, or-neither}
 use Rattle.layout_laws.proofs.Runs.{sets-all}
 use Rattle.in_force_laws.proofs.Faults.{no-row, no-rows, row-passed}
-use Rattle.in_force_laws.proofs.Batch.{noAnswer, two-parts}
+use Rattle.in_force_laws.proofs.Batch.{noAnswer, batch-owner, two-parts}
 use Rattle.in_force_laws.proofs.Call.{left-answers, answers-long}
 use Rattle.in_force_laws.proofs.Asks.{asks-something}
 use Rattle.demands.specs.Demands.{after, withRequests}
@@ -39,11 +40,24 @@ two-after l done rest = two-parts ours 0 done rest (starting l) ∙ ap (λ (n : 
     none-before : 0 + length done ≡ length done
     none-before = omega arith
 
+-- whose batch it is, as far as it has come
+pub after-owner : (l : Lent) (done : List Request) → after l done .owner ≡ batchOwner l
+unfolding starting
+after-owner l done = batch-owner ours 0 done (starting l)
+
+-- .. and the next of its requests
+pub next-after : (l : Lent) (done : List Request) (q : Request) (rest : List Request)
+    → after l (done ++ q ∷ rest) ≡ doRequests ours (suc (length done)) rest (doRequest ours (length done) (after l done) (asked (batchOwner l) q))
+unfolding doRequests
+next-after l done q rest =
+    two-after l done (q ∷ rest)
+    ∙ ap (λ (w : Owner). doRequests ours (suc (length done)) rest (doRequest ours (length done) (after l done) (asked w q))) (after-owner l done)
+
 -- ---- what a request depends on
 
 -- a batch without its answer list
 abbrev pub bare : Batch → Batch
-bare b = record { pool = b .pool; answers = []; found = b .found; filled = b .filled }
+bare b = record { owner = b .owner; pool = b .pool; answers = []; found = b .found; filled = b .filled }
 
 step-bare : (i j : ℕ) (b : Batch) (o : Option Asked) → bare (doRequest ours i b o) ≡ doRequest ours j (bare b) o
 unfolding doRequest afterTurn
@@ -54,7 +68,7 @@ all-bare : (i j : ℕ) (qs : List Request) (b : Batch) → bare (doRequests ours
 unfolding doRequests
 all-bare i j [] b = refl
 all-bare i j (q ∷ qs) b =
-    all-bare (suc i) (suc j) qs (doRequest ours i b (asked q)) ∙ ap (doRequests ours (suc j) qs) (step-bare i j b (asked q))
+    all-bare (suc i) (suc j) qs (doRequest ours i b (asked (b .owner) q)) ∙ ap (doRequests ours (suc j) qs) (step-bare i j b (asked (b .owner) q))
 
 -- the same requests at other places, with another answer list
 pub same-bare : (i j : ℕ) (qs : List Request) (b d : Batch) → bare b ≡ bare d → bare (doRequests ours i qs b) ≡ bare (doRequests ours j qs d)
@@ -68,12 +82,12 @@ answerBy b (some a) = answerOf (request ours (b .pool) (b .filled) (length (b .f
 
 pub allAnswers : List Request → Batch → List Answer
 allAnswers [] b = []
-allAnswers (q ∷ qs) b = answerBy b (asked q) ∷ allAnswers qs (doRequest ours 0 b (asked q))
+allAnswers (q ∷ qs) b = answerBy b (asked (b .owner) q) ∷ allAnswers qs (doRequest ours 0 b (asked (b .owner) q))
 
 pub answers-many : (qs : List Request) (b : Batch) → length (allAnswers qs b) ≡ length qs
 unfolding allAnswers
 answers-many [] b = refl
-answers-many (q ∷ qs) b = ap suc (answers-many qs (doRequest ours 0 b (asked q)))
+answers-many (q ∷ qs) b = ap suc (answers-many qs (doRequest ours 0 b (asked (b .owner) q)))
 
 one-same : (b : Batch) (o : Option Asked) → answerBy b o ≡ answerBy (bare b) o
 unfolding answerBy
@@ -84,8 +98,8 @@ answers-bare : (qs : List Request) (b : Batch) → allAnswers qs b ≡ allAnswer
 unfolding allAnswers
 answers-bare [] b = refl
 answers-bare (q ∷ qs) b =
-    ap₂ (λ (x : Answer) (xs : List Answer). x ∷ xs) (one-same b (asked q))
-    (answers-bare qs (doRequest ours 0 b (asked q)) ∙ ap (allAnswers qs) (step-bare 0 0 b (asked q)))
+    ap₂ (λ (x : Answer) (xs : List Answer). x ∷ xs) (one-same b (asked (b .owner) q))
+    (answers-bare qs (doRequest ours 0 b (asked (b .owner) q)) ∙ ap (allAnswers qs) (step-bare 0 0 b (asked (b .owner) q)))
 
 pub answers-same : (qs : List Request) (b d : Batch) → bare b ≡ bare d → allAnswers qs b ≡ allAnswers qs d
 answers-same qs b d e = answers-bare qs b ∙ ap (allAnswers qs) e ∙ sym (answers-bare qs d)
@@ -98,11 +112,11 @@ pub answers-parts : (i : ℕ) (xs ys : List Request) (b : Batch) → allAnswers 
 unfolding allAnswers doRequests
 answers-parts i [] ys b = refl
 answers-parts i (x ∷ xs) ys b =
-    let b0 = doRequest ours 0 b (asked x) in
-    let bi = doRequest ours i b (asked x) in
-    ap (λ (xs : List Answer). answerBy b (asked x) ∷ xs) (answers-parts (suc i) xs ys b0
+    let b0 = doRequest ours 0 b (asked (b .owner) x) in
+    let bi = doRequest ours i b (asked (b .owner) x) in
+    ap (λ (xs : List Answer). answerBy b (asked (b .owner) x) ∷ xs) (answers-parts (suc i) xs ys b0
     ∙ ap (λ (r : List Answer). allAnswers xs b0 ++ r) (answers-same ys (doRequests ours (suc i) xs b0) (doRequests ours (suc i) xs bi)
-    (same-bare (suc i) (suc i) xs b0 bi (step-bare 0 0 b (asked x) ∙ sym (step-bare i 0 b (asked x))))))
+    (same-bare (suc i) (suc i) xs b0 bi (step-bare 0 0 b (asked (b .owner) x) ∙ sym (step-bare i 0 b (asked (b .owner) x))))))
 
 -- ---- they are what the batch leaves
 
@@ -110,9 +124,9 @@ some-written : (i : ℕ) (b : Batch) (a : Asked) → doRequest ours i b (some a)
 unfolding doRequest afterTurn answerBy
 some-written i b a = refl
 
-one-written : (i : ℕ) (b : Batch) (q : Request) → isRequest q ≡ true → doRequest ours i b (asked q) .answers ≡ set (b .answers) i (answerBy b (asked q))
+one-written : (i : ℕ) (b : Batch) (q : Request) → isRequest q ≡ true → doRequest ours i b (asked (b .owner) q) .answers ≡ set (b .answers) i (answerBy b (asked (b .owner) q))
 one-written i b q h =
-    let g = asks-something q h in
+    let g = asks-something (b .owner) q h in
     subst (λ (o : Option Asked). doRequest ours i b o .answers ≡ set (b .answers) i (answerBy b o)) (sym (g .1)) (some-written i b (g .0))
 
 all-written : (i : ℕ) (qs : List Request) (b : Batch) → every isRequest qs ≡ true → doRequests ours i qs b .answers ≡ sets (b .answers) i (allAnswers qs b)
@@ -120,9 +134,9 @@ unfolding doRequests allAnswers every
 all-written i [] b h = refl
 all-written i (q ∷ qs) b h =
     let g = and-both (isRequest q) (every isRequest qs) h in
-    let b1 = doRequest ours i b (asked q) in
+    let b1 = doRequest ours i b (asked (b .owner) q) in
     all-written (suc i) qs b1 (g .1)
-    ∙ ap₂ (λ (l : List Answer) (xs : List Answer). sets l (suc i) xs) (one-written i b q (g .0)) (place-free i 0 qs b (asked q))
+    ∙ ap₂ (λ (l : List Answer) (xs : List Answer). sets l (suc i) xs) (one-written i b q (g .0)) (place-free i 0 qs b (asked (b .owner) q))
 
 module _ {A : Type 0} where
   drop-past : (xs : List A) (y : A) (ys : List A) → drop (suc (length xs)) (xs ++ y ∷ ys) ≡ ys
@@ -133,23 +147,24 @@ module _ {A : Type 0} where
 
 module _ (l : Lent) (fine : callFault l ≡ none) where
   abbrev rows : Type 0
-  rows = (ltb mostRequests (length (l .requests)) ≡ false) × ((not (validLength (l .pool)) || not (eqb (length (l .workspace)) (length (l .pool)))) ≡ false)
-      × (not (sound (l .pool)) ≡ false) × (every isRequest (l .requests) ≡ true)
+  rows = (ltb mostRequests (length (l .requests)) ≡ false) × (goodOwner (l .owner) ≡ true)
+      × ((not (validLength (l .pool)) || not (eqb (length (l .workspace)) (length (l .pool)))) ≡ false) × (not (sound (l .pool)) ≡ false) × (every isRequest (l .requests) ≡ true)
 
   -- what a call that is not refused has passed
   pub passed : rows
   unfolding callFault
   passed =
       let a = no-row (ltb mostRequests (length (l .requests)) || not (eqb (length (l .answers)) (length (l .requests)))) BadLists _ fine in
-      let b = no-row (not (validLength (l .pool)) || not (eqb (length (l .workspace)) (length (l .pool)))) BadLength _ (a .1) in
+      let w = no-row (not (goodOwner (l .owner))) BadOwner _ (a .1) in
+      let b = no-row (not (validLength (l .pool)) || not (eqb (length (l .workspace)) (length (l .pool)))) BadLength _ (w .1) in
       let d = no-row (not (sound (l .pool))) NotSound _ (b .1) in
       let e = no-row (not (every isRequest (l .requests))) NoRequest _ (d .1) in
-      (or-neither (ltb mostRequests (length (l .requests))) _ (a .0) .0, b .0, d .0, not-false _ (e .0))
+      (or-neither (ltb mostRequests (length (l .requests))) _ (a .0) .0, not-false _ (w .0), b .0, d .0, not-false _ (e .0))
 
   call-answers : call l .answers ≡ allAnswers (l .requests) (starting l)
   unfolding call starting
   call-answers =
-      left-answers ours l fine ∙ all-written 0 (l .requests) (starting l) (passed .3)
+      left-answers ours l fine ∙ all-written 0 (l .requests) (starting l) (passed .4)
       ∙ sets-all (l .answers) (allAnswers (l .requests) (starting l)) (answers-many (l .requests) (starting l) ∙ sym (answers-long ours l fine))
 
 -- .. and so does one with fewer requests
@@ -161,7 +176,9 @@ module _ (l : Lent) (fine : callFault l ≡ none) where
       let lists : (ltb mostRequests (length qs) || not (eqb (length answers) (length qs))) ≡ false =
       rw (le-ltb mostRequests (length qs) (omega (arith, ltb-false mostRequests (length (l .requests)) (passed l fine .0))), eq-eqb (length answers) (length qs) long) in
       let asked : not (every isRequest qs) ≡ false = rw are in
-      row-passed _ BadLists _ lists (row-passed _ BadLength _ (passed l fine .1) (row-passed _ NotSound _ (passed l fine .2) (row-passed _ NoRequest [] asked no-rows)))
+      let good : not (goodOwner (l .owner)) ≡ false = rw (passed l fine .1) in
+      row-passed _ BadLists _ lists (row-passed _ BadOwner _ good (row-passed _ BadLength _ (passed l fine .2)
+      (row-passed _ NotSound _ (passed l fine .3) (row-passed _ NoRequest [] asked no-rows))))
 
   -- ---- .. the call with the first of its requests
 
@@ -169,10 +186,10 @@ module _ (l : Lent) (fine : callFault l ≡ none) where
     pub first-fine : callFault (withRequests l done answers) ≡ none
     first-fine =
         fewer-fine done answers (omega (arith, ap length all, length-append done rest))
-        (every-first isRequest done rest (rw all at (passed l fine .3))) long
+        (every-first isRequest done rest (rw all at (passed l fine .4))) long
 
     pub first-pool : after (withRequests l done answers) done .pool ≡ after l done .pool
-    unfolding starting
+    unfolding starting batchOwner
     first-pool = ap (λ (b : Batch). b .pool) (same-bare 0 0 done (starting (withRequests l done answers)) (starting l) refl)
 
   -- ---- .. and without one that changes nothing
@@ -185,34 +202,34 @@ module _ (l : Lent) (fine : callFault l ≡ none) where
     pub less-fine : callFault less ≡ none
     less-fine =
         fewer-fine (done ++ rest) answers (omega (arith, ap length all, length-append done (q ∷ rest), length-append done rest))
-        (every-less isRequest done q rest (rw all at (passed l fine .3)) .1) long
+        (every-less isRequest done q rest (rw all at (passed l fine .4)) .1) long
 
-    pub less-asked : (a : Asked) × (asked q ≡ some a)
-    less-asked = asks-something q (every-less isRequest done q rest (rw all at (passed l fine .3)) .0)
+    pub less-asked : (a : Asked) × (asked (batchOwner l) q ≡ some a)
+    less-asked = asks-something (batchOwner l) q (every-less isRequest done q rest (rw all at (passed l fine .4)) .0)
 
     less-start : bare (starting l) ≡ bare (starting less)
-    unfolding starting
+    unfolding starting batchOwner
     less-start = refl
 
-    module _ (none-done : bare (doRequest ours (length done) (after l done) (asked q)) ≡ bare (after l done)) where
+    module _ (none-done : bare (doRequest ours (length done) (after l done) (asked (after l done .owner) q)) ≡ bare (after l done)) where
       pub less-end : bare (after less (done ++ rest)) ≡ bare (after l (l .requests))
       unfolding doRequests
       less-end =
           same-bare 0 0 (done ++ rest) (starting less) (starting l) (sym less-start)
           ∙ ap bare (two-parts ours 0 done rest (starting l))
-          ∙ same-bare (0 + length done) (suc (length done)) rest (after l done) (doRequest ours (length done) (after l done) (asked q)) (sym none-done)
+          ∙ same-bare (0 + length done) (suc (length done)) rest (after l done) (doRequest ours (length done) (after l done) (asked (after l done .owner) q)) (sym none-done)
           ∙ ap bare (sym (two-after l done (q ∷ rest)) ∙ ap (after l) (sym all))
 
       pub less-answers : call less .answers ≡ take (length done) (call l .answers) ++ drop (suc (length done)) (call l .answers)
       unfolding allAnswers
       less-answers =
           let first = allAnswers done (starting l) in
-          let one = answerBy (after l done) (asked q) in
+          let one = answerBy (after l done) (asked (after l done .owner) q) in
           let last = allAnswers rest (after l done) in
           let mine : call l .answers ≡ first ++ one ∷ last =
           call-answers l fine ∙ ap (λ (qs : List Request). allAnswers qs (starting l)) all ∙ answers-parts 0 done (q ∷ rest) (starting l)
-          ∙ ap (λ (xs : List Answer). first ++ one ∷ xs) (place-free 0 (length done) rest (after l done) (asked q)
-          ∙ answers-same rest (doRequest ours (length done) (after l done) (asked q)) (after l done) none-done) in
+          ∙ ap (λ (xs : List Answer). first ++ one ∷ xs) (place-free 0 (length done) rest (after l done) (asked (after l done .owner) q)
+          ∙ answers-same rest (doRequest ours (length done) (after l done) (asked (after l done .owner) q)) (after l done) none-done) in
           let other : call less .answers ≡ first ++ last =
           call-answers less less-fine ∙ answers-same (done ++ rest) (starting less) (starting l) (sym less-start)
           ∙ answers-parts 0 done rest (starting l) in

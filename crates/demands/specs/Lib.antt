@@ -4,3 +4,4 @@ pub mod Demands
 pub mod Surveys
 pub mod Files
 pub mod Rooms
+pub mod Neighbour

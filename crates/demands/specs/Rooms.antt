@@ -18,7 +18,7 @@ use Rattle.rules.specs.Layout.{rectOf, words}
 use Rattle.rules.specs.Insert.{ours}
 use Rattle.rules.specs.Request.{asked}
 use Rattle.rules.specs.Room.{slotsNeeded}
-use Rattle.rules.specs.Call.{Lent, Left}
+use Rattle.rules.specs.Call.{Lent, Left, batchOwner}
 use Rattle.promises.specs.Rooms.{Tells}
 use Rattle.demands.specs.Demands.{after, answerAfter}
 
@@ -61,11 +61,13 @@ pub record ToldBefore {p : Pool} {r : Record} (a : Asking p r) (told : Answer) :
   pub free : freeOf a ≡ freeCount p
   pub fits : (neededOf a ≤ freeOf a) ↔ (told .number ≢ 7)
 
--- the law, of a call that returns 0: for an insert at any place of its batch, of the pool as it is at that moment. (`after l done .pool` is the pool
--- that comes back of the call with the requests before it alone: `before` of `Does`)
+-- the law, of a call that returns 0, for a pool of either edition and a batch of either owner: for an insert at any place of its batch, of the pool
+-- as it is at that moment. (`after l done .pool` is the pool that comes back of the call with the requests before it alone: `before` of `Does`)
 pub record KnownBefore (l : Lent) (o : Left) : Type 0 where
-  pub fits : (done : List Request) (q : Request) (rest : List Request) → l .requests ≡ done ++ q ∷ rest → (r : Record) → asked q ≡ some (Insert r)
+  pub fits : (done : List Request) (q : Request) (rest : List Request) → l .requests ≡ done ++ q ∷ rest
+      → (r : Record) → asked (batchOwner l) q ≡ some (Insert r)
       → OtherwiseAcceptable (after l done .pool) r → Fitting (after l done .pool) r (answerAfter o done) (after l (done ++ q ∷ []) .pool)
   -- .. and `dustmap_room` tells it
-  pub told : (done : List Request) (q : Request) (rest : List Request) → l .requests ≡ done ++ q ∷ rest → (r : Record) → asked q ≡ some (Insert r)
+  pub told : (done : List Request) (q : Request) (rest : List Request) → l .requests ≡ done ++ q ∷ rest
+      → (r : Record) → asked (batchOwner l) q ≡ some (Insert r)
       → OtherwiseAcceptable (after l done .pool) r → (a : Asking (after l done .pool) r) → ToldBefore a (answerAfter o done)

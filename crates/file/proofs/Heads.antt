@@ -1,5 +1,5 @@
 -- The first frame: the edition, the count, and then the records.
-use mathlib.Core.Path.{_≡_, refl, sym, ap, subst, _∙_}
+use mathlib.Core.Path.{_≡_, refl, sym, ap, ap₂, subst, _∙_}
 use mathlib.Core.Bool.{true, false}
 use mathlib.Core.List.{List}
 use mathlib.Core.Option.{none, some}
@@ -12,10 +12,12 @@ use lib.IntN.{ℤ, pos, negsuc, natAbs}
 use lib.Signed.{mag, leZ, nonNeg}
 use mir.Syntax.{w64}
 use mir.Val.{Fits}
+use Rattle.rules.specs.declared.Edition.{Edition}
 use Rattle.rules.specs.declared.FileFault.the-variants.{BadFrame}
 use Rattle.rules.specs.Lists.{same}
+use Rattle.rules.specs.Owners.{editionNumber}
 use Rattle.rules.specs.Pool.{Pool}
-use Rattle.rules.specs.Layout.{edition, natural, wordAt}
+use Rattle.rules.specs.Layout.{natural, wordAt}
 use Rattle.rules.specs.Insert.{ours}
 use Rattle.rules.specs.Frames.{wordValues}
 use Rattle.rules.specs.File.{fileNumber, frameDue, goodHead, countIn, Load, Fails, loadRecords, loadFile}
@@ -28,15 +30,15 @@ use Rattle.file_laws.proofs.Steps as S
 use Rattle.file.specs.Loading.{isDue, Loads}
 use Rattle.file.proofs.Dues.{due-here, none-due}
 
-module _ (p : Pool) (bs : List ℕ) (w : List ℤ) where
-  bad : loadFile ours p bs ≡ Fails BadFrame → Loads (loadFile ours p bs) (pos 10) w
+module _ (ed : Edition) (p : Pool) (bs : List ℕ) (w : List ℤ) where
+  bad : loadFile ours ed p bs ≡ Fails BadFrame → Loads (loadFile ours ed p bs) (pos 10) w
   bad e = subst (λ (l : Load). Loads l (pos 10) w) (sym e) ten
     where
       ten : pos 10 ≡ fileNumber BadFrame
       ten = unfold fileNumber in refl
 
-  pub head-missing : isDue 16 2 bs ≡ false → Loads (loadFile ours p bs) (pos 10) w
-  head-missing h = bad (S.head-none ours p bs (none-due 16 2 bs h))
+  pub head-missing : isDue 16 2 bs ≡ false → Loads (loadFile ours ed p bs) (pos 10) w
+  head-missing h = bad (S.head-none ours ed p bs (none-due 16 2 bs h))
 
   module _ (h : isDue 16 2 bs ≡ true) where
     abbrev ws : List ℤ
@@ -52,41 +54,41 @@ module _ (p : Pool) (bs : List ℕ) (w : List ℤ) where
     here : frameDue 16 2 bs ≡ some (dueIn 2 bs)
     here = due-here 16 2 bs h
 
-    pub head-edition : {z : ℤ} → z ≡ wordFrom bs 4 → same z (pos 1) ≡ false → Loads (loadFile ours p bs) (pos 10) w
-    head-edition {z} e f = bad (S.head-bad ours p bs (dueIn 2 bs) here wrong)
+    pub head-edition : {z : ℤ} → z ≡ wordFrom bs 4 → {n : ℤ} → n ≡ pos (editionNumber ed) → same z n ≡ false → Loads (loadFile ours ed p bs) (pos 10) w
+    head-edition {z} e {n} q f = bad (S.head-bad ours ed p bs (dueIn 2 bs) here wrong)
       where
-        other : same (wordAt ws 0) (pos edition) ≡ false
-        other = subst (λ (y : ℤ). same y (pos 1) ≡ false) (e ∙ sym first-word) f
+        other : same (wordAt ws 0) (pos (editionNumber ed)) ≡ false
+        other = ap₂ same (sym (e ∙ sym first-word)) (sym q) ∙ f
 
-        wrong : goodHead ws ≡ false
-        wrong = unfold goodHead in stop (same (wordAt ws 0) (pos edition)) (leZ (pos 0) (wordAt ws 1)) other
+        wrong : goodHead ed ws ≡ false
+        wrong = unfold goodHead in stop (same (wordAt ws 0) (pos (editionNumber ed))) (leZ (pos 0) (wordAt ws 1)) other
 
-    module _ {z : ℤ} (e : z ≡ wordFrom bs 4) (f : same z (pos 1) ≡ true) {n : ℤ} (c : n ≡ wordFrom bs 8) where
-      right : same (wordAt ws 0) (pos edition) ≡ true
-      right = subst (λ (y : ℤ). same y (pos 1) ≡ true) (e ∙ sym first-word) f
+    module _ {z : ℤ} (e : z ≡ wordFrom bs 4) {y : ℤ} (q : y ≡ pos (editionNumber ed)) (f : same z y ≡ true) {n : ℤ} (c : n ≡ wordFrom bs 8) where
+      right : same (wordAt ws 0) (pos (editionNumber ed)) ≡ true
+      right = ap₂ same (sym (e ∙ sym first-word)) (sym q) ∙ f
 
-      pub head-count : leZ (pos 0) n ≡ false → Loads (loadFile ours p bs) (pos 10) w
-      head-count g = bad (S.head-bad ours p bs (dueIn 2 bs) here wrong)
+      pub head-count : leZ (pos 0) n ≡ false → Loads (loadFile ours ed p bs) (pos 10) w
+      head-count g = bad (S.head-bad ours ed p bs (dueIn 2 bs) here wrong)
         where
           below : leZ (pos 0) (wordAt ws 1) ≡ false
           below = subst (λ (y : ℤ). leZ (pos 0) y ≡ false) (c ∙ sym second-word) g
 
-          wrong : goodHead ws ≡ false
-          wrong = unfold goodHead in go-on (same (wordAt ws 0) (pos edition)) (leZ (pos 0) (wordAt ws 1)) right ∙ below
+          wrong : goodHead ed ws ≡ false
+          wrong = unfold goodHead in go-on (same (wordAt ws 0) (pos (editionNumber ed))) (leZ (pos 0) (wordAt ws 1)) right ∙ below
 
-      pub head-loads : leZ (pos 0) n ≡ true → {m : ℕ} → m ≡ natural n → (r : ℤ) → Loads (loadRecords ours m none p (drop 12 bs)) r w
-          → Loads (loadFile ours p bs) r w
-      head-loads g {m} q r l =
+      pub head-loads : leZ (pos 0) n ≡ true → {m : ℕ} → m ≡ natural n → (r : ℤ) → Loads (loadRecords ours ed m none p (drop 12 bs)) r w
+          → Loads (loadFile ours ed p bs) r w
+      head-loads g {m} k r l =
           subst (λ (x : Load). Loads x r w)
-          (sym (S.head-good ours p bs (dueIn 2 bs) here good ∙ ap (λ (k : ℕ). loadRecords ours k none p (drop 12 bs)) (sym count))) l
+          (sym (S.head-good ours ed p bs (dueIn 2 bs) here good ∙ ap (λ (j : ℕ). loadRecords ours ed j none p (drop 12 bs)) (sym count))) l
         where
-          good : goodHead ws ≡ true
+          good : goodHead ed ws ≡ true
           good =
-              unfold goodHead in both-and (same (wordAt ws 0) (pos edition)) (leZ (pos 0) (wordAt ws 1)) right
+              unfold goodHead in both-and (same (wordAt ws 0) (pos (editionNumber ed))) (leZ (pos 0) (wordAt ws 1)) right
               (subst (λ (y : ℤ). leZ (pos 0) y ≡ true) (c ∙ sym second-word) g)
 
           count : m ≡ countIn ws
-          count = unfold countIn in q ∙ ap natural (c ∙ sym second-word)
+          count = unfold countIn in k ∙ ap natural (c ∙ sym second-word)
 
 -- ---- a count that is not negative, as the code casts it
 

@@ -6,37 +6,44 @@ use Prim.Native.Nat.{ℕ, zero, suc, _+_, _-_, _*_, _≤_, _<_}
 use native.Mathlib.Omega.{arith}
 use lib.ListN.{length, length-append}
 use lib.IntN.{ℤ}
-use Rattle.rules.specs.declared.Record.{Record}
-use Rattle.rules.specs.Lists.{joined}
+use Rattle.rules.specs.declared.Edition.{Edition}
+use Rattle.rules.specs.declared.Owner.{Owner}
+use Rattle.rules.specs.declared.FoundRecord.{FoundRecord}
+use Rattle.rules.specs.Lists.{those}
+use Rattle.rules.specs.Owners.{ownedBy, asFound, ofOwner}
 use Rattle.rules.specs.Pool.{stored}
 use Rattle.rules.specs.Layout.{rectSize, read}
 use Rattle.rules.specs.Search.{before}
-use Rattle.rules.specs.File.{distinct, recordsCarried, recordFrame}
+use Rattle.rules.specs.File.{distinct, carriedOf, recordFrame}
 use Rattle.rules_laws.proofs.Joins.{joined-more, joined-none, joined-append}
 use Rattle.search_laws.specs.Order.{Sorted}
 use Rattle.search_laws.proofs.Order.{neither-before, ordered-sorted}
-use Rattle.found_items.specs.Items.{spotAt, itemAt, itemsFrom}
+use Rattle.found_items.specs.Items.{spotAt, shownAt, shownFrom}
+use Rattle.found_items.proofs.Words as I
 use Rattle.frames.specs.Writing.{Wrote}
 use Rattle.frames.proofs.Texts.{nothing-wrote, wrote-then, wrote-as, wrote-length}
 use Rattle.file_laws.proofs.Distinct.{distinct-none, distinct-new, distinct-next, distinct-ascending}
-use Rattle.file.specs.Items.{InOrder, isNew, newFrom}
+use Rattle.file.specs.Items.{Listed, InOrder, isNew, newFrom}
+use Rattle.file.specs.Filling.{ownFrames}
+
+-- the frame of a record that is shown, of its owner
+abbrev frame : Edition → Owner → FoundRecord → List ℕ
+frame e o f = recordFrame e (ofOwner o f)
 
 module _ (pool items : List ℤ) where
   -- ---- one item
 
-  items-more : (k n : ℕ) → itemsFrom pool items k (suc n) ≡ itemAt pool items k ∷ itemsFrom pool items (suc k) n
-  unfolding itemsFrom
-  items-more k n = refl
+  items-more : (k n : ℕ) → shownFrom pool items k (suc n) ≡ shownAt pool items k ∷ shownFrom pool items (suc k) n
+  items-more k n = I.items-more (shownAt pool items) k n
 
-  items-none : (k : ℕ) → itemsFrom pool items k zero ≡ []
-  unfolding itemsFrom
-  items-none k = refl
+  items-none : (k : ℕ) → shownFrom pool items k zero ≡ []
+  items-none k = I.items-none (shownAt pool items) k
 
   pub new-none : (k : ℕ) → newFrom pool items k zero ≡ []
   unfolding newFrom
   new-none k = refl
 
-  pub new-yes : (k n : ℕ) → isNew pool items k ≡ true → newFrom pool items k (suc n) ≡ itemAt pool items k ∷ newFrom pool items (suc k) n
+  pub new-yes : (k n : ℕ) → isNew pool items k ≡ true → newFrom pool items k (suc n) ≡ shownAt pool items k ∷ newFrom pool items (suc k) n
   unfolding newFrom
   new-yes k n h = rw h
 
@@ -63,52 +70,54 @@ module _ (pool items : List ℤ) where
   -- ---- all of them
 
   -- after the item at place k
-  new-after : (k n : ℕ) → Sorted (itemsFrom pool items k (suc n))
-      → distinct (itemAt pool items k ∷ itemsFrom pool items (suc k) n) ≡ itemAt pool items k ∷ newFrom pool items (suc k) n
+  new-after : (k n : ℕ) → Sorted (shownFrom pool items k (suc n))
+      → distinct (shownAt pool items k ∷ shownFrom pool items (suc k) n) ≡ shownAt pool items k ∷ newFrom pool items (suc k) n
   new-after k zero s =
-      let r = itemAt pool items k in
-      ap (λ (l : List Record). distinct (r ∷ l)) (items-none (suc k)) ∙ distinct-new r [] (rw distinct-none tt)
-      ∙ ap (λ (l : List Record). r ∷ l) (distinct-none ∙ sym (new-none (suc k)))
-  new-after k (suc n) s = go (before (itemAt pool items k) (itemAt pool items (suc k))) refl (new-after (suc k) n (sorted .1))
+      let r = shownAt pool items k in
+      ap (λ (l : List FoundRecord). distinct (r ∷ l)) (items-none (suc k)) ∙ distinct-new r [] (rw distinct-none tt)
+      ∙ ap (λ (l : List FoundRecord). r ∷ l) (distinct-none ∙ sym (new-none (suc k)))
+  new-after k (suc n) s = go (before (shownAt pool items k) (shownAt pool items (suc k))) refl (new-after (suc k) n (sorted .1))
     where
-      sorted : Sorted (itemAt pool items k ∷ itemsFrom pool items (suc k) (suc n))
+      sorted : Sorted (shownAt pool items k ∷ shownFrom pool items (suc k) (suc n))
       sorted = subst Sorted (items-more k (suc n)) s
 
-      all : distinct (itemAt pool items k ∷ itemsFrom pool items (suc k) (suc n))
-          ≡ cond (before (itemAt pool items k) (itemAt pool items (suc k)))
-          (itemAt pool items k ∷ distinct (itemAt pool items (suc k) ∷ itemsFrom pool items (suc (suc k)) n))
-          (distinct (itemAt pool items (suc k) ∷ itemsFrom pool items (suc (suc k)) n))
+      all : distinct (shownAt pool items k ∷ shownFrom pool items (suc k) (suc n))
+          ≡ cond (before (shownAt pool items k) (shownAt pool items (suc k)))
+          (shownAt pool items k ∷ distinct (shownAt pool items (suc k) ∷ shownFrom pool items (suc (suc k)) n))
+          (distinct (shownAt pool items (suc k) ∷ shownFrom pool items (suc (suc k)) n))
       all =
-          let two = subst (λ (l : List Record). Sorted (itemAt pool items k ∷ l)) (items-more (suc k) n) sorted in
-          ap (λ (l : List Record). distinct (itemAt pool items k ∷ l)) (items-more (suc k) n)
-          ∙ distinct-next (itemAt pool items k) (itemAt pool items (suc k)) (itemsFrom pool items (suc (suc k)) n) (two .0)
-          (distinct-ascending (itemAt pool items (suc k) ∷ itemsFrom pool items (suc (suc k)) n) (two .1))
+          let two = subst (λ (l : List FoundRecord). Sorted (shownAt pool items k ∷ l)) (items-more (suc k) n) sorted in
+          ap (λ (l : List FoundRecord). distinct (shownAt pool items k ∷ l)) (items-more (suc k) n)
+          ∙ distinct-next (shownAt pool items k) (shownAt pool items (suc k)) (shownFrom pool items (suc (suc k)) n) (two .0)
+          (distinct-ascending (shownAt pool items (suc k) ∷ shownFrom pool items (suc (suc k)) n) (two .1))
 
-      is-new : (b : Bool) → before (itemAt pool items k) (itemAt pool items (suc k)) ≡ b → isNew pool items (suc k) ≡ b
+      is-new : (b : Bool) → before (shownAt pool items k) (shownAt pool items (suc k)) ≡ b → isNew pool items (suc k) ≡ b
       is-new b e = unfold isNew in e
 
-      not-before : before (itemAt pool items (suc k)) (itemAt pool items k) ≡ false
-      not-before = subst (λ (l : List Record). Sorted (itemAt pool items k ∷ l)) (items-more (suc k) n) sorted .0
+      not-before : before (shownAt pool items (suc k)) (shownAt pool items k) ≡ false
+      not-before = subst (λ (l : List FoundRecord). Sorted (shownAt pool items k ∷ l)) (items-more (suc k) n) sorted .0
 
-      go : (b : Bool) → before (itemAt pool items k) (itemAt pool items (suc k)) ≡ b
-          → distinct (itemAt pool items (suc k) ∷ itemsFrom pool items (suc (suc k)) n) ≡ itemAt pool items (suc k) ∷ newFrom pool items (suc (suc k)) n
-          → distinct (itemAt pool items k ∷ itemsFrom pool items (suc k) (suc n)) ≡ itemAt pool items k ∷ newFrom pool items (suc k) (suc n)
+      go : (b : Bool) → before (shownAt pool items k) (shownAt pool items (suc k)) ≡ b
+          → distinct (shownAt pool items (suc k) ∷ shownFrom pool items (suc (suc k)) n) ≡ shownAt pool items (suc k) ∷ newFrom pool items (suc (suc k)) n
+          → distinct (shownAt pool items k ∷ shownFrom pool items (suc k) (suc n)) ≡ shownAt pool items k ∷ newFrom pool items (suc k) (suc n)
       go true e later =
-          (rw e at all) ∙ ap (λ (l : List Record). itemAt pool items k ∷ l) (later ∙ sym (new-yes (suc k) n (is-new true e)))
+          (rw e at all) ∙ ap (λ (l : List FoundRecord). shownAt pool items k ∷ l) (later ∙ sym (new-yes (suc k) n (is-new true e)))
       go false e later =
           (rw e at all) ∙ later
-          ∙ ap (λ (r : Record). r ∷ newFrom pool items (suc (suc k)) n) (sym (neither-before (itemAt pool items k) (itemAt pool items (suc k)) e not-before))
-          ∙ ap (λ (l : List Record). itemAt pool items k ∷ l) (sym (new-no (suc k) n (is-new false e)))
+          ∙ ap (λ (r : FoundRecord). r ∷ newFrom pool items (suc (suc k)) n) (sym (neither-before (shownAt pool items k) (shownAt pool items (suc k)) e not-before))
+          ∙ ap (λ (l : List FoundRecord). shownAt pool items k ∷ l) (sym (new-no (suc k) n (is-new false e)))
 
-  new-distinct : (n : ℕ) → Sorted (itemsFrom pool items 0 n) → newFrom pool items 0 n ≡ distinct (itemsFrom pool items 0 n)
+  new-distinct : (n : ℕ) → Sorted (shownFrom pool items 0 n) → newFrom pool items 0 n ≡ distinct (shownFrom pool items 0 n)
   new-distinct zero s = new-none 0 ∙ sym (ap distinct (items-none 0) ∙ distinct-none)
   new-distinct (suc n) s =
       new-yes 0 n (unfold isNew in refl) ∙ sym (ap distinct (items-more 0 n) ∙ new-after 0 n s)
 
-  -- the new ones are the records of the file
-  pub new-carried : (n : ℕ) → InOrder pool items n → newFrom pool items 0 n ≡ recordsCarried (read pool)
-  unfolding recordsCarried
-  new-carried n h = new-distinct n (subst Sorted (sym (h .is)) (ordered-sorted (stored (read pool)))) ∙ ap distinct (h .is)
+  -- the new ones are what is carried of the owner
+  pub new-carried : (o : Owner) (n : ℕ) → InOrder pool o items n → newFrom pool items 0 n ≡ carriedOf (read pool) o
+  unfolding carriedOf
+  new-carried o n h =
+      let own = map asFound (those (ownedBy o) (stored (read pool))) in
+      new-distinct n (subst Sorted (sym (h .is)) (ordered-sorted own)) ∙ ap distinct (h .is)
 
   -- ---- what the code asks
 
@@ -116,28 +125,33 @@ module _ (pool items : List ℤ) where
   unfolding isNew
   new-first k e = rw e
 
-  pub new-later : (k : ℕ) → (k ≡ 0 → ⊥) → before (itemAt pool items (k - 1)) (itemAt pool items k) ≡ isNew pool items k
+  pub new-later : (k : ℕ) → (k ≡ 0 → ⊥) → before (shownAt pool items (k - 1)) (shownAt pool items k) ≡ isNew pool items k
   unfolding isNew
   new-later zero h = absurd (h refl)
-  new-later (suc k) h = ap (λ (j : ℕ). before (itemAt pool items j) (itemAt pool items (suc k))) (omega arith)
+  new-later (suc k) h = ap (λ (j : ℕ). before (shownAt pool items j) (shownAt pool items (suc k))) (omega arith)
 
   -- an item's words and its rectangle are there
-  pub item-words : (n k : ℕ) → InOrder pool items n → k < n → 2 * k + 2 ≤ length items
+  pub item-words : (n k : ℕ) → Listed pool items n → k < n → 2 * k + 2 ≤ length items
   item-words n k h l = omega (arith, h .few, h .long)
 
-  pub item-spot : (n k : ℕ) → InOrder pool items n → k < n → spotAt items k + rectSize ≤ length pool
-  item-spot n k h l = h .pointing .inside k (omega arith) (omega arith)
+  pub item-spot : (n k : ℕ) → Listed pool items n → k < n → spotAt items k + rectSize ≤ length pool
+  item-spot n k h l = I.pointing-rect (h .pointing) k (omega arith) (omega arith)
 
   -- ---- the frames of one item
 
-  pub old-text : (k : ℕ) → isNew pool items k ≡ false → joined (map recordFrame (newFrom pool items k 1)) ≡ []
-  old-text k e = rw (new-no k 0 e, new-none (suc k)) (joined-none recordFrame)
+  module _ (e : Edition) (o : Owner) where
+    pub old-text : (k : ℕ) → isNew pool items k ≡ false → ownFrames e o (newFrom pool items k 1) ≡ []
+    old-text k h = rw (new-no k 0 h, new-none (suc k)) (joined-none (frame e o))
 
-  pub new-text : (k : ℕ) → isNew pool items k ≡ true → joined (map recordFrame (newFrom pool items k 1)) ≡ recordFrame (itemAt pool items k)
-  new-text k e =
-      rw (new-yes k 0 e, new-none (suc k))
-      (joined-more recordFrame (itemAt pool items k) [] ∙ ap (λ (l : List ℕ). recordFrame (itemAt pool items k) ++ l) (joined-none recordFrame)
-      ∙ append-nil (recordFrame (itemAt pool items k)))
+    pub new-text : (k : ℕ) → isNew pool items k ≡ true → ownFrames e o (newFrom pool items k 1) ≡ frame e o (shownAt pool items k)
+    new-text k h =
+        rw (new-yes k 0 h, new-none (suc k))
+        (joined-more (frame e o) (shownAt pool items k) [] ∙ ap (λ (l : List ℕ). frame e o (shownAt pool items k) ++ l) (joined-none (frame e o))
+        ∙ append-nil (frame e o (shownAt pool items k)))
+
+-- the owner by another name
+pub in-order-of : {pool items : List ℤ} {n : ℕ} {o v : Owner} → o ≡ v → InOrder pool o items n → InOrder pool v items n
+in-order-of {pool} {items} {n} q h = subst (λ (x : Owner). InOrder pool x items n) q h
 
 -- so many of the n items are left, from item k on
 pub record Left (n k : ℕ) : Type 0 where
@@ -188,29 +202,29 @@ count-all {pool} {items} {n} {k} {count} c h = go (c .to .rest) (c .to .left) (c
 -- ---- written
 
 -- what is written is the text so far, and the frames of what is left make the whole
-pub record Putting (pool items : List ℤ) (n : ℕ) (first : List ℕ) (at : ℕ) (file : List ℕ) (next k : ℕ) : Type 0 where
+pub record Putting (e : Edition) (o : Owner) (pool items : List ℤ) (n : ℕ) (first : List ℕ) (at : ℕ) (file : List ℕ) (next k : ℕ) : Type 0 where
   pub to : Left n k
   pub text : List ℕ
   pub wrote : Wrote first at text file next
-  pub all : text ++ joined (map recordFrame (newFrom pool items k (to .rest))) ≡ joined (map recordFrame (newFrom pool items 0 n))
+  pub all : text ++ ownFrames e o (newFrom pool items k (to .rest)) ≡ ownFrames e o (newFrom pool items 0 n)
 
-pub put-first : (pool items : List ℤ) (n : ℕ) (file : List ℕ) (at : ℕ) → Putting pool items n file at file at 0
-put-first pool items n file at = record { to = record { rest = n; left = omega arith }; text = []; wrote = nothing-wrote file at; all = refl }
+pub put-first : (e : Edition) (o : Owner) (pool items : List ℤ) (n : ℕ) (file : List ℕ) (at : ℕ) → Putting e o pool items n file at file at 0
+put-first e o pool items n file at = record { to = record { rest = n; left = omega arith }; text = []; wrote = nothing-wrote file at; all = refl }
 
-module _ {pool items : List ℤ} {n : ℕ} {first : List ℕ} {at : ℕ} {file : List ℕ} {next k : ℕ} (p : Putting pool items n first at file next k) (h : k < n) where
-  parts : (m : ℕ) → joined (map recordFrame (newFrom pool items k (suc m)))
-      ≡ joined (map recordFrame (newFrom pool items k 1)) ++ joined (map recordFrame (newFrom pool items (suc k) m))
+module _ {e : Edition} {o : Owner} {pool items : List ℤ} {n : ℕ} {first : List ℕ} {at : ℕ} {file : List ℕ} {next k : ℕ} (p : Putting e o pool items n first at file next k) (h : k < n) where
+  parts : (m : ℕ) → ownFrames e o (newFrom pool items k (suc m))
+      ≡ ownFrames e o (newFrom pool items k 1) ++ ownFrames e o (newFrom pool items (suc k) m)
   parts m =
-      ap (λ (l : List Record). joined (map recordFrame l)) (new-parts pool items k m)
-      ∙ joined-append recordFrame (newFrom pool items k 1) (newFrom pool items (suc k) m)
+      ap (λ (l : List FoundRecord). ownFrames e o l) (new-parts pool items k m)
+      ∙ joined-append (frame e o) (newFrom pool items k 1) (newFrom pool items (suc k) m)
 
   -- there is room for the next frame
-  pub put-room : at + length (joined (map recordFrame (newFrom pool items 0 n))) ≤ length first
-      → next + length (joined (map recordFrame (newFrom pool items k 1))) ≤ length file
+  pub put-room : at + length (ownFrames e o (newFrom pool items 0 n)) ≤ length first
+      → next + length (ownFrames e o (newFrom pool items k 1)) ≤ length file
   put-room r = go (p .to .rest) (p .to .left) (p .all)
     where
-      go : (m : ℕ) → k + m ≡ n → p .text ++ joined (map recordFrame (newFrom pool items k m)) ≡ joined (map recordFrame (newFrom pool items 0 n))
-          → next + length (joined (map recordFrame (newFrom pool items k 1))) ≤ length file
+      go : (m : ℕ) → k + m ≡ n → p .text ++ ownFrames e o (newFrom pool items k m) ≡ ownFrames e o (newFrom pool items 0 n)
+          → next + length (ownFrames e o (newFrom pool items k 1)) ≤ length file
       go zero l a = absurd (omega arith)
       go (suc m) l a =
           omega (
@@ -219,37 +233,37 @@ module _ {pool items : List ℤ} {n : ℕ} {first : List ℕ} {at : ℕ} {file :
             p .wrote .place,
             wrote-length (p .wrote),
             ap length a,
-            length-append (p .text) (joined (map recordFrame (newFrom pool items k (suc m)))),
+            length-append (p .text) (ownFrames e o (newFrom pool items k (suc m))),
             ap length (parts m),
-            length-append (joined (map recordFrame (newFrom pool items k 1))) (joined (map recordFrame (newFrom pool items (suc k) m))),
+            length-append (ownFrames e o (newFrom pool items k 1)) (ownFrames e o (newFrom pool items (suc k) m)),
           )
 
-  pub put-next : {out : List ℕ} {place : ℕ} → Wrote file next (joined (map recordFrame (newFrom pool items k 1))) out place
-      → Putting pool items n first at out place (k + 1)
+  pub put-next : {out : List ℕ} {place : ℕ} → Wrote file next (ownFrames e o (newFrom pool items k 1)) out place
+      → Putting e o pool items n first at out place (k + 1)
   put-next {out} {place} w = go (p .to .rest) (p .to .left) (p .all)
     where
-      go : (m : ℕ) → k + m ≡ n → p .text ++ joined (map recordFrame (newFrom pool items k m)) ≡ joined (map recordFrame (newFrom pool items 0 n))
-          → Putting pool items n first at out place (k + 1)
+      go : (m : ℕ) → k + m ≡ n → p .text ++ ownFrames e o (newFrom pool items k m) ≡ ownFrames e o (newFrom pool items 0 n)
+          → Putting e o pool items n first at out place (k + 1)
       go zero l a = absurd (omega arith)
       go (suc m) l a =
-          let one = joined (map recordFrame (newFrom pool items k 1)) in
+          let one = ownFrames e o (newFrom pool items k 1) in
           let j : k + 1 ≡ suc k = omega arith in
           rw j (record {
             to = record { rest = m; left = omega arith };
             text = p .text ++ one;
             wrote = wrote-then (p .wrote) w;
-            all = append-assoc (p .text) one (joined (map recordFrame (newFrom pool items (suc k) m)))
+            all = append-assoc (p .text) one (ownFrames e o (newFrom pool items (suc k) m))
                 ∙ ap (λ (l : List ℕ). p .text ++ l) (sym (parts m)) ∙ a;
           })
 
-pub put-all : {pool items : List ℤ} {n : ℕ} {first : List ℕ} {at : ℕ} {file : List ℕ} {next k : ℕ} → Putting pool items n first at file next k → n ≤ k
-    → Wrote first at (joined (map recordFrame (newFrom pool items 0 n))) file next
-put-all {pool} {items} {n} {first} {at} {file} {next} {k} p h = go (p .to .rest) (p .to .left) (p .all)
+pub put-all : {e : Edition} {o : Owner} {pool items : List ℤ} {n : ℕ} {first : List ℕ} {at : ℕ} {file : List ℕ} {next k : ℕ} → Putting e o pool items n first at file next k → n ≤ k
+    → Wrote first at (ownFrames e o (newFrom pool items 0 n)) file next
+put-all {e} {o} {pool} {items} {n} {first} {at} {file} {next} {k} p h = go (p .to .rest) (p .to .left) (p .all)
   where
-    go : (m : ℕ) → k + m ≡ n → p .text ++ joined (map recordFrame (newFrom pool items k m)) ≡ joined (map recordFrame (newFrom pool items 0 n))
-        → Wrote first at (joined (map recordFrame (newFrom pool items 0 n))) file next
+    go : (m : ℕ) → k + m ≡ n → p .text ++ ownFrames e o (newFrom pool items k m) ≡ ownFrames e o (newFrom pool items 0 n)
+        → Wrote first at (ownFrames e o (newFrom pool items 0 n)) file next
     go zero l a =
-        let none-left : joined (map recordFrame (newFrom pool items k 0)) ≡ [] =
-        ap (λ (l : List Record). joined (map recordFrame l)) (new-none pool items k) ∙ joined-none recordFrame in
+        let none-left : ownFrames e o (newFrom pool items k 0) ≡ [] =
+        ap (λ (l : List FoundRecord). ownFrames e o l) (new-none pool items k) ∙ joined-none (frame e o) in
         wrote-as (sym (append-nil (p .text)) ∙ ap (λ (l : List ℕ). p .text ++ l) (sym none-left) ∙ a) (p .wrote)
     go (suc m) l a = absurd (omega arith)

@@ -1,51 +1,57 @@
 -- What a write comes to, by the rows of its table.
-use mathlib.Core.Path.{_≡_, refl, sym, ap, subst, _∙_}
+use mathlib.Core.Path.{_≡_, refl, sym, ap, ap₂, _∙_}
 use mathlib.Core.Bool.{Bool, true, false}
 use mathlib.Core.List.{List}
-use Prim.Native.Nat.{ℕ, _+_, _*_, _≤_, _<_}
+use Prim.Native.Nat.{ℕ, _+_, _≤_, _<_}
 use native.Mathlib.Omega.{arith}
 use lib.ListN.{length}
 use lib.Seq.{sets}
 use lib.Dec.{ltb}
 use lib.IntN.{ℤ, pos}
 use borrow.Author.Tests.{lt-ltb, le-ltb}
-use Rattle.rules.specs.declared.Record.{Record}
-use Rattle.rules.specs.Layout.{validLength, read}
+use Rattle.rules.specs.declared.Edition.{Edition}
+use Rattle.rules.specs.Layout.{validLength, editionOf, read}
 use Rattle.rules.specs.Sound.{sound}
 use Rattle.rules.specs.Answers.{firstRow}
-use Rattle.rules.specs.File.{fileNumber, fileBytes, recordsCarried, WriteLeft, writeFault, writeFile}
+use Rattle.rules.specs.File.{fileNumber, recordsCarried, poolFile, WriteLeft, writeFault, writeFile}
+use Rattle.layout_laws.proofs.Written.{edition-is}
 use Rattle.promises.specs.Files.{Writes}
 use Rattle.file.specs.Filling.{filled, Fills}
+use Rattle.file.specs.Loading.{placeOf}
 use Rattle.file.proofs.Sizes.{file-long}
 
 -- ---- of a sound pool
 
-module _ (pool : List ℤ) (buffer : List ℕ) (rs : List Record) (is : rs ≡ recordsCarried (read pool)) where
-  abbrev carried : List Record
-  carried = recordsCarried (read pool)
+module _ (pool : List ℤ) (buffer : List ℕ) where
+  abbrev all : List ℕ
+  all = poolFile (read pool)
 
-  fills : {n : ℤ} {file : List ℕ} {long : ℕ} → filled rs buffer ≡ record { number = n; file = file; size = long } → Fills pool buffer n file long
+  fills : {n : ℤ} {file : List ℕ} {long : ℕ} → filled all buffer ≡ record { number = n; file = file; size = long } → Fills pool buffer n file long
   fills {n} {file} {long} e =
-      let f : record { number = n; file = file; size = long } ≡ filled carried buffer = sym (subst (λ (x : List Record). filled x buffer ≡ record { number = n; file = file; size = long }) is e) in
+      let f : record { number = n; file = file; size = long } ≡ filled all buffer = sym e in
       record { number = ap (λ (x : WriteLeft). x .number) f; file = ap (λ (x : WriteLeft). x .file) f; size = ap (λ (x : WriteLeft). x .size) f }
 
-  short-is : length buffer < length (fileBytes rs) → filled rs buffer ≡ record { number = pos 8; file = buffer; size = 0 }
+  short-is : length buffer < length all → filled all buffer ≡ record { number = pos 8; file = buffer; size = 0 }
   unfolding filled fileNumber
-  short-is h = rw (filled, lt-ltb (length buffer) (length (fileBytes rs)) h)
+  short-is h = rw (filled, lt-ltb (length buffer) (length all) h)
 
-  all-is : length (fileBytes rs) ≤ length buffer
-      → filled rs buffer ≡ record { number = pos 0; file = sets buffer 0 (fileBytes rs); size = length (fileBytes rs) }
+  all-is : length all ≤ length buffer → filled all buffer ≡ record { number = pos 0; file = sets buffer 0 all; size = length all }
   unfolding filled
-  all-is h = rw (filled, le-ltb (length buffer) (length (fileBytes rs)) h)
+  all-is h = rw (filled, le-ltb (length buffer) (length all) h)
 
-  pub fills-short : {count : ℕ} → count ≡ length rs → length buffer < 12 + 24 * count + 4 → Fills pool buffer (pos 8) buffer 0
-  fills-short {count} c h = fills (short-is (omega (arith, h, c, file-long rs)))
+  -- how many bytes the file has, by the count of its records
+  module _ {ed : Edition} (q : ed ≡ editionOf pool) {count : ℕ} (c : count ≡ length (recordsCarried (read pool))) {at : ℕ} (place : at ≡ placeOf ed count) where
+    pub all-long : length all ≡ at + 4
+    unfolding poolFile
+    all-long =
+        file-long (read pool .edition) (recordsCarried (read pool))
+        ∙ ap (λ (n : ℕ). n + 4) (sym (place ∙ ap₂ placeOf (q ∙ edition-is pool) c))
 
-  pub fills-all : {count : ℕ} → count ≡ length rs → 12 + 24 * count + 4 ≤ length buffer → {file : List ℕ} → file ≡ sets buffer 0 (fileBytes rs)
-      → Fills pool buffer (pos 0) file (12 + 24 * count + 4)
-  fills-all {count} c h {file} f =
-      let long : length (fileBytes rs) ≡ 12 + 24 * count + 4 = omega (arith, c, file-long rs) in
-      fills (all-is (omega (arith, h, long)) ∙ (λ i. record { number = pos 0; file = sym f i; size = long i }))
+    pub fills-short : length buffer < at + 4 → Fills pool buffer (pos 8) buffer 0
+    fills-short h = fills (short-is (omega (arith, h, all-long)))
+
+    pub fills-all : at + 4 ≤ length buffer → {file : List ℕ} → file ≡ sets buffer 0 all → Fills pool buffer (pos 0) file (at + 4)
+    fills-all h {file} f = fills (all-is (omega (arith, h, all-long)) ∙ (λ i. record { number = pos 0; file = sym f i; size = all-long i }))
 
 -- ---- of any words
 
@@ -64,8 +70,8 @@ module _ (pool : List ℤ) (buffer : List ℕ) where
   refused-2 h s = rw (writeFile, h, s)
 
   -- 8 is the last row
-  sound-filled : validLength pool ≡ true → sound pool ≡ true → (b : Bool) → ltb (length buffer) (length (fileBytes (recordsCarried (read pool)))) ≡ b
-      → filled (recordsCarried (read pool)) buffer ≡ writeFile pool buffer
+  sound-filled : validLength pool ≡ true → sound pool ≡ true → (b : Bool) → ltb (length buffer) (length (poolFile (read pool))) ≡ b
+      → filled (poolFile (read pool)) buffer ≡ writeFile pool buffer
   unfolding filled writeFile writeFault firstRow
   sound-filled h s true e = rw (filled, writeFile, h, s, e)
   sound-filled h s false e = rw (filled, writeFile, h, s, e)
@@ -79,7 +85,7 @@ module _ (pool : List ℤ) (buffer : List ℕ) where
   pub writes-filled : validLength pool ≡ true → sound pool ≡ true → {n : ℤ} {file : List ℕ} {long : ℕ} → Fills pool buffer n file long
       → Writes pool buffer n file long
   writes-filled h s f =
-      let same = sound-filled h s (ltb (length buffer) (length (fileBytes (recordsCarried (read pool))))) refl in
+      let same = sound-filled h s (ltb (length buffer) (length (poolFile (read pool)))) refl in
       record {
         number = f .number ∙ ap (λ (x : WriteLeft). x .number) same;
         file = f .file ∙ ap (λ (x : WriteLeft). x .file) same;

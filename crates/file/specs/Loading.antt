@@ -1,4 +1,4 @@
--- Where the code finds the frames of a file, and what it does at each: every frame before record k has its one size.
+-- Where the code finds the frames of a file of an edition, and what it does at each: every frame before record k has its one size.
 use mathlib.Core.Path.{_≡_}
 use mathlib.Core.Bool.{Bool, true, false, cond, _&&_}
 use mathlib.Core.List.{List}
@@ -7,15 +7,18 @@ use Prim.Native.Nat.{ℕ, zero, suc, _+_, _*_}
 use lib.ListN.{length, drop}
 use lib.Dec.{eqb}
 use lib.IntN.{ℤ, pos}
+use Rattle.rules.specs.declared.Edition.{Edition}
+use Rattle.rules.specs.declared.Owner.{Owner}
 use Rattle.rules.specs.declared.Record.{Record}
 use Rattle.rules.specs.declared.FileFault.{FileFault}
 use Rattle.rules.specs.declared.FileFault.the-variants.{BadFrame, NoSlot}
-use Rattle.rules.specs.Pool.{Pool}
+use Rattle.rules.specs.Pool.{Pool, number}
 use Rattle.rules.specs.Layout.{read}
 use Rattle.rules.specs.Insert.{ours, Change, Done, NoneFree, insertRecord}
 use Rattle.rules.specs.Frames.{wordValues}
-use Rattle.rules.specs.File.{fileNumber, frameDue, recordIn, recordFault, Load, Loaded, Fails}
+use Rattle.rules.specs.File.{fileNumber, frameDue, recordKind, recordSize, recordIn, recordFault, Load, Loaded, Fails}
 use Rattle.layout_laws.specs.Slots.{Fit}
+use Rattle.frames.specs.Places.{wordFrom, rectOfBytes}
 use Rattle.insert.specs.Left.{HoldsPool}
 use Rattle.file.specs.declared.Taken.{Taken}
 
@@ -23,36 +26,47 @@ use Rattle.file.specs.declared.Taken.{Taken}
 unfoldable pub isDue : ℕ → ℕ → List ℕ → Bool
 isDue k n bs = elim (frameDue k n bs) [ none ↦ false | some d ↦ true ]
 
--- where record k begins, the record that stands there, and the one before it
-abbrev pub placeOf : ℕ → ℕ
-placeOf k = 12 + 24 * k
+-- how many bytes the frame of a record has, where record k begins, the record that stands there, and the one before it
+abbrev pub recordBytes : Edition → ℕ
+recordBytes e = 4 + 4 * recordSize e
 
-unfoldable pub recordAt : List ℕ → ℕ → Record
-recordAt bs k = recordIn (wordValues 5 (drop (placeOf k + 4) bs))
+unfoldable pub placeOf : Edition → ℕ → ℕ
+placeOf e k = 12 + recordBytes e * k
 
-unfoldable pub lastAt : List ℕ → ℕ → Option Record
-lastAt bs zero = none
-lastAt bs (suc k) = some (recordAt bs k)
+unfoldable pub recordAt : Edition → List ℕ → ℕ → Record
+recordAt e bs k = recordIn e (wordValues (recordSize e) (drop (placeOf e k + 4) bs))
+
+unfoldable pub lastAt : Edition → List ℕ → ℕ → Option Record
+lastAt e bs zero = none
+lastAt e bs (suc k) = some (recordAt e bs k)
+
+-- "number, rectangle" from a place on, of an owner
+abbrev pub pairFrom : Owner → List ℕ → ℕ → Record
+pairFrom o bs p = record { owner = o; number = number (wordFrom bs p); rect = rectOfBytes bs (p + 4) }
 
 -- the number of what refuses a frame, or 0
 unfoldable pub numberOf : Option FileFault → ℤ
 numberOf none = pos 0
 numberOf (some f) = fileNumber f
 
--- what refuses record k, but for 7
-unfoldable pub frameFault : List ℕ → ℕ → Option FileFault
-frameFault bs k = elim (isDue 17 5 (drop (placeOf k) bs)) [ true ↦ recordFault (lastAt bs k) (recordAt bs k) | false ↦ some BadFrame ]
+-- whether the frame of record k is there
+abbrev pub isRecord : Edition → List ℕ → ℕ → Bool
+isRecord e bs k = isDue (recordKind e) (recordSize e) (drop (placeOf e k) bs)
 
-abbrev pub faultAt : List ℕ → ℕ → ℤ
-faultAt bs k = numberOf (frameFault bs k)
+-- what refuses record k, but for 7
+unfoldable pub frameFault : Edition → List ℕ → ℕ → Option FileFault
+frameFault e bs k = elim (isRecord e bs k) [ true ↦ recordFault e (lastAt e bs k) (recordAt e bs k) | false ↦ some BadFrame ]
+
+abbrev pub faultAt : Edition → List ℕ → ℕ → ℤ
+faultAt e bs k = numberOf (frameFault e bs k)
 
 -- record k goes into the pool
 unfoldable pub inserted : Change → Load
 inserted (Done q) = Loaded q
 inserted NoneFree = Fails NoSlot
 
-unfoldable pub tookAt : Pool → List ℕ → ℕ → Load
-tookAt p bs k = elim (frameFault bs k) [ some f ↦ Fails f | none ↦ inserted (insertRecord ours p (recordAt bs k)) ]
+unfoldable pub tookAt : Edition → Pool → List ℕ → ℕ → Load
+tookAt e p bs k = elim (frameFault e bs k) [ some f ↦ Fails f | none ↦ inserted (insertRecord ours p (recordAt e bs k)) ]
 
 -- .. as the code has it
 abbrev pub Took : Load → Taken → List ℤ → Type 0

@@ -10,6 +10,7 @@ use lib.Dec.{ltb, eqb}
 use lib.IntN.{ℤ, pos, negsuc}
 use lib.Signed.{leZ, mag}
 use borrow.Author.Tests.{leb-true, ltb-true}
+use Rattle.rules.specs.declared.Edition.{Edition}
 use Rattle.rules.specs.declared.Rect.{Rect}
 use Rattle.rules.specs.declared.Record.{Record}
 use Rattle.rules.specs.declared.Entry.{Entry}
@@ -17,7 +18,7 @@ use Rattle.rules.specs.Lists.{those, every, joined}
 use Rattle.rules.specs.Numbers.{most, inRange}
 use Rattle.rules.specs.Geometry.{valid}
 use Rattle.rules.specs.Pool.{Node, recordOf, numberOf, isLeaf, stored}
-use Rattle.rules.specs.Layout.{headSize, rectSize, entrySize, slotHead, slotSize, slotCount, natural, wordAt, runs, pointerOf, entryOf, nodeOf, read}
+use Rattle.rules.specs.Layout.{headSize, rectSize, entrySize, slotHead, slotSize, editionOf, slotCount, natural, wordAt, runs, pointerOf, entryOf, nodeOf, read}
 use Rattle.rules_laws.proofs.Bools.{and-both}
 use Rattle.rules_laws.proofs.Places.{Among, Each, each-append, each-of}
 use Rattle.search_laws.proofs.Site.{valid-ranged}
@@ -51,7 +52,7 @@ module _ {A : Type 0} (P : A → Type 0) where
       go false e r = rw e r
 
 module _ {A B : Type 0} (P : A → Type 0) (Q : B → Type 0) (f : A → B) (h : (x : A) → P x → Q (f x)) where
-  each-map : (l : List A) → Each P l → Each Q (map f l)
+  pub each-map : (l : List A) → Each P l → Each Q (map f l)
   each-map [] a = tt
   each-map (x ∷ l) a = (h x (a .0), each-map l (a .1))
 
@@ -74,21 +75,21 @@ each-run width (suc n) l a = (each-take Word width l a, each-run width n (drop w
 abbrev Numbered : Entry → Type 0
 Numbered e = Word (numberOf e .0)
 
-entry-numbered : (level : ℕ) (ws : List ℤ) → Each Word ws → Numbered (entryOf level ws)
+entry-numbered : (ed : Edition) (level : ℕ) (ws : List ℤ) → Each Word ws → Numbered (entryOf ed level ws)
 unfolding numberOf entryOf pointerOf wordAt
-entry-numbered level ws a = go (eqb level 1) refl
+entry-numbered ed level ws a = go (eqb level 1) refl
   where
-    go : (b : Bool) → eqb level 1 ≡ b → Numbered (entryOf level ws)
+    go : (b : Bool) → eqb level 1 ≡ b → Numbered (entryOf ed level ws)
     go true e = rw (pointerOf, e) (each-place Word (pos 0) word-zero ws rectSize a)
     go false e = rw (pointerOf, e) word-zero
 
-node-numbered : (ws : List ℤ) → Each Word ws → Each Numbered (nodeOf ws .entries)
+node-numbered : (ed : Edition) (ws : List ℤ) → Each Word ws → Each Numbered (nodeOf ed ws .entries)
 unfolding nodeOf
-node-numbered ws a =
+node-numbered ed ws a =
     let level = natural (wordAt ws 0) in
-    let entries = runs entrySize most (drop slotHead ws) in
-    each-map (Each Word) Numbered (entryOf level) (entry-numbered level) (take (natural (wordAt ws 1)) entries)
-    (each-take (Each Word) (natural (wordAt ws 1)) entries (each-run entrySize most (drop slotHead ws) (each-drop Word slotHead ws a)))
+    let entries = runs (entrySize ed) most (drop slotHead ws) in
+    each-map (Each Word) Numbered (entryOf ed level) (entry-numbered ed level) (take (natural (wordAt ws 1)) entries)
+    (each-take (Each Word) (natural (wordAt ws 1)) entries (each-run (entrySize ed) most (drop slotHead ws) (each-drop Word slotHead ws a)))
 
 pub stored-words : (w : List ℤ) → Each Word w → (r : Record) → Among r (stored (read w)) → Word (r .number .0)
 unfolding stored read recordOf
@@ -96,8 +97,8 @@ stored-words w a r m = each-of (λ (x : Record). Word (x .number .0)) all m
   where
     nodes : Each (λ (n : Node). Each Numbered (n .entries)) (read w .slots)
     nodes =
-        each-map (Each Word) (λ (n : Node). Each Numbered (n .entries)) nodeOf node-numbered (runs slotSize (slotCount w) (drop headSize w))
-        (each-run slotSize (slotCount w) (drop headSize w) (each-drop Word headSize w a))
+        each-map (Each Word) (λ (n : Node). Each Numbered (n .entries)) (nodeOf (editionOf w)) (node-numbered (editionOf w))
+        (runs (slotSize (editionOf w)) (slotCount w) (drop headSize w)) (each-run (slotSize (editionOf w)) (slotCount w) (drop headSize w) (each-drop Word headSize w a))
 
     all : Each (λ (x : Record). Word (x .number .0)) (stored (read w))
     all =

@@ -54,8 +54,8 @@ unfolding wordValues joined wordBytes
 words-read [] rest h = refl
 words-read (z ∷ zs) rest h = ap₂ (λ (x : ℤ) (xs : List ℤ). x ∷ xs) (word-value-bytes z (h .0)) (words-read zs rest (h .1))
 
--- the length of five words is below 65536, as the kind is, so that two bytes hold each
-pub due-written : (k : ℕ) (ws : List ℤ) (rest : List ℕ) → k < 65536 → length ws ≤ 5 → Each Word ws
+-- the length of six words is below 65536, as the kind is, so that two bytes hold each
+pub due-written : (k : ℕ) (ws : List ℤ) (rest : List ℕ) → k < 65536 → length ws ≤ 6 → Each Word ws
     → frameDue k (length ws) (frameBytes k ws ++ rest) ≡ some (record { words = ws; after = rest })
 unfolding frameBytes pairBytes
 due-written k ws rest h l w =

@@ -1,7 +1,7 @@
 -- FindLeaf in a leaf, a step at a time, as the code goes: an entry of another number is no such pair, and of the others the first that is
 -- the pair is found.
 use mathlib.Core.Path.{_≡_, refl, sym, ap, _∙_}
-use mathlib.Core.Bool.{Bool, true, false, _||_, or-assoc, or-false}
+use mathlib.Core.Bool.{Bool, true, false, _&&_, _||_, or-assoc, or-false}
 use mathlib.Core.List.{List, [], _∷_}
 use mathlib.Core.Option.{none}
 use Prim.Native.Nat.{ℕ, suc, _+_, _*_, _≤_, _<_}
@@ -13,6 +13,7 @@ use Rattle.rules.specs.declared.SlotNumber.{SlotNumber}
 use Rattle.rules.specs.declared.Record.{Record}
 use Rattle.rules.specs.declared.Entry.{Entry}
 use Rattle.rules.specs.Lists.{oneOf, same}
+use Rattle.rules.specs.Owners.{ownedBy}
 use Rattle.rules.specs.Compare.{compared, isEqual, exactPair}
 use Rattle.rules.specs.Pool.{Pool, noEntry, entriesAt, entryFrom, entryAt, numberOf, recordOf}
 use Rattle.rules.specs.Delete.{findEntry, findLeaf}
@@ -62,7 +63,9 @@ looked-all {test} {all} {any = any} {i} t h =
 
 another-number : (r : Record) (e : Entry) → hasNumber (r .number) e ≡ false → exactPair r (recordOf e) ≡ false
 unfolding exactPair recordOf
-another-number r e h = stop (same (r .number .0) (numberOf e .0)) (isEqual (compared (r .rect) (e .rect))) h
+another-number r e h =
+    stop (same (r .number .0) (numberOf e .0) && isEqual (compared (r .rect) (e .rect))) (ownedBy (r .owner) (recordOf e))
+    (stop (same (r .number .0) (numberOf e .0)) (isEqual (compared (r .rect) (e .rect))) h)
 
 no-number : (r : Record) (s : SlotNumber) (i : ℕ) (es : List Entry) → oneOf (hasNumber (r .number)) es ≡ false → findEntry r s i es ≡ none
 no-number r s i [] h = entry-none r s i

@@ -11,7 +11,7 @@ use lib.Seq.{take-suc, take-all}
 use lib.IntN.{ℤ, pos, negsuc}
 use lib.Signed.{mag}
 use borrow.Author.Tests.{eq-eqb, ne-eqb}
-use Rattle.rules.specs.declared.Record.{Record}
+use Rattle.rules.specs.declared.FoundRecord.{FoundRecord}
 use Rattle.rules.specs.declared.Answer.{Answer}
 use Rattle.rules.specs.Lists.{joined}
 use Rattle.rules.specs.Frames.{natShown, intShown, line, answerLine, recordLine, listedOf, replyLines, badLine}
@@ -47,7 +47,7 @@ pub answer-is : (p : ℕ) (a : Answer) → line (natShown p ∷ natShown (a .num
 unfolding answerLine
 answer-is p a = refl
 
-pub record-line : (r : Record)
+pub record-line : (r : FoundRecord)
     → line (intShown (r .number .0) ∷ intShown (r .rect .lowX) ∷ intShown (r .rect .lowY) ∷ intShown (r .rect .highX) ∷ intShown (r .rect .highY) ∷ [])
     ≡ recordLine r
 unfolding recordLine
@@ -73,21 +73,21 @@ told-most a h l = rw (listedOf, eq-eqb (a .number) 0 h) (sym (min-eq-right l))
 
 -- ---- the lines of the first i records
 
-abbrev pub Listed : List ℕ → ℕ → List Record → ℕ → List ℕ → ℕ → Type 0
+abbrev pub Listed : List ℕ → ℕ → List FoundRecord → ℕ → List ℕ → ℕ → Type 0
 Listed l at found i m n = Wrote l at (joined (map recordLine (take i found))) m n
 
-module _ {l : List ℕ} {at : ℕ} (found : List Record) where
+module _ {l : List ℕ} {at : ℕ} (found : List FoundRecord) where
   pub lines-none : Listed l at found 0 l at
   lines-none = wrote-as (sym (joined-none recordLine)) (nothing-wrote l at)
 
-  pub lines-more : {m o : List ℕ} {n q : ℕ} (i : ℕ) (d : Record) → i < length found → Listed l at found i m n
+  pub lines-more : {m o : List ℕ} {n q : ℕ} (i : ℕ) (d : FoundRecord) → i < length found → Listed l at found i m n
       → Wrote m n (recordLine (getD found i d)) o q → Listed l at found (i + 1) o q
   lines-more i d h r w =
       let one : joined (map recordLine (getD found i d ∷ [])) ≡ recordLine (getD found i d) =
       joined-more recordLine (getD found i d) [] ∙ ap (λ (t : List ℕ). recordLine (getD found i d) ++ t) (joined-none recordLine)
       ∙ append-nil (recordLine (getD found i d)) in
       let e : joined (map recordLine (take (i + 1) found)) ≡ joined (map recordLine (take i found)) ++ recordLine (getD found i d) =
-      ap (λ (xs : List Record). joined (map recordLine xs)) (ap (λ (k : ℕ). take k found) (add-one i) ∙ take-suc found i d h)
+      ap (λ (xs : List FoundRecord). joined (map recordLine xs)) (ap (λ (k : ℕ). take k found) (add-one i) ∙ take-suc found i d h)
       ∙ joined-append recordLine (take i found) (getD found i d ∷ []) ∙ ap (λ (t : List ℕ). joined (map recordLine (take i found)) ++ t) one in
       wrote-as (sym e) (wrote-then r w)
 
@@ -96,7 +96,7 @@ module _ {l : List ℕ} {at : ℕ} (found : List Record) where
       → Listed m n found (min (listedOf a) 64) o q → Wrote l at (replyLines p a found) o q
   unfolding replyLines
   lines-all p a f v w =
-      wrote-as (ap (λ (xs : List Record). answerLine p a ++ joined (map recordLine xs)) (all (decLe (listedOf a) 64))) (wrote-then v w)
+      wrote-as (ap (λ (xs : List FoundRecord). answerLine p a ++ joined (map recordLine xs)) (all (decLe (listedOf a) 64))) (wrote-then v w)
     where
       all : Dec (listedOf a ≤ 64) → take (min (listedOf a) 64) found ≡ take (listedOf a) found
       all (yes h) = ap (λ (k : ℕ). take k found) (min-eq-left h)

@@ -10,7 +10,7 @@ ghost use Rattle.frames.specs.Reading.{kindLength, someLength, framed};
 ghost use Rattle.frames.specs.Places.{wordFrom, rectOfBytes, changeFrom, updateFrom, searchFrom, requestFrom, lift};
 ghost use Rattle.frames.specs.Writing.{Wrote};
 use rules::Answer;
-use rules::Record;
+use rules::FoundRecord;
 use rules::RecordNumber;
 use rules::Rect;
 use rules::Request;
@@ -346,7 +346,7 @@ fn answer_line(out: &mut [u8], at: usize, before: u64, answer: Answer) -> usize
 }
 
 // "a line per record: number, low x, low y, high x, high y"
-fn record_line(out: &mut [u8], at: usize, listed: Record) -> usize
+fn record_line(out: &mut [u8], at: usize, listed: FoundRecord) -> usize
     requires { ⌜ at + 110 ≤ length (now out) ⌝ }
     ensures wrote { λ r. ⌜ Wrote (now (out .entry)) at (F.recordLine listed) (now (out .exit)) r ⌝ }
     ensures short { λ r. ⌜ r ≤ at + 110 ⌝ }
@@ -379,7 +379,7 @@ pub fn reply_lines(
     at: usize,
     before: u64,
     answer: Answer,
-    found: [Record; 64],
+    found: [FoundRecord; 64],
 ) -> usize
     requires room { ⌜ at + 7124 ≤ length (now out) ⌝ }
     requires counted { ⌜ before < 18446744073709551615 ⌝ }

@@ -10,6 +10,7 @@ ghost use Rattle.rules.specs.Numbers as N;
 ghost use Rattle.rules.specs.Geometry as G;
 ghost use Rattle.rules.specs.Compare as C;
 use rules::Mode;
+use rules::Owner;
 use rules::Record;
 use rules::RecordNumber;
 use rules::Rect;
@@ -103,6 +104,12 @@ pub fn same_rect(a: Rect, b: Rect) -> bool
 }
 
 fn same_number(a: RecordNumber, b: RecordNumber) -> bool
+    ensures { λ r. ⌜ r ≡ L.same (a .0) (b .0) ⌝ }
+{
+    same(a.0, b.0)
+}
+
+fn same_owner(a: Owner, b: Owner) -> bool
     ensures { λ r. ⌜ r ≡ L.same (a .0) (b .0) ⌝ }
 {
     same(a.0, b.0)
@@ -203,14 +210,16 @@ pub fn wanted(mode: Mode, a: Rect, window: Rect) -> bool
     }
 }
 
-// "the first exact pair": the same number, and an equal rectangle. Hardly any two records have the same number: only these are compared.
+// "the first exact pair": the same number, an equal rectangle, and one owner. Hardly any two records have the same number: only these are
+// compared.
 pub fn exact_pair(a: Record, b: Record) -> bool
     ensures { λ r. ⌜ r ≡ C.exactPair a b ⌝ }
 {
     if !same_number(a.number, b.number) {
         return false;
     }
-    is_equal(compare(a.rect, b.rect))
+    let rect = is_equal(compare(a.rect, b.rect));
+    and(rect, same_owner(b.owner, a.owner))
 }
 
 // ---- covers. The kit's library has no smaller and no larger of two numbers

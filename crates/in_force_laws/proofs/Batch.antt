@@ -10,25 +10,29 @@ use lib.ListN.{length, getD, set, take, drop, length-append, length-set}
 use lib.Seq.{sets, length-sets, sets-eq, slice, slice-empty, take-set-le, drop-set-lt, take-at, drop-at, length-take-le, getD-set-same, getD-set-other}
 use Rattle.rules.specs.declared.Rect.{Rect}
 use Rattle.rules.specs.declared.Mode.{Mode}
+use Rattle.rules.specs.declared.Owner.{Owner}
 use Rattle.rules.specs.declared.Record.{Record}
+use Rattle.rules.specs.declared.FoundRecord.{FoundRecord}
 use Rattle.rules.specs.declared.Request.{Request}
 use Rattle.rules.specs.declared.Asked.{Asked}
 use Rattle.rules.specs.declared.Asked.the-variants.{Search}
 use Rattle.rules.specs.declared.Answer.{Answer}
 use Rattle.rules.specs.Lists.{those}
 use Rattle.rules.specs.Geometry.{valid}
+use Rattle.rules.specs.Search.{reported}
 use Rattle.rules.specs.Answers.{answer, answerOf}
 use Rattle.rules.specs.Insert.{Choice}
 use Rattle.rules.specs.Lawful.{Lawful}
 use Rattle.rules.specs.Request.{asked, request}
 use Rattle.rules.specs.Call.{Batch, afterTurn, doRequest, doRequests}
-use Rattle.search_laws.specs.Window.{recordWanted}
-use Rattle.search_laws.proofs.Order.{alike-length, ordered-alike}
+use Rattle.search_laws.specs.Window.{ownWanted}
 use Rattle.in_force_laws.specs.Force.{inForce, forceBy, forceAfter}
-use Rattle.in_force_laws.specs.Shows.{EachOnce, HoldsRecords, nodesMeeting, SearchShows}
-use Rattle.in_force_laws.specs.Batch.{howManyWanted, Told}
+use Rattle.in_force_laws.specs.Shows.{EachShown, HoldsRecords, nodesMeeting, SearchShows}
+use Rattle.in_force_laws.specs.Batch.{howManyWanted, FairBatch, Told}
 use Rattle.in_force_laws.proofs.Change.{listed-fits, request-force}
-use Rattle.in_force_laws.proofs.Search.{request-search}
+use Rattle.in_force_laws.proofs.Search.{listed-many, request-search}
+use Rattle.in_force_laws.proofs.Asks.{asked-owner}
+use Rattle.in_force_laws.proofs.Many.{step-edition}
 
 -- ---- runs of stores
 
@@ -91,33 +95,43 @@ module _ (c : Choice) where
   step-drop i b none n h = refl
   step-drop i b (some a) n h = sets-drop (request c (b .pool) (b .filled) (length (b .found) - b .filled) a .listed) (b .found) (b .filled) n h
 
+  pub step-owner : (i : ℕ) (b : Batch) (o : Option Asked) → doRequest c i b o .owner ≡ b .owner
+  unfolding doRequest afterTurn
+  step-owner i b none = refl
+  step-owner i b (some a) = refl
+
   -- ---- .. and those from place i on
+
+  pub batch-owner : (i : ℕ) (qs : List Request) (b : Batch) → doRequests c i qs b .owner ≡ b .owner
+  unfolding doRequests
+  batch-owner i [] b = refl
+  batch-owner i (q ∷ qs) b = batch-owner (suc i) qs (doRequest c i b (asked (b .owner) q)) ∙ step-owner i b (asked (b .owner) q)
 
   pub answers-kept : (i : ℕ) (qs : List Request) (b : Batch) (j : ℕ) → j < i → getD (doRequests c i qs b .answers) j noAnswer ≡ getD (b .answers) j noAnswer
   unfolding doRequests
   answers-kept i [] b j h = refl
-  answers-kept i (q ∷ qs) b j h = answers-kept (suc i) qs (doRequest c i b (asked q)) j (omega arith) ∙ step-kept i b (asked q) j h
+  answers-kept i (q ∷ qs) b j h = answers-kept (suc i) qs (doRequest c i b (asked (b .owner) q)) j (omega arith) ∙ step-kept i b (asked (b .owner) q) j h
 
   pub answers-as-many : (i : ℕ) (qs : List Request) (b : Batch) → length (doRequests c i qs b .answers) ≡ length (b .answers)
   unfolding doRequests
   answers-as-many i [] b = refl
-  answers-as-many i (q ∷ qs) b = answers-as-many (suc i) qs (doRequest c i b (asked q)) ∙ step-long i b (asked q)
+  answers-as-many i (q ∷ qs) b = answers-as-many (suc i) qs (doRequest c i b (asked (b .owner) q)) ∙ step-long i b (asked (b .owner) q)
 
   pub places-as-many : (i : ℕ) (qs : List Request) (b : Batch) → length (doRequests c i qs b .found) ≡ length (b .found)
   unfolding doRequests
   places-as-many i [] b = refl
-  places-as-many i (q ∷ qs) b = places-as-many (suc i) qs (doRequest c i b (asked q)) ∙ step-places i b (asked q)
+  places-as-many i (q ∷ qs) b = places-as-many (suc i) qs (doRequest c i b (asked (b .owner) q)) ∙ step-places i b (asked (b .owner) q)
 
   found-kept : (i : ℕ) (qs : List Request) (b : Batch) (n : ℕ) → n ≤ b .filled → take n (doRequests c i qs b .found) ≡ take n (b .found)
   unfolding doRequests
   found-kept i [] b n h = refl
   found-kept i (q ∷ qs) b n h =
-      found-kept (suc i) qs (doRequest c i b (asked q)) n (omega (arith, h, step-filled i b (asked q))) ∙ step-take i b (asked q) n h
+      found-kept (suc i) qs (doRequest c i b (asked (b .owner) q)) n (omega (arith, h, step-filled i b (asked (b .owner) q))) ∙ step-take i b (asked (b .owner) q) n h
 
   filled-grows : (i : ℕ) (qs : List Request) (b : Batch) → b .filled ≤ doRequests c i qs b .filled
   unfolding doRequests
   filled-grows i [] b = omega arith
-  filled-grows i (q ∷ qs) b = omega (arith, step-filled i b (asked q), filled-grows (suc i) qs (doRequest c i b (asked q)))
+  filled-grows i (q ∷ qs) b = omega (arith, step-filled i b (asked (b .owner) q), filled-grows (suc i) qs (doRequest c i b (asked (b .owner) q)))
 
   -- "places beyond stay"
   pub found-beyond : (i : ℕ) (qs : List Request) (b : Batch) (n : ℕ) → doRequests c i qs b .filled ≤ n
@@ -125,8 +139,8 @@ module _ (c : Choice) where
   unfolding doRequests
   found-beyond i [] b n h = refl
   found-beyond i (q ∷ qs) b n h =
-      let b1 = doRequest c i b (asked q) in
-      found-beyond (suc i) qs b1 n h ∙ step-drop i b (asked q) n (omega (arith, h, filled-grows (suc i) qs b1))
+      let b1 = doRequest c i b (asked (b .owner) q) in
+      found-beyond (suc i) qs b1 n h ∙ step-drop i b (asked (b .owner) q) n (omega (arith, h, filled-grows (suc i) qs b1))
 
   pub two-parts : (i : ℕ) (xs ys : List Request) (b : Batch) → doRequests c i (xs ++ ys) b ≡ doRequests c (i + length xs) ys (doRequests c i xs b)
   unfolding doRequests
@@ -135,60 +149,67 @@ module _ (c : Choice) where
       none : i ≡ i + 0
       none = omega arith
   two-parts i (x ∷ xs) ys b =
-      two-parts (suc i) xs ys (doRequest c i b (asked x))
-      ∙ ap (λ (n : ℕ). doRequests c n ys (doRequests c (suc i) xs (doRequest c i b (asked x)))) one
+      two-parts (suc i) xs ys (doRequest c i b (asked (b .owner) x))
+      ∙ ap (λ (n : ℕ). doRequests c n ys (doRequests c (suc i) xs (doRequest c i b (asked (b .owner) x)))) one
     where
       one : suc i + length xs ≡ i + suc (length xs)
       one = omega arith
 
   -- ---- the records in force
 
-  force-same : (rs : List Record) (i : ℕ) (qs : List Request) (x y : List Answer)
-      → ((j : ℕ) → j < i + length qs → getD x j noAnswer ≡ getD y j noAnswer) → forceAfter rs i qs x ≡ forceAfter rs i qs y
+  force-same : (o : Owner) (rs : List Record) (i : ℕ) (qs : List Request) (x y : List Answer)
+      → ((j : ℕ) → j < i + length qs → getD x j noAnswer ≡ getD y j noAnswer) → forceAfter o rs i qs x ≡ forceAfter o rs i qs y
   unfolding forceAfter
-  force-same rs i [] x y h = refl
-  force-same rs i (q ∷ qs) x y h =
-      ap (λ (a : Answer). forceAfter (forceBy rs (asked q) a) (suc i) qs x) (h i (omega arith))
-      ∙ force-same (forceBy rs (asked q) (getD y i noAnswer)) (suc i) qs x y (λ j l. h j (omega (arith, l)))
+  force-same o rs i [] x y h = refl
+  force-same o rs i (q ∷ qs) x y h =
+      ap (λ (a : Answer). forceAfter o (forceBy rs (asked o q) a) (suc i) qs x) (h i (omega arith))
+      ∙ force-same o (forceBy rs (asked o q) (getD y i noAnswer)) (suc i) qs x y (λ j l. h j (omega (arith, l)))
+
+  pub step-fair : (i : ℕ) (b : Batch) (o : Option Asked) → FairBatch b → FairBatch (doRequest c i b o)
+  step-fair i b o s = rw (step-edition c i b o, step-owner i b o) s
 
   module _ (lawful : Lawful c) where
-    step-force : (i : ℕ) (b : Batch) (rs : List Record) (o : Option Asked) → HoldsRecords (b .pool) rs → i < length (b .answers)
-        → HoldsRecords (doRequest c i b o .pool) (forceBy rs o (getD (doRequest c i b o .answers) i noAnswer))
+    pub step-force : (i : ℕ) (b : Batch) (rs : List Record) (q : Request) → HoldsRecords (b .pool) rs → FairBatch b → i < length (b .answers)
+        → (x : Option Asked) → asked (b .owner) q ≡ x
+        → HoldsRecords (doRequest c i b x .pool) (forceBy rs x (getD (doRequest c i b x .answers) i noAnswer))
     unfolding doRequest afterTurn forceBy
-    step-force i b rs none k h = k
-    step-force i b rs (some a) k h =
+    step-force i b rs q k s h none e = k
+    step-force i b rs q k s h (some a) e =
         let t = request c (b .pool) (b .filled) (length (b .found) - b .filled) a in
         subst (λ (x : Answer). HoldsRecords (t .pool) (inForce rs a x)) (sym (getD-set-same (b .answers) i (answerOf (t .reply)) noAnswer h))
-        (request-force c lawful (b .pool) rs k (b .filled) (length (b .found) - b .filled) a)
+        (request-force c lawful (b .pool) rs k (b .filled) (length (b .found) - b .filled) a (rw (asked-owner (b .owner) q a e) s))
 
     -- a batch leaves a whole pool that holds the records in force by its requests and answers
-    pub batch-force : (i : ℕ) (qs : List Request) (b : Batch) (rs : List Record) → HoldsRecords (b .pool) rs → i + length qs ≤ length (b .answers)
-        → HoldsRecords (doRequests c i qs b .pool) (forceAfter rs i qs (doRequests c i qs b .answers))
+    pub batch-force : (i : ℕ) (qs : List Request) (b : Batch) (rs : List Record) → HoldsRecords (b .pool) rs → FairBatch b
+        → i + length qs ≤ length (b .answers)
+        → HoldsRecords (doRequests c i qs b .pool) (forceAfter (b .owner) rs i qs (doRequests c i qs b .answers))
     unfolding doRequests forceAfter
-    batch-force i [] b rs k h = k
-    batch-force i (q ∷ qs) b rs k h =
-        let b1 = doRequest c i b (asked q) in
+    batch-force i [] b rs k s h = k
+    batch-force i (q ∷ qs) b rs k s h =
+        let a = asked (b .owner) q in
+        let b1 = doRequest c i b a in
         let end = doRequests c (suc i) qs b1 in
-        subst (λ (x : Answer). HoldsRecords (end .pool) (forceAfter (forceBy rs (asked q) x) (suc i) qs (end .answers)))
+        let now = forceBy rs a (getD (b1 .answers) i noAnswer) in
+        subst (λ (x : Answer). HoldsRecords (end .pool) (forceAfter (b .owner) (forceBy rs a x) (suc i) qs (end .answers)))
         (sym (answers-kept (suc i) qs b1 i (omega arith)))
-        (batch-force (suc i) qs b1 (forceBy rs (asked q) (getD (b1 .answers) i noAnswer)) (step-force i b rs (asked q) k (omega (arith, h)))
-        (omega (arith, h, step-long i b (asked q))))
+        (subst (λ (o : Owner). HoldsRecords (end .pool) (forceAfter o now (suc i) qs (end .answers))) (step-owner i b a)
+        (batch-force (suc i) qs b1 now (step-force i b rs q k s (omega (arith, h)) a refl) (step-fair i b a s) (omega (arith, h, step-long i b a))))
 
     -- .. and after the requests before any place of it, by the answers that the whole batch leaves
-    pub part-force : (i : ℕ) (xs ys : List Request) (b : Batch) (rs : List Record) → HoldsRecords (b .pool) rs
+    pub part-force : (i : ℕ) (xs ys : List Request) (b : Batch) (rs : List Record) → HoldsRecords (b .pool) rs → FairBatch b
         → i + length (xs ++ ys) ≤ length (b .answers)
-        → HoldsRecords (doRequests c i xs b .pool) (forceAfter rs i xs (doRequests c i (xs ++ ys) b .answers))
-    part-force i xs ys b rs k h =
+        → HoldsRecords (doRequests c i xs b .pool) (forceAfter (b .owner) rs i xs (doRequests c i (xs ++ ys) b .answers))
+    part-force i xs ys b rs k s h =
         let now = doRequests c i xs b in
         let end = doRequests c i (xs ++ ys) b in
-        subst (HoldsRecords (now .pool)) (force-same rs i xs (now .answers) (end .answers) (λ j l.
+        subst (HoldsRecords (now .pool)) (force-same (b .owner) rs i xs (now .answers) (end .answers) (λ j l.
         sym (ap (λ (x : Batch). getD (x .answers) j noAnswer) (two-parts i xs ys b) ∙ answers-kept (i + length xs) ys now j l)))
-        (batch-force i xs b rs k (omega (arith, h, length-append xs ys)))
+        (batch-force i xs b rs k s (omega (arith, h, length-append xs ys)))
 
   -- ---- what a request lists stands in the found list at the end
 
   module _ (i : ℕ) (b : Batch) (a : Asked) where
-    abbrev listed : List Record
+    abbrev listed : List FoundRecord
     listed = request c (b .pool) (b .filled) (length (b .found) - b .filled) a .listed
 
     listed-now : slice (b .filled) (b .filled + length listed) (doRequest c i b (some a) .found) ≡ listed
@@ -207,61 +228,64 @@ module _ (c : Choice) where
 
   -- ---- a search
 
-  module _ (i : ℕ) (b : Batch) (rs : List Record) (k : HoldsRecords (b .pool) rs) (h : i < length (b .answers)) (mode : Mode) (window : Rect) (v : valid window ≡ true)
-      (room : howManyWanted mode window rs ≤ length (b .found) - b .filled) where
+  module _ (i : ℕ) (b : Batch) (rs : List Record) (k : HoldsRecords (b .pool) rs) (h : i < length (b .answers)) (o : Owner) (mode : Mode) (window : Rect)
+      (v : valid window ≡ true) (room : howManyWanted o mode window rs ≤ length (b .found) - b .filled) where
     abbrev now : Batch
-    now = doRequest c i b (some (Search mode window))
+    now = doRequest c i b (some (Search o mode window))
 
-    shows : SearchShows (b .pool) rs (b .filled) mode window (request c (b .pool) (b .filled) (length (b .found) - b .filled) (Search mode window))
-    shows = request-search (b .pool) rs k mode window (length (b .found) - b .filled) c (b .filled) v room
+    shows : SearchShows (b .pool) rs (b .filled) o mode window (request c (b .pool) (b .filled) (length (b .found) - b .filled) (Search o mode window))
+    shows = request-search (b .pool) rs k o mode window (length (b .found) - b .filled) c (b .filled) v room
 
-    many : length (request c (b .pool) (b .filled) (length (b .found) - b .filled) (Search mode window) .listed) ≡ howManyWanted mode window rs
-    many = ap length (shows .lists) ∙ alike-length (ordered-alike (those (recordWanted mode window) rs))
+    many : length (request c (b .pool) (b .filled) (length (b .found) - b .filled) (Search o mode window) .listed) ≡ howManyWanted o mode window rs
+    many = ap length (shows .lists) ∙ listed-many (those (ownWanted o mode window) rs)
 
-    told-now : getD (now .answers) i noAnswer ≡ answer 0 (howManyWanted mode window rs) (b .filled) (suc (nodesMeeting (b .pool) window))
+    told-now : getD (now .answers) i noAnswer
+        ≡ answer 0 (howManyWanted o mode window rs) (b .filled) (reported (b .pool .edition) (suc (nodesMeeting (b .pool) window)))
     unfolding doRequest afterTurn answerOf
     told-now = getD-set-same (b .answers) i _ noAnswer h ∙ ap answerOf (shows .reply)
 
     -- .. and at the end of the batch
     told-end : (later : List Request)
-        → Told (b .pool) rs (b .filled) mode window i (doRequests c (suc i) later now .answers) (doRequests c (suc i) later now .found)
+        → Told (b .pool) rs (b .filled) o mode window i (doRequests c (suc i) later now .answers) (doRequests c (suc i) later now .found)
     told-end later =
         let end = doRequests c (suc i) later now in
-        let there : slice (b .filled) (b .filled + howManyWanted mode window rs) (end .found)
-        ≡ request c (b .pool) (b .filled) (length (b .found) - b .filled) (Search mode window) .listed =
-        ap (λ (n : ℕ). slice (b .filled) (b .filled + n) (end .found)) (sym many) ∙ listed-end i b (Search mode window) later in
+        let there : slice (b .filled) (b .filled + howManyWanted o mode window rs) (end .found)
+        ≡ request c (b .pool) (b .filled) (length (b .found) - b .filled) (Search o mode window) .listed =
+        ap (λ (n : ℕ). slice (b .filled) (b .filled + n) (end .found)) (sym many) ∙ listed-end i b (Search o mode window) later in
         record {
           told = answers-kept (suc i) later now i (omega arith) ∙ told-now;
           shown = there ∙ shows .lists;
-          once = subst EachOnce (sym there) (shows .once);
+          once = subst EachShown (sym there) (shows .once);
           high = shows .high;
         }
 
   -- a search anywhere in a batch: by what the batch leaves in the lists, and the records in force by the requests before it and their answers
   module _ (lawful : Lawful c) (i : ℕ) (earlier : List Request) (q : Request) (later : List Request) (b : Batch) (rs : List Record)
-      (k : HoldsRecords (b .pool) rs) (h : i + length (earlier ++ q ∷ later) ≤ length (b .answers)) where
+      (k : HoldsRecords (b .pool) rs) (s : FairBatch b) (h : i + length (earlier ++ q ∷ later) ≤ length (b .answers)) where
     abbrev before : Batch
     before = doRequests c i earlier b
 
     abbrev end : Batch
     end = doRequests c i (earlier ++ q ∷ later) b
 
-    end-is : (o : Option Asked) → asked q ≡ o → end ≡ doRequests c (suc (i + length earlier)) later (doRequest c (i + length earlier) before o)
+    end-is : (x : Option Asked) → asked (b .owner) q ≡ x → end ≡ doRequests c (suc (i + length earlier)) later (doRequest c (i + length earlier) before x)
     unfolding doRequests
-    end-is o e =
+    end-is x e =
         two-parts i earlier (q ∷ later) b
-        ∙ ap (λ (x : Option Asked). doRequests c (suc (i + length earlier)) later (doRequest c (i + length earlier) before x)) e
+        ∙ ap (λ (y : Option Asked). doRequests c (suc (i + length earlier)) later (doRequest c (i + length earlier) before y))
+        (ap (λ (o : Owner). asked o q) (batch-owner i earlier b) ∙ e)
 
     inside : i + length earlier < length (b .answers)
     inside = omega (arith, h, length-append earlier (q ∷ later))
 
-    pub batch-search : (mode : Mode) (window : Rect) → asked q ≡ some (Search mode window) → valid window ≡ true
-        → howManyWanted mode window (forceAfter rs i earlier (end .answers)) ≤ length (b .found) - before .filled
-        → Told (before .pool) (forceAfter rs i earlier (end .answers)) (before .filled) mode window (i + length earlier) (end .answers) (end .found)
-    batch-search mode window s v room =
-        subst (λ (x : Batch).
-        Told (before .pool) (forceAfter rs i earlier (end .answers)) (before .filled) mode window (i + length earlier) (x .answers) (x .found))
-        (sym (end-is (some (Search mode window)) s))
-        (told-end (i + length earlier) before (forceAfter rs i earlier (end .answers)) (part-force lawful i earlier (q ∷ later) b rs k h)
-        (omega (arith, inside, answers-as-many i earlier b)) mode window v
+    pub batch-search : (mode : Mode) (window : Rect) → asked (b .owner) q ≡ some (Search (b .owner) mode window) → valid window ≡ true
+        → howManyWanted (b .owner) mode window (forceAfter (b .owner) rs i earlier (end .answers)) ≤ length (b .found) - before .filled
+        → Told (before .pool) (forceAfter (b .owner) rs i earlier (end .answers)) (before .filled) (b .owner) mode window (i + length earlier)
+        (end .answers) (end .found)
+    batch-search mode window a v room =
+        let rs1 = forceAfter (b .owner) rs i earlier (end .answers) in
+        subst (λ (x : Batch). Told (before .pool) rs1 (before .filled) (b .owner) mode window (i + length earlier) (x .answers) (x .found))
+        (sym (end-is (some (Search (b .owner) mode window)) a))
+        (told-end (i + length earlier) before rs1 (part-force lawful i earlier (q ∷ later) b rs k s h)
+        (omega (arith, inside, answers-as-many i earlier b)) (b .owner) mode window v
         (omega (arith, room, places-as-many i earlier b)) later)

@@ -2,7 +2,7 @@
 -- begins with.
 use mathlib.Core.Path.{_≡_, refl, sym, subst, ap, _∙_}
 use mathlib.Core.Bool.{true, not, _||_}
-use mathlib.Core.List.{List, [], _∷_, _++_}
+use mathlib.Core.List.{List, [], _∷_, _++_, List·Memᴰ·not-nil}
 use mathlib.Core.Option.{Option, none, some}
 use Prim.Native.Nat.{ℕ, _+_, _-_, _≤_}
 use native.Mathlib.Omega.{arith}
@@ -10,14 +10,15 @@ use lib.ListN.{length, drop, length-append}
 use lib.Dec.{ltb, eqb}
 use lib.IntN.{ℤ, pos, negsuc}
 use borrow.Author.Tests.{eqb-true}
+use Rattle.rules.specs.declared.Edition.{Edition}
 use Rattle.rules.specs.declared.Rect.{Rect}
 use Rattle.rules.specs.declared.Mode.{Mode}
 use Rattle.rules.specs.declared.Record.{Record}
 use Rattle.rules.specs.declared.Request.{Request}
 use Rattle.rules.specs.declared.Asked.the-variants.{Search}
 use Rattle.rules.specs.declared.Verdict.{Verdict}
-use Rattle.rules.specs.declared.Verdict.the-variants.{BadLists, BadLength, NotSound, NoRequest}
-use Rattle.rules.specs.Numbers.{mostRequests}
+use Rattle.rules.specs.declared.Verdict.the-variants.{BadLists, BadOwner, BadLength, NotSound, NoRequest}
+use Rattle.rules.specs.Numbers.{mostRequests, goodOwner}
 use Rattle.rules.specs.Geometry.{valid, samePair}
 use Rattle.rules.specs.Pool.{Pool, blankPool, stored}
 use Rattle.rules.specs.Layout.{words, read}
@@ -25,7 +26,7 @@ use Rattle.rules.specs.Answers.{verdictNumber}
 use Rattle.rules.specs.Insert.{Choice, ours}
 use Rattle.rules.specs.Lawful.{Lawful}
 use Rattle.rules.specs.Request.{asked}
-use Rattle.rules.specs.Call.{Lent, Left, Batch, doRequests, callFault, refused, served, starting, callBy, call}
+use Rattle.rules.specs.Call.{Lent, Left, Batch, doRequests, callFault, refused, served, batchOwner, starting, callBy, call}
 use Rattle.rules_laws.proofs.Bools.{not-false, or-neither}
 use Rattle.rules_laws.proofs.Places.{nothing}
 use Rattle.rules_laws.proofs.Parts.{those-none}
@@ -33,9 +34,10 @@ use Rattle.rules_laws.proofs.Splits.{ours-lawful}
 use Rattle.sound_laws.proofs.Blank.{blank-whole}
 use Rattle.in_force_laws.specs.Force.{forceAfter, filledAfter}
 use Rattle.in_force_laws.specs.Shows.{HoldsRecords}
-use Rattle.in_force_laws.specs.Batch.{howManyWanted, Told}
+use Rattle.in_force_laws.specs.Batch.{howManyWanted, FairBatch, Told}
 use Rattle.in_force_laws.specs.History.{poolServed, forceOf, CallsServed}
-use Rattle.in_force_laws.proofs.Written.{whole-reads}
+use Rattle.in_force_laws.proofs.Written.{holds-reads}
+use Rattle.in_force_laws.proofs.Owned.{owner-in-sound}
 use Rattle.in_force_laws.proofs.Faults.{EachGiven, given-none, given-row, no-row}
 use Rattle.in_force_laws.proofs.Batch.{found-beyond, batch-force, part-force, batch-search}
 use Rattle.in_force_laws.proofs.Filled.{batch-filled, part-filled}
@@ -53,9 +55,10 @@ all-off : (l : Lent) → EachGiven Told-off (callFault l)
 unfolding callFault verdictNumber natOf
 all-off l =
     given-row Told-off _ BadLists _ (λ h. omega (arith, ap natOf h))
+    (given-row Told-off _ BadOwner _ (λ h. omega (arith, ap natOf h))
     (given-row Told-off _ BadLength _ (λ h. omega (arith, ap natOf h))
     (given-row Told-off _ NotSound _ (λ h. omega (arith, ap natOf h))
-    (given-row Told-off _ NoRequest _ (λ h. omega (arith, ap natOf h)) (given-none Told-off))))
+    (given-row Told-off _ NoRequest _ (λ h. omega (arith, ap natOf h)) (given-none Told-off)))))
 
 module _ (c : Choice) (l : Lent) where
   abbrev whole-batch : Batch
@@ -86,6 +89,18 @@ module _ (c : Choice) (l : Lent) where
       let a = no-row (ltb mostRequests (length (l .requests)) || not (eqb (length (l .answers)) (length (l .requests)))) BadLists _ h in
       eqb-true _ _ (not-false _ (or-neither (ltb mostRequests (length (l .requests))) _ (a .0) .1))
 
+  pub owner-good : callFault l ≡ none → goodOwner (l .owner) ≡ true
+  unfolding callFault
+  owner-good h =
+      let a = no-row (ltb mostRequests (length (l .requests)) || not (eqb (length (l .answers)) (length (l .requests)))) BadLists _ h in
+      let b = no-row (not (goodOwner (l .owner))) BadOwner _ (a .1) in
+      not-false _ (b .0)
+
+  -- a batch that is begun is of an owner that its pool can have
+  pub start-fair : callFault l ≡ none → FairBatch (starting l)
+  unfolding starting batchOwner
+  start-fair h = owner-in-sound (read (l .pool) .edition) (l .owner) (owner-good h)
+
   pub left-pool : callFault l ≡ none → callBy c l .pool ≡ words (whole-batch .pool)
   unfolding served
   left-pool h = ap (λ (x : Left). x .pool) (callBy-served h)
@@ -99,17 +114,18 @@ module _ (c : Choice) (l : Lent) where
   left-found h = ap (λ (x : Left). x .found) (callBy-served h)
 
   -- the places filled when all is done, by the answers
-  all-filled : callFault l ≡ none → whole-batch .filled ≡ filledAfter 0 0 (l .requests) (callBy c l .answers)
+  all-filled : callFault l ≡ none → whole-batch .filled ≡ filledAfter (batchOwner l) 0 0 (l .requests) (callBy c l .answers)
   unfolding starting
   all-filled h = rw (left-answers h) (batch-filled c 0 (l .requests) (starting l) (omega (arith, answers-long h)))
 
   -- "places beyond stay"
   pub left-beyond : callFault l ≡ none
-      → drop (filledAfter 0 0 (l .requests) (callBy c l .answers)) (callBy c l .found) ≡ drop (filledAfter 0 0 (l .requests) (callBy c l .answers)) (l .found)
+      → drop (filledAfter (batchOwner l) 0 0 (l .requests) (callBy c l .answers)) (callBy c l .found)
+      ≡ drop (filledAfter (batchOwner l) 0 0 (l .requests) (callBy c l .answers)) (l .found)
   unfolding starting
   left-beyond h =
-      ap (drop (filledAfter 0 0 (l .requests) (callBy c l .answers))) (left-found h)
-      ∙ found-beyond c 0 (l .requests) (starting l) (filledAfter 0 0 (l .requests) (callBy c l .answers)) (omega (arith, all-filled h))
+      let n = filledAfter (batchOwner l) 0 0 (l .requests) (callBy c l .answers) in
+      ap (drop n) (left-found h) ∙ found-beyond c 0 (l .requests) (starting l) n (omega (arith, all-filled h))
 
   module _ (lawful : Lawful c) (rs : List Record) (k : HoldsRecords (read (l .pool)) rs) (z : callBy c l .number ≡ pos 0) where
     start-holds : HoldsRecords (starting l .pool) rs
@@ -120,33 +136,38 @@ module _ (c : Choice) (l : Lent) where
     unfolding starting
     start-long = omega (arith, answers-long (no-fault z))
 
+    start-owner : starting l .owner ≡ batchOwner l
+    unfolding starting
+    start-owner = refl
+
     -- the pool that a call leaves holds the records in force by its requests and answers
-    pub call-force : HoldsRecords (whole-batch .pool) (forceAfter rs 0 (l .requests) (callBy c l .answers))
+    pub call-force : HoldsRecords (whole-batch .pool) (forceAfter (batchOwner l) rs 0 (l .requests) (callBy c l .answers))
     call-force =
-        rw (left-answers (no-fault z)) (batch-force c lawful 0 (l .requests) (starting l) rs start-holds start-long)
+        rw (left-answers (no-fault z), ← start-owner)
+        (batch-force c lawful 0 (l .requests) (starting l) rs start-holds (start-fair (no-fault z)) start-long)
 
     pub call-pool : callBy c l .pool ≡ words (whole-batch .pool)
     call-pool = left-pool (no-fault z)
 
     -- .. and so does the pool after the requests before any place of its request list
     pub call-part : (earlier later : List Request) → l .requests ≡ earlier ++ later
-        → HoldsRecords (doRequests c 0 earlier (starting l) .pool) (forceAfter rs 0 earlier (callBy c l .answers))
-    unfolding starting
+        → HoldsRecords (doRequests c 0 earlier (starting l) .pool) (forceAfter (batchOwner l) rs 0 earlier (callBy c l .answers))
+    unfolding starting batchOwner
     call-part earlier later is =
         rw (left-answers (no-fault z), is)
-        (part-force c lawful 0 earlier later (starting l) rs start-holds
+        (part-force c lawful 0 earlier later (starting l) rs start-holds (start-fair (no-fault z))
         (subst (λ (qs : List Request). 0 + length qs ≤ length (starting l .answers)) is start-long))
 
     -- a search at any place of its request list
     module _ (earlier : List Request) (q : Request) (later : List Request) (is : l .requests ≡ earlier ++ q ∷ later) (mode : Mode) (window : Rect)
-        (s : asked q ≡ some (Search mode window)) (v : valid window ≡ true) where
+        (s : asked (batchOwner l) q ≡ some (Search (batchOwner l) mode window)) (v : valid window ≡ true) where
       -- how far the batch had come
       abbrev pub so-far : Batch
       so-far = doRequests c 0 earlier (starting l)
 
       -- the records in force then
       abbrev pub then-force : List Record
-      then-force = forceAfter rs 0 earlier (callBy c l .answers)
+      then-force = forceAfter (batchOwner l) rs 0 earlier (callBy c l .answers)
 
       parts : callBy c l .answers ≡ doRequests c 0 (earlier ++ q ∷ later) (starting l) .answers
       parts = left-answers (no-fault z) ∙ ap (λ (qs : List Request). doRequests c 0 qs (starting l) .answers) is
@@ -158,77 +179,81 @@ module _ (c : Choice) (l : Lent) where
       unfolding starting
       start-places = refl
 
-      pub call-search : howManyWanted mode window then-force ≤ length (l .found) - so-far .filled
-          → Told (so-far .pool) then-force (so-far .filled) mode window (0 + length earlier) (callBy c l .answers) (callBy c l .found)
+      pub call-search : howManyWanted (batchOwner l) mode window then-force ≤ length (l .found) - so-far .filled
+          → Told (so-far .pool) then-force (so-far .filled) (batchOwner l) mode window (0 + length earlier) (callBy c l .answers) (callBy c l .found)
       call-search =
-          rw (parts, found-parts, ← start-places)
-          (batch-search c lawful 0 earlier q later (starting l) rs start-holds
-          (subst (λ (qs : List Request). 0 + length qs ≤ length (starting l .answers)) is start-long) mode window s v)
+          rw (parts, found-parts, ← start-places, ← start-owner)
+          (batch-search c lawful 0 earlier q later (starting l) rs start-holds (start-fair (no-fault z))
+          (subst (λ (qs : List Request). 0 + length qs ≤ length (starting l .answers)) is start-long) mode window (rw start-owner s) v)
 
       inside : 0 + length earlier ≤ length (starting l .answers)
       inside = omega (arith, start-long, ap length is, length-append earlier (q ∷ later))
 
       -- the places filled then, by the answers
-      filled-then : so-far .filled ≡ filledAfter 0 0 earlier (callBy c l .answers)
+      filled-then : so-far .filled ≡ filledAfter (batchOwner l) 0 0 earlier (callBy c l .answers)
       unfolding starting
       filled-then = rw parts (part-filled c 0 earlier (q ∷ later) (starting l) inside)
 
-      pub call-shows : howManyWanted mode window then-force ≤ length (l .found) - filledAfter 0 0 earlier (callBy c l .answers)
-          → Told (so-far .pool) then-force (filledAfter 0 0 earlier (callBy c l .answers)) mode window (length earlier) (callBy c l .answers)
-          (callBy c l .found)
+      pub call-shows : howManyWanted (batchOwner l) mode window then-force ≤ length (l .found) - filledAfter (batchOwner l) 0 0 earlier (callBy c l .answers)
+          → Told (so-far .pool) then-force (filledAfter (batchOwner l) 0 0 earlier (callBy c l .answers)) (batchOwner l) mode window (length earlier)
+          (callBy c l .answers) (callBy c l .found)
       call-shows =
-          subst (λ (n : ℕ). howManyWanted mode window then-force ≤ length (l .found) - n
-          → Told (so-far .pool) then-force n mode window (length earlier) (callBy c l .answers) (callBy c l .found)) filled-then
-          (subst (λ (i : ℕ). howManyWanted mode window then-force ≤ length (l .found) - so-far .filled
-          → Told (so-far .pool) then-force (so-far .filled) mode window i (callBy c l .answers) (callBy c l .found)) none-before call-search)
+          subst (λ (n : ℕ). howManyWanted (batchOwner l) mode window then-force ≤ length (l .found) - n
+          → Told (so-far .pool) then-force n (batchOwner l) mode window (length earlier) (callBy c l .answers) (callBy c l .found)) filled-then
+          (subst (λ (i : ℕ). howManyWanted (batchOwner l) mode window then-force ≤ length (l .found) - so-far .filled
+          → Told (so-far .pool) then-force (so-far .filled) (batchOwner l) mode window i (callBy c l .answers) (callBy c l .found)) none-before call-search)
         where
           none-before : 0 + length earlier ≡ length earlier
           none-before = omega arith
 
 -- ---- a history
 
-pub blank-holds : (n : ℕ) → HoldsRecords (blankPool n) []
-blank-holds n = record {
-  whole = blank-whole n;
-  alike = record { each = λ f. rw (nothing (stored (blankPool n)) (sym (blank-whole n .counted) ∙ none-yet)) };
+pub blank-holds : (e : Edition) (n : ℕ) → HoldsRecords (blankPool e n) []
+blank-holds e n = record {
+  whole = blank-whole e n;
+  alike = record { each = λ f. rw (nothing (stored (blankPool e n)) (sym (blank-whole e n .counted) ∙ none-yet)) };
   once = λ x. omega (arith, ap length (those-none (samePair x)));
+  owners = λ r m. absurd (List·Memᴰ·not-nil m);
 }
   where
-    none-yet : blankPool n .records ≡ 0
+    none-yet : blankPool e n .records ≡ 0
     none-yet = unfold blankPool in refl
 
 module _ (c : Choice) (lawful : Lawful c) where
   -- the pool that a history leaves holds the records in force
-  pub calls-hold : (n : ℕ) (ls : List Lent) → CallsServed c n ls → HoldsRecords (read (poolServed c n ls)) (forceOf c ls)
+  pub calls-hold : (e : Edition) (n : ℕ) (ls : List Lent) → CallsServed c e n ls → HoldsRecords (read (poolServed c e n ls)) (forceOf c ls)
   unfolding poolServed forceOf
-  calls-hold n [] h = subst (λ (p : Pool). HoldsRecords p []) (sym (whole-reads (blankPool n) (blank-whole n))) (blank-holds n)
-  calls-hold n (l ∷ ls) h =
+  calls-hold e n [] h = subst (λ (p : Pool). HoldsRecords p []) (sym (holds-reads (blankPool e n) [] (blank-holds e n))) (blank-holds e n)
+  calls-hold e n (l ∷ ls) h =
       let k : HoldsRecords (read (l .pool)) (forceOf c ls) =
-      subst (λ (w : List ℤ). HoldsRecords (read w) (forceOf c ls)) (sym (h .0)) (calls-hold n ls (h .2)) in
+      subst (λ (w : List ℤ). HoldsRecords (read w) (forceOf c ls)) (sym (h .0)) (calls-hold e n ls (h .2)) in
       let now = call-force c l lawful (forceOf c ls) k (h .1) in
-      subst (λ (p : Pool). HoldsRecords p (forceAfter (forceOf c ls) 0 (l .requests) (callBy c l .answers)))
-      (sym (ap read (call-pool c l lawful (forceOf c ls) k (h .1)) ∙ whole-reads (whole-batch c l .pool) (now .whole))) now
+      let rs = forceAfter (batchOwner l) (forceOf c ls) 0 (l .requests) (callBy c l .answers) in
+      subst (λ (p : Pool). HoldsRecords p rs)
+      (sym (ap read (call-pool c l lawful (forceOf c ls) k (h .1)) ∙ holds-reads (whole-batch c l .pool) rs now)) now
 
   -- "From a blank pool changed only by these requests, every search in a call that returns 0 (valid window, room in its list) shows the
   -- records in force that meet the window, each once, in record order; the nodes opened are one for the root and one for each other node
   -- whose cover meets the window; with n records and height h, h is 1 or 2·3^(h-1) ≤ n."
-  pub in-force : (n : ℕ) (ls : List Lent) (l : Lent) → CallsServed c n (l ∷ ls)
+  pub in-force : (e : Edition) (n : ℕ) (ls : List Lent) (l : Lent) → CallsServed c e n (l ∷ ls)
       → (earlier : List Request) (q : Request) (later : List Request) → l .requests ≡ earlier ++ q ∷ later
-      → (mode : Mode) (window : Rect) → asked q ≡ some (Search mode window) → valid window ≡ true
-      → howManyWanted mode window (forceAfter (forceOf c ls) 0 earlier (callBy c l .answers)) ≤ length (l .found) - filledAfter 0 0 earlier (callBy c l .answers)
-      → Told (doRequests c 0 earlier (starting l) .pool) (forceAfter (forceOf c ls) 0 earlier (callBy c l .answers))
-      (filledAfter 0 0 earlier (callBy c l .answers)) mode window (length earlier) (callBy c l .answers) (callBy c l .found)
-  in-force n ls l h earlier q later is mode window s v room =
+      → (mode : Mode) (window : Rect) → asked (batchOwner l) q ≡ some (Search (batchOwner l) mode window) → valid window ≡ true
+      → howManyWanted (batchOwner l) mode window (forceAfter (batchOwner l) (forceOf c ls) 0 earlier (callBy c l .answers))
+      ≤ length (l .found) - filledAfter (batchOwner l) 0 0 earlier (callBy c l .answers)
+      → Told (doRequests c 0 earlier (starting l) .pool) (forceAfter (batchOwner l) (forceOf c ls) 0 earlier (callBy c l .answers))
+      (filledAfter (batchOwner l) 0 0 earlier (callBy c l .answers)) (batchOwner l) mode window (length earlier) (callBy c l .answers) (callBy c l .found)
+  in-force e n ls l h earlier q later is mode window s v room =
       let k : HoldsRecords (read (l .pool)) (forceOf c ls) =
-      subst (λ (w : List ℤ). HoldsRecords (read w) (forceOf c ls)) (sym (h .0)) (calls-hold n ls (h .2)) in
+      subst (λ (w : List ℤ). HoldsRecords (read w) (forceOf c ls)) (sym (h .0)) (calls-hold e n ls (h .2)) in
       call-shows c l lawful (forceOf c ls) k (h .1) earlier q later is mode window s v room
 
 -- .. by document 01's choices
-pub ours-in-force : (n : ℕ) (ls : List Lent) (l : Lent) → CallsServed ours n (l ∷ ls)
+pub ours-in-force : (e : Edition) (n : ℕ) (ls : List Lent) (l : Lent) → CallsServed ours e n (l ∷ ls)
     → (earlier : List Request) (q : Request) (later : List Request) → l .requests ≡ earlier ++ q ∷ later
-    → (mode : Mode) (window : Rect) → asked q ≡ some (Search mode window) → valid window ≡ true
-    → howManyWanted mode window (forceAfter (forceOf ours ls) 0 earlier (call l .answers)) ≤ length (l .found) - filledAfter 0 0 earlier (call l .answers)
-    → Told (doRequests ours 0 earlier (starting l) .pool) (forceAfter (forceOf ours ls) 0 earlier (call l .answers))
-    (filledAfter 0 0 earlier (call l .answers)) mode window (length earlier) (call l .answers) (call l .found)
+    → (mode : Mode) (window : Rect) → asked (batchOwner l) q ≡ some (Search (batchOwner l) mode window) → valid window ≡ true
+    → howManyWanted (batchOwner l) mode window (forceAfter (batchOwner l) (forceOf ours ls) 0 earlier (call l .answers))
+    ≤ length (l .found) - filledAfter (batchOwner l) 0 0 earlier (call l .answers)
+    → Told (doRequests ours 0 earlier (starting l) .pool) (forceAfter (batchOwner l) (forceOf ours ls) 0 earlier (call l .answers))
+    (filledAfter (batchOwner l) 0 0 earlier (call l .answers)) (batchOwner l) mode window (length earlier) (call l .answers) (call l .found)
 unfolding call
 ours-in-force = in-force ours ours-lawful

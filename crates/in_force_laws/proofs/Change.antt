@@ -2,7 +2,7 @@
 -- it and nothing changes; or it has passed every row, and the laws of insert, delete and update apply.
 use mathlib.Core.Path.{_≡_, refl, sym, subst}
 use mathlib.Core.Bool.{Bool, true, false, cond, not, _&&_, _||_}
-use mathlib.Core.List.{List, []}
+use mathlib.Core.List.{List, [], _∷_}
 use mathlib.Core.Option.{Option, none, some}
 use Prim.Native.Nat.{ℕ, _≤_}
 use native.Mathlib.Omega.{arith}
@@ -11,6 +11,7 @@ use lib.ListN.{length}
 use borrow.Author.Tests.{ltb-false}
 use Rattle.rules.specs.declared.Rect.{Rect}
 use Rattle.rules.specs.declared.Mode.{Mode}
+use Rattle.rules.specs.declared.Owner.{Owner}
 use Rattle.rules.specs.declared.Record.{Record}
 use Rattle.rules.specs.declared.Asked.{Asked}
 use Rattle.rules.specs.declared.Asked.the-variants.{Insert, Delete, Update, Search}
@@ -19,7 +20,8 @@ use Rattle.rules.specs.declared.Reply.the-variants.{Changed, Listed, BadRectang
 use Rattle.rules.specs.Numbers.{goodNumber}
 use Rattle.rules.specs.Geometry.{valid}
 use Rattle.rules.specs.Compare.{exactPair}
-use Rattle.rules.specs.Pool.{Pool, held}
+use Rattle.rules.specs.Owners.{ownerSound}
+use Rattle.rules.specs.Pool.{Pool, moved, stored, held}
 use Rattle.rules.specs.Search.{found, opened}
 use Rattle.rules.specs.Answers.{answerOf}
 use Rattle.rules.specs.Insert.{Choice, Change, Done, NoneFree, insertRecord}
@@ -31,13 +33,16 @@ use Rattle.rules_laws.proofs.Orders.{never-both}
 use Rattle.rules_laws.proofs.Places.{Among}
 use Rattle.rules_laws.proofs.Parts.{count-cons}
 use Rattle.sound_laws.proofs.Same.{exact-same}
+use Rattle.search_laws.specs.Order.{Alike}
+use Rattle.search_laws.proofs.Order.{alike-back}
 use Rattle.insert_laws.proofs.Whole.{insert-whole, insert-stored}
 use Rattle.delete_laws.proofs.Delete.{delete-whole, delete-stored}
-use Rattle.delete_laws.proofs.Update.{renewed, update-whole, update-stored}
-use Rattle.in_force_laws.specs.Force.{lessPair, change, inForce}
-use Rattle.in_force_laws.specs.Shows.{HoldsRecords}
+use Rattle.delete_laws.proofs.Update.{update-whole, update-stored}
+use Rattle.in_force_laws.specs.Force.{askedBy, lessPair, change, inForce}
+use Rattle.in_force_laws.specs.Shows.{EachOwned, HoldsRecords}
 use Rattle.in_force_laws.proofs.Pairs.{less-count, less-once, less-among, less-gone, more-once, held-in, in-held}
 use Rattle.in_force_laws.proofs.Faults.{EachGiven, given-none, given-row, no-row}
+use Rattle.in_force_laws.proofs.Owned.{owned-alike, insert-owned, delete-owned, update-owned}
 
 -- ---- what is refused, and answered otherwise than by 0, changes nothing
 
@@ -69,9 +74,9 @@ module _ (p : Pool) where
       given-row Refused _ BadRectangle _ refl
       (given-row Refused _ BadNumber _ refl (given-row Refused _ NotHeld _ refl (given-row Refused _ Held _ refl (given-none Refused))))
 
-  pub search-refused : (room : ℕ) (mode : Mode) (window : Rect) → EachGiven Refused (searchFault p room mode window)
+  pub search-refused : (room : ℕ) (o : Owner) (mode : Mode) (window : Rect) → EachGiven Refused (searchFault p room o mode window)
   unfolding searchFault answerOf
-  search-refused room mode window =
+  search-refused room o mode window =
       given-row Refused _ BadRectangle _ refl (given-row Refused _ (NoRoom _ _) _ refl (given-none Refused))
 
 -- ---- what is accepted has passed every row
@@ -99,21 +104,21 @@ module _ (p : Pool) where
       not-false _ (d .0)
 
   pub update-passed : (old : Record) (new : Rect) → updateFault p old new ≡ none
-      → (valid new ≡ true) × (held p old ≡ true) × ((held p (renewed old new) && not (exactPair old (renewed old new))) ≡ false)
+      → (valid new ≡ true) × (held p old ≡ true) × ((held p (moved old new) && not (exactPair old (moved old new))) ≡ false)
   unfolding updateFault
   update-passed old new h =
       let a = no-row (not (valid (old .rect)) || not (valid new)) BadRectangle _ h in
       let b = no-row (not (goodNumber (old .number))) BadNumber _ (a .1) in
       let d = no-row (not (held p old)) NotHeld _ (b .1) in
-      let e = no-row (held p (renewed old new) && not (exactPair old (renewed old new))) Held _ (d .1) in
+      let e = no-row (held p (moved old new) && not (exactPair old (moved old new))) Held _ (d .1) in
       (not-false _ (or-neither (not (valid (old .rect))) (not (valid new)) (a .0) .1), not-false _ (d .0), e .0)
 
-  pub search-passed : (room : ℕ) (mode : Mode) (window : Rect) → searchFault p room mode window ≡ none → length (found p mode window) ≤ room
+  pub search-passed : (room : ℕ) (o : Owner) (mode : Mode) (window : Rect) → searchFault p room o mode window ≡ none → length (found p o mode window) ≤ room
   unfolding searchFault
-  search-passed room mode window h =
+  search-passed room o mode window h =
       let a = no-row (not (valid window)) BadRectangle _ h in
-      let b = no-row (ltb room (length (found p mode window))) (NoRoom (length (found p mode window)) (opened p window)) _ (a .1) in
-      ltb-false room (length (found p mode window)) (b .0)
+      let b = no-row (ltb room (length (found p o mode window))) (NoRoom (length (found p o mode window)) (opened p window)) _ (a .1) in
+      ltb-false room (length (found p o mode window)) (b .0)
 
 -- ---- a request opened at its table
 
@@ -144,14 +149,14 @@ module _ (c : Choice) (p : Pool) (filled room : ℕ) where
   unfolding request
   update-none old new h = rw (h, request)
 
-  pub search-some : (mode : Mode) (window : Rect) (reply : Reply) → searchFault p room mode window ≡ some reply → request c p filled room (Search mode window) ≡ turn p reply []
+  pub search-some : (o : Owner) (mode : Mode) (window : Rect) (reply : Reply) → searchFault p room o mode window ≡ some reply → request c p filled room (Search o mode window) ≡ turn p reply []
   unfolding request
-  search-some mode window reply h = rw (h, request)
+  search-some o mode window reply h = rw (h, request)
 
-  pub search-none : (mode : Mode) (window : Rect) → searchFault p room mode window ≡ none
-      → request c p filled room (Search mode window) ≡ turn p (Listed (length (found p mode window)) filled (opened p window)) (found p mode window)
+  pub search-none : (o : Owner) (mode : Mode) (window : Rect) → searchFault p room o mode window ≡ none
+      → request c p filled room (Search o mode window) ≡ turn p (Listed (length (found p o mode window)) filled (opened p window)) (found p o mode window)
   unfolding request
-  search-none mode window h = rw (h, request)
+  search-none o mode window h = rw (h, request)
 
 -- a row of a table applies, or none does
 row-or-none : {X : Type 0} (fault : Option Reply) → EachGiven Refused fault → ((reply : Reply) → fault ≡ some reply → Refused reply → X)
@@ -165,8 +170,8 @@ module _ (c : Choice) (p : Pool) (filled room : ℕ) (P : Asked → Turn → Typ
     (inserted : (r : Record) → insertFault p r ≡ none → P (Insert r) (afterChange p (insertRecord c p r)))
     (deleted : (r : Record) → deleteFault p r ≡ none → P (Delete r) (afterChange p (deleteRecord c p r)))
     (updated : (old : Record) (new : Rect) → updateFault p old new ≡ none → P (Update old new) (afterChange p (updateRecord c p old new)))
-    (listed : (mode : Mode) (window : Rect) → searchFault p room mode window ≡ none
-    → P (Search mode window) (turn p (Listed (length (found p mode window)) filled (opened p window)) (found p mode window))) where
+    (listed : (o : Owner) (mode : Mode) (window : Rect) → searchFault p room o mode window ≡ none
+    → P (Search o mode window) (turn p (Listed (length (found p o mode window)) filled (opened p window)) (found p o mode window))) where
   pub request-cases : (a : Asked) → P a (request c p filled room a)
   request-cases (Insert r) =
       row-or-none (insertFault p r) (insert-refused p r)
@@ -180,10 +185,10 @@ module _ (c : Choice) (p : Pool) (filled room : ℕ) (P : Asked → Turn → Typ
       row-or-none (updateFault p old new) (update-refused p old new)
       (λ reply h g. subst (P (Update old new)) (sym (update-some c p filled room old new reply h)) (refused (Update old new) reply g))
       (λ h. subst (P (Update old new)) (sym (update-none c p filled room old new h)) (updated old new h))
-  request-cases (Search mode window) =
-      row-or-none (searchFault p room mode window) (search-refused p room mode window)
-      (λ reply h g. subst (P (Search mode window)) (sym (search-some c p filled room mode window reply h)) (refused (Search mode window) reply g))
-      (λ h. subst (P (Search mode window)) (sym (search-none c p filled room mode window h)) (listed mode window h))
+  request-cases (Search o mode window) =
+      row-or-none (searchFault p room o mode window) (search-refused p room o mode window)
+      (λ reply h g. subst (P (Search o mode window)) (sym (search-some c p filled room o mode window reply h)) (refused (Search o mode window) reply g))
+      (λ h. subst (P (Search o mode window)) (sym (search-none c p filled room o mode window h)) (listed o mode window h))
 
 -- what a request lists has room
 module _ (c : Choice) (p : Pool) (filled room : ℕ) where
@@ -200,8 +205,15 @@ module _ (c : Choice) (p : Pool) (filled room : ℕ) where
 -- ---- each kind of change
 
 module _ (c : Choice) (lawful : Lawful c) (p : Pool) (rs : List Record) (k : HoldsRecords p rs) where
+  owned : EachOwned p (stored p)
+  owned = owned-alike p (alike-back (k .alike)) (k .owners)
+
   abbrev Good : Asked → Turn → Type 0
   Good a t = HoldsRecords (t .pool) (inForce rs a (answerOf (t .reply)))
+
+  -- the request is of an owner that the pool can have
+  abbrev Fair : Asked → Type 0
+  Fair a = ownerSound (p .edition) (askedBy a) ≡ true
 
   refused-good : (a : Asked) (reply : Reply) → Refused reply → Good a (turn p reply [])
   refused-good a reply h = subst (HoldsRecords p) (sym (force-refused rs a reply h)) k
@@ -215,16 +227,19 @@ module _ (c : Choice) (lawful : Lawful c) (p : Pool) (rs : List Record) (k : Hol
   after-good a (Done q) h = subst (HoldsRecords q) (sym (force-changed rs a)) (h q refl)
   after-good a NoneFree h = refused-good a NoSlot none-refused
 
-  insert-holds : (r : Record) → insertFault p r ≡ none → (q : Pool) → insertRecord c p r ≡ Done q → HoldsRecords q (change rs (Insert r))
-  unfolding change
-  insert-holds r h q d =
+  insert-holds : (r : Record) → insertFault p r ≡ none → Fair (Insert r) → (q : Pool) → insertRecord c p r ≡ Done q
+      → HoldsRecords q (change rs (Insert r))
+  unfolding change askedBy
+  insert-holds r h s q d =
       let y = insert-passed p r h in
+      let alike : Alike (stored q) (r ∷ rs) = record {
+        each = λ f. omega (arith, insert-stored c lawful p (k .whole) r (y .0) (y .1) q d f, k .alike .each f, count-cons f r rs);
+      } in
       record {
         whole = insert-whole c lawful p (k .whole) r (y .0) (y .1) q d;
-        alike = record {
-          each = λ f. omega (arith, insert-stored c lawful p (k .whole) r (y .0) (y .1) q d f, k .alike .each f, count-cons f r rs);
-        };
+        alike = alike;
         once = more-once r rs (λ m. never-both (in-held p (k .whole) rs (k .alike) r m) (y .2)) (k .once);
+        owners = owned-alike q alike (insert-owned c lawful p (k .whole) owned r (y .0) (y .1) s q d);
       }
 
   delete-holds : (r : Record) → deleteFault p r ≡ none → (q : Pool) → deleteRecord c p r ≡ Done q → HoldsRecords q (change rs (Delete r))
@@ -232,27 +247,29 @@ module _ (c : Choice) (lawful : Lawful c) (p : Pool) (rs : List Record) (k : Hol
   delete-holds r h q d =
       let y = delete-passed p r h in
       let m = held-in p rs (k .alike) r y in
+      let alike : Alike (stored q) (lessPair r rs) = record {
+        each = λ f. omega (arith, delete-stored c lawful p (k .whole) r q d y f, k .alike .each f, less-count f r rs m);
+      } in
       record {
         whole = delete-whole c lawful p (k .whole) r q d;
-        alike = record {
-          each = λ f. omega (arith, delete-stored c lawful p (k .whole) r q d y f, k .alike .each f, less-count f r rs m);
-        };
+        alike = alike;
         once = less-once r rs m (k .once);
+        owners = owned-alike q alike (delete-owned c lawful p (k .whole) owned r y q d);
       }
 
   -- the new pair is not there once the old is out: it was not there before, or it is the old one, which stood there once
-  moved-out : (old : Record) (new : Rect) → held p old ≡ true → (held p (renewed old new) && not (exactPair old (renewed old new))) ≡ false
-      → Among (renewed old new) (lessPair old rs) → ⊥
-  moved-out old new y n m = go (exactPair old (renewed old new)) refl
+  moved-out : (old : Record) (new : Rect) → held p old ≡ true → (held p (moved old new) && not (exactPair old (moved old new))) ≡ false
+      → Among (moved old new) (lessPair old rs) → ⊥
+  moved-out old new y n m = go (exactPair old (moved old new)) refl
     where
       there : Among old rs
       there = held-in p rs (k .alike) old y
 
-      go : (b : Bool) → exactPair old (renewed old new) ≡ b → ⊥
-      go true e = less-gone old rs there (k .once) (subst (λ (x : Record). Among x (lessPair old rs)) (sym (exact-same old (renewed old new) e)) m)
+      go : (b : Bool) → exactPair old (moved old new) ≡ b → ⊥
+      go true e = less-gone old rs there (k .once) (subst (λ (x : Record). Among x (lessPair old rs)) (sym (exact-same old (moved old new) e)) m)
       go false e =
-          never-both (in-held p (k .whole) rs (k .alike) (renewed old new) (less-among (renewed old new) old rs there m))
-          (and-unless (held p (renewed old new)) (exactPair old (renewed old new)) n e)
+          never-both (in-held p (k .whole) rs (k .alike) (moved old new) (less-among (moved old new) old rs there m))
+          (and-unless (held p (moved old new)) (exactPair old (moved old new)) n e)
 
   update-holds : (old : Record) (new : Rect) → updateFault p old new ≡ none → (q : Pool) → updateRecord c p old new ≡ Done q
       → HoldsRecords q (change rs (Update old new))
@@ -260,36 +277,38 @@ module _ (c : Choice) (lawful : Lawful c) (p : Pool) (rs : List Record) (k : Hol
   update-holds old new h q d =
       let y = update-passed p old new h in
       let m = held-in p rs (k .alike) old (y .1) in
+      let alike : Alike (stored q) (moved old new ∷ lessPair old rs) = record {
+        each = λ f.
+            omega (
+              arith,
+              update-stored c p old new lawful (k .whole) (y .1) (y .0) q d f,
+              k .alike .each f,
+              less-count f old rs m,
+              count-cons f (moved old new) (lessPair old rs),
+            );
+      } in
       record {
         whole = update-whole c p old new lawful (k .whole) (y .1) (y .0) q d;
-        alike = record {
-          each = λ f.
-              omega (
-                arith,
-                update-stored c p old new lawful (k .whole) (y .1) (y .0) q d f,
-                k .alike .each f,
-                less-count f old rs m,
-                count-cons f (renewed old new) (lessPair old rs),
-              );
-        };
-        once = more-once (renewed old new) (lessPair old rs) (moved-out old new (y .1) (y .2)) (less-once old rs m (k .once));
+        alike = alike;
+        once = more-once (moved old new) (lessPair old rs) (moved-out old new (y .1) (y .2)) (less-once old rs m (k .once));
+        owners = owned-alike q alike (update-owned c lawful p (k .whole) owned old new (y .1) (y .0) q d);
       }
 
   -- ---- the request
 
-  search-force : (mode : Mode) (window : Rect) (reply : Reply) → inForce rs (Search mode window) (answerOf reply) ≡ rs
+  search-force : (o : Owner) (mode : Mode) (window : Rect) (reply : Reply) → inForce rs (Search o mode window) (answerOf reply) ≡ rs
   unfolding inForce change
-  search-force mode window reply = go (eqb (answerOf reply .number) 0) refl
+  search-force o mode window reply = go (eqb (answerOf reply .number) 0) refl
     where
-      go : (b : Bool) → eqb (answerOf reply .number) 0 ≡ b → inForce rs (Search mode window) (answerOf reply) ≡ rs
+      go : (b : Bool) → eqb (answerOf reply .number) 0 ≡ b → inForce rs (Search o mode window) (answerOf reply) ≡ rs
       go true h = rw (h, inForce, change)
       go false h = rw (h, inForce, change)
 
   -- a request of any kind, accepted or refused
-  pub request-force : (filled room : ℕ) (a : Asked) → Good a (request c p filled room a)
+  pub request-force : (filled room : ℕ) (a : Asked) → ownerSound (p .edition) (askedBy a) ≡ true → Good a (request c p filled room a)
   request-force filled room =
-      request-cases c p filled room Good refused-good
-      (λ r h. after-good (Insert r) (insertRecord c p r) (insert-holds r h))
-      (λ r h. after-good (Delete r) (deleteRecord c p r) (delete-holds r h))
-      (λ old new h. after-good (Update old new) (updateRecord c p old new) (update-holds old new h))
-      (λ mode window h. subst (HoldsRecords p) (sym (search-force mode window (Listed (length (found p mode window)) filled (opened p window)))) k)
+      request-cases c p filled room (λ a t. Fair a → Good a t) (λ a reply h s. refused-good a reply h)
+      (λ r h s. after-good (Insert r) (insertRecord c p r) (insert-holds r h s))
+      (λ r h s. after-good (Delete r) (deleteRecord c p r) (delete-holds r h))
+      (λ old new h s. after-good (Update old new) (updateRecord c p old new) (update-holds old new h))
+      (λ o mode window h s. subst (HoldsRecords p) (sym (search-force o mode window (Listed (length (found p o mode window)) filled (opened p window)))) k)

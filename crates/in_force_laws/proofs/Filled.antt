@@ -7,7 +7,8 @@ use Prim.Native.Nat.{ℕ, suc, _+_, _-_, _≤_, _<_}
 use native.Mathlib.Omega.{arith}
 use lib.ListN.{length, getD}
 use lib.Seq.{getD-set-same}
-use Rattle.rules.specs.declared.Record.{Record}
+use Rattle.rules.specs.declared.Owner.{Owner}
+use Rattle.rules.specs.declared.FoundRecord.{FoundRecord}
 use Rattle.rules.specs.declared.Request.{Request}
 use Rattle.rules.specs.declared.Asked.{Asked}
 use Rattle.rules.specs.declared.Answer.{Answer}
@@ -22,7 +23,7 @@ use Rattle.rules.specs.Request.{Turn, turn, asked, afterChange, request}
 use Rattle.rules.specs.Call.{Batch, afterTurn, doRequest, doRequests}
 use Rattle.in_force_laws.specs.Force.{placesFilled, filledBy, filledAfter}
 use Rattle.in_force_laws.proofs.Change.{Refused, request-cases}
-use Rattle.in_force_laws.proofs.Batch.{noAnswer, answers-kept, step-long, two-parts}
+use Rattle.in_force_laws.proofs.Batch.{noAnswer, answers-kept, step-long, step-owner, two-parts}
 
 -- ---- one request
 
@@ -38,7 +39,7 @@ unfolding afterChange placesFilled answerOf
 after-fills p (Done q) = refl
 after-fills p NoneFree = refl
 
-list-fills : (p : Pool) (rs : List Record) (start opened : ℕ) → Fills (turn p (Listed (length rs) start opened) rs)
+list-fills : (p : Pool) (rs : List FoundRecord) (start opened : ℕ) → Fills (turn p (Listed (length rs) start opened) rs)
 unfolding placesFilled answerOf
 list-fills p rs start opened = refl
 
@@ -46,17 +47,17 @@ request-fills : (c : Choice) (p : Pool) (filled room : ℕ) (a : Asked) → Fill
 request-fills c p filled room =
     request-cases c p filled room (λ a t. Fills t) (λ a. refused-fills p) (λ r h. after-fills p (insertRecord c p r))
     (λ r h. after-fills p (deleteRecord c p r)) (λ old new h. after-fills p (updateRecord c p old new))
-    (λ mode window h. list-fills p (found p mode window) filled (opened p window))
+    (λ o mode window h. list-fills p (found p o mode window) filled (opened p window))
 
 -- ---- a batch
 
-filled-same : (n i : ℕ) (qs : List Request) (x y : List Answer)
-    → ((j : ℕ) → j < i + length qs → getD x j noAnswer ≡ getD y j noAnswer) → filledAfter n i qs x ≡ filledAfter n i qs y
+filled-same : (o : Owner) (n i : ℕ) (qs : List Request) (x y : List Answer)
+    → ((j : ℕ) → j < i + length qs → getD x j noAnswer ≡ getD y j noAnswer) → filledAfter o n i qs x ≡ filledAfter o n i qs y
 unfolding filledAfter
-filled-same n i [] x y h = refl
-filled-same n i (q ∷ qs) x y h =
-    ap (λ (a : Answer). filledAfter (filledBy n (asked q) a) (suc i) qs x) (h i (omega arith))
-    ∙ filled-same (filledBy n (asked q) (getD y i noAnswer)) (suc i) qs x y (λ j l. h j (omega (arith, l)))
+filled-same o n i [] x y h = refl
+filled-same o n i (q ∷ qs) x y h =
+    ap (λ (a : Answer). filledAfter o (filledBy n (asked o q) a) (suc i) qs x) (h i (omega arith))
+    ∙ filled-same o (filledBy n (asked o q) (getD y i noAnswer)) (suc i) qs x y (λ j l. h j (omega (arith, l)))
 
 module _ (c : Choice) where
   step-fills : (i : ℕ) (b : Batch) (o : Option Asked) → i < length (b .answers)
@@ -70,21 +71,23 @@ module _ (c : Choice) where
       ∙ ap (λ (x : Answer). b .filled + placesFilled x) (sym (getD-set-same (b .answers) i (answerOf (t .reply)) noAnswer h))
 
   pub batch-filled : (i : ℕ) (qs : List Request) (b : Batch) → i + length qs ≤ length (b .answers)
-      → doRequests c i qs b .filled ≡ filledAfter (b .filled) i qs (doRequests c i qs b .answers)
+      → doRequests c i qs b .filled ≡ filledAfter (b .owner) (b .filled) i qs (doRequests c i qs b .answers)
   unfolding doRequests filledAfter
   batch-filled i [] b h = refl
   batch-filled i (q ∷ qs) b h =
-      let b1 = doRequest c i b (asked q) in
+      let a = asked (b .owner) q in
+      let b1 = doRequest c i b a in
       let end = doRequests c (suc i) qs b1 in
-      batch-filled (suc i) qs b1 (omega (arith, h, step-long c i b (asked q)))
-      ∙ ap (λ (n : ℕ). filledAfter n (suc i) qs (end .answers)) (step-fills i b (asked q) (omega (arith, h))
-      ∙ ap (filledBy (b .filled) (asked q)) (sym (answers-kept c (suc i) qs b1 i (omega arith))))
+      batch-filled (suc i) qs b1 (omega (arith, h, step-long c i b a))
+      ∙ ap (λ (o : Owner). filledAfter o (b1 .filled) (suc i) qs (end .answers)) (step-owner c i b a)
+      ∙ ap (λ (n : ℕ). filledAfter (b .owner) n (suc i) qs (end .answers)) (step-fills i b a (omega (arith, h))
+      ∙ ap (filledBy (b .filled) a) (sym (answers-kept c (suc i) qs b1 i (omega arith))))
 
   -- .. by the answers that the whole batch leaves
   pub part-filled : (i : ℕ) (xs ys : List Request) (b : Batch) → i + length xs ≤ length (b .answers)
-      → doRequests c i xs b .filled ≡ filledAfter (b .filled) i xs (doRequests c i (xs ++ ys) b .answers)
+      → doRequests c i xs b .filled ≡ filledAfter (b .owner) (b .filled) i xs (doRequests c i (xs ++ ys) b .answers)
   part-filled i xs ys b h =
       batch-filled i xs b h
-      ∙ filled-same (b .filled) i xs (doRequests c i xs b .answers) (doRequests c i (xs ++ ys) b .answers) (λ j l.
+      ∙ filled-same (b .owner) (b .filled) i xs (doRequests c i xs b .answers) (doRequests c i (xs ++ ys) b .answers) (λ j l.
       sym (ap (λ (x : Batch). getD (x .answers) j noAnswer) (two-parts c i xs ys b)
       ∙ answers-kept c (i + length xs) ys (doRequests c i xs b) j l))

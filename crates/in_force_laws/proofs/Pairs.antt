@@ -1,6 +1,6 @@
 -- A plain list less a pair: what is left, and the pair, are the list. So what stood once is gone, and every other occurs as often as
 -- before.
-use mathlib.Core.Path.{_≡_, refl, ap, subst}
+use mathlib.Core.Path.{_≡_, refl, ap, subst, _∙_}
 use mathlib.Core.Logic.{⊎-elim}
 use mathlib.Core.Bool.{Bool, true, false, cond}
 use mathlib.Core.List.{List, [], _∷_, List·Memᴰ·head, List·Memᴰ·tail, List·Memᴰ·not-nil, List·Memᴰ·cases-cons}
@@ -42,6 +42,24 @@ module _ (f : Record → Bool) (r : Record) where
             later (⊎-elim (λ h. never-both (same-pair r x .1 h) e) (λ h. h) (List·Memᴰ·cases-cons m)),
           )
 
+module _ (r x : Record) (xs : List Record) where
+  pub less-yes : samePair r x ≡ true → lessPair r (x ∷ xs) ≡ xs
+  unfolding lessPair
+  less-yes h = rw h
+
+  pub less-no : samePair r x ≡ false → lessPair r (x ∷ xs) ≡ x ∷ lessPair r xs
+  unfolding lessPair
+  less-no h = rw h
+
+-- what is not there stays out
+pub less-none : (r : Record) (xs : List Record) → length (those (samePair r) xs) ≡ 0 → lessPair r xs ≡ xs
+less-none r [] h = unfold lessPair in refl
+less-none r (x ∷ xs) h = go (samePair r x) refl (less-none r xs)
+  where
+    go : (b : Bool) → samePair r x ≡ b → (length (those (samePair r) xs) ≡ 0 → lessPair r xs ≡ xs) → lessPair r (x ∷ xs) ≡ x ∷ xs
+    go true e later = absurd (omega (arith, h, ap length (those-yes (samePair r) x xs e)))
+    go false e later = less-no r x xs e ∙ ap (λ (l : List Record). x ∷ l) (later (rw (those-no (samePair r) x xs e) at h))
+
 -- ---- none twice
 
 pair-most : (x r : Record) → length (those (samePair x) (r ∷ [])) ≤ 1
@@ -54,7 +72,7 @@ pair-most x r = go (samePair x r) refl
 pub less-once : (r : Record) (xs : List Record) → Among r xs → EachOnce xs → EachOnce (lessPair r xs)
 less-once r xs m h x = omega (arith, h x, less-count (samePair x) r xs m)
 
-some-in : (x : Record) (ys : List Record) → 1 ≤ length (those (samePair x) ys) → Among x ys
+pub some-in : (x : Record) (ys : List Record) → 1 ≤ length (those (samePair x) ys) → Among x ys
 some-in x [] k = absurd (omega (arith, k, ap length (those-none (samePair x))))
 some-in x (y ∷ ys) k = go (samePair x y) refl (some-in x ys)
   where

@@ -2,4 +2,5 @@
 pub mod Force
 pub mod Shows
 pub mod Batch
+pub mod Apart
 pub mod History

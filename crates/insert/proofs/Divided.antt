@@ -9,6 +9,7 @@ use lib.ListN.{length, getD, take, length-append, length-map}
 use lib.Seq.{length-take-le}
 use lib.IntN.{ℤ}
 use borrow.Author.Tests.{lt-ltb, le-ltb}
+use Rattle.rules.specs.declared.Edition.{Edition}
 use Rattle.rules.specs.declared.Rect.{Rect}
 use Rattle.rules.specs.declared.SlotNumber.{SlotNumber}
 use Rattle.rules.specs.declared.Pointer.the-variants.{Child}
@@ -21,11 +22,12 @@ use Rattle.rules.specs.Choose.{rectFrom}
 use Rattle.rules.specs.Split.{coverGroup, quadraticGroups, halves, quadraticSplit}
 use Rattle.rules.specs.Insert.{Grown, Split, ours, splitInto, install}
 use Rattle.rules.specs.Layout.{read}
-use Rattle.rules_laws.proofs.Places.{Among, at-place, map-same}
+use Rattle.rules_laws.proofs.Places.{Among, at-place, map-same, each-append, each-of}
 use Rattle.split.specs.declared.Grouping.{Grouping}
 use Rattle.split.specs.State.{AllValid, GroupsWhole}
-use Rattle.layout_laws.specs.Slots.{Fit, SmallAll, KindAll}
+use Rattle.layout_laws.specs.Slots.{Fit, Small, SmallAll, KindOf, KindAll}
 use Rattle.layout_laws.proofs.Parts.{length-rects, rect-entry}
+use Rattle.layout_laws.proofs.Written.{Fine}
 use Rattle.free_slots.specs.declared.FreeSlots.{FreeSlots}
 use Rattle.free_slots.specs.Known.{Known, lessSlot}
 use Rattle.free_slots.proofs.LowestSlot.{lowest-at}
@@ -38,8 +40,7 @@ use Rattle.insert_laws.proofs.Install.{putTwo, all-fit, split-none, split-at, i
 use Rattle.insert.specs.declared.Growth.the-variants.{One, Two, Stuck}
 use Rattle.insert.specs.Left.{GrewTo}
 use Rattle.insert.specs.State.{Here, Fitted}
-use Rattle.nodes.proofs.Tight.{Stored}
-use Rattle.insert.proofs.Fitted.{fits-stored, fits-valid}
+use Rattle.insert.proofs.Fitted.{fits-small, fits-valid}
 
 all-fits : (p : Pool) (l : ℕ) (s : SlotNumber) (e : Entry) → Tree p l s → Fits p l e → (x : Entry) → Among x (entriesAt p s ++ e ∷ []) → Fits p l x
 all-fits p zero s e d f x m = absurd (no-tree p s d)
@@ -57,12 +58,15 @@ module _ {p : Pool} {s : SlotNumber} {e : Entry} (h : Here p s e) where
 
   -- the entries with the new one, each of which fits
   nine-fit : (i : ℕ) → i < length (entriesAt p s ++ e ∷ []) → Fits p (h .level) (getD (entriesAt p s ++ e ∷ []) i noEntry)
-  nine-fit i k = all-fits p (h .level) s e (h .tree) (h .fits) _ (at-place (entriesAt p s ++ e ∷ []) i noEntry k)
+  nine-fit i k = all-fits p (h .level) s e (h .tree) (h .goes .fits) _ (at-place (entriesAt p s ++ e ∷ []) i noEntry k)
 
   module _ (few : length (p .slots) ≤ mostSlots) where
     -- the new entry as words hold it
-    pub here-stored : Stored (nodeAt p s .level) (e .pointer)
-    here-stored = rw (here-node .level) (fits-stored p (h .level) e few (h .fits))
+    pub here-small : Small (e .pointer)
+    here-small = fits-small p (h .level) e few (h .goes .fits)
+
+    pub here-kind : (ed : Edition) → ed ≡ p .edition → KindOf ed (nodeAt p s .level) (e .pointer)
+    here-kind ed q = rw (q, here-node .level) (h .goes .kind)
 
     module _ (full : 8 ≤ length (entriesAt p s)) (es : List Entry) (is : es ≡ entriesAt p s ++ e ∷ []) where
       nine-long : length (entriesAt p s ++ e ∷ []) ≡ 9
@@ -71,15 +75,20 @@ module _ {p : Pool} {s : SlotNumber} {e : Entry} (h : Here p s e) where
       pub nine-length : length es ≡ 9
       nine-length = ap length is ∙ nine-long
 
-      nine-stored : (i : ℕ) → i < 9 → Stored (nodeAt p s .level) (getD es i noEntry .pointer)
-      nine-stored i k =
-          rw (here-node .level, is) (fits-stored p (h .level) (getD (entriesAt p s ++ e ∷ []) i noEntry) few (nine-fit i (omega (arith, nine-long))))
-
       pub nine-small : SmallAll es 9
-      nine-small = record { small = λ i k. nine-stored i k .small }
+      nine-small = record {
+        small = λ i k. rw is (fits-small p (h .level) (getD (entriesAt p s ++ e ∷ []) i noEntry) few (nine-fit i (omega (arith, nine-long))));
+      }
 
-      pub nine-kind : (level : ℕ) → level ≡ nodeAt p s .level → KindAll level es 9
-      nine-kind level q = rw q (record { kind = λ i k. nine-stored i k .kind })
+      -- those of the node are of its kind, as they were read; the new one is too
+      pub nine-kind : (ed : Edition) → ed ≡ p .edition → Fine ed (nodeAt p s) → (level : ℕ) → level ≡ nodeAt p s .level → KindAll ed level es 9
+      unfolding entriesAt
+      nine-kind ed q fine level l =
+          let all = each-append (λ (x : Entry). KindOf ed (nodeAt p s .level) (x .pointer)) (entriesAt p s) (e ∷ []) (fine .kinds) (here-kind ed q, tt) in
+          rw (l, is) (record {
+            kind = λ i k. each-of (λ (x : Entry). KindOf ed (nodeAt p s .level) (x .pointer)) all
+                (at-place (entriesAt p s ++ e ∷ []) i noEntry (omega (arith, nine-long)));
+          })
 
       pub nine-valid : (rs : List Rect) → rs ≡ rects es → AllValid rs
       nine-valid rs q = rw q (record {

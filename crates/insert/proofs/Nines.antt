@@ -7,6 +7,7 @@ use native.Mathlib.Omega.{arith}
 use lib.ListN.{length, getD, set, take, length-set, length-map, List·getD-map}
 use lib.Seq.{length-take-le, take-all, take-suc, take-suc-set, getD-take}
 use Rattle.rules.specs.declared.Rect.{Rect}
+use Rattle.rules.specs.declared.Edition.{Edition}
 use Rattle.rules.specs.declared.Entry.{Entry}
 use Rattle.rules.specs.Geometry.{noRect}
 use Rattle.rules.specs.Pool.{noEntry, entryFrom, rects}
@@ -86,5 +87,5 @@ module _ (es group : List Entry) (places : List ℕ) (n : ℕ) (long : n ≤ len
     pub group-small : SmallAll es 9 → SmallAll group n
     group-small a = record { small = λ i h. rw (group-at i h) (a .small (getD places i 0) (inside .inside i h)) }
 
-    pub group-kind : (level : ℕ) → KindAll level es 9 → KindAll level group n
-    group-kind level a = record { kind = λ i h. rw (group-at i h) (a .kind (getD places i 0) (inside .inside i h)) }
+    pub group-kind : (ed : Edition) (level : ℕ) → KindAll ed level es 9 → KindAll ed level group n
+    group-kind ed level a = record { kind = λ i h. rw (group-at i h) (a .kind (getD places i 0) (inside .inside i h)) }

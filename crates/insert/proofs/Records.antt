@@ -7,10 +7,11 @@ use Prim.Native.Nat.{ℕ, _+_, _≤_}
 use native.Mathlib.Omega.{arith}
 use lib.IntN.{ℤ}
 use Rattle.rules.specs.declared.Record.{Record}
-use Rattle.rules.specs.declared.Pointer.the-variants.{Number}
+use Rattle.rules.specs.declared.Edition.{Edition}
 use Rattle.rules.specs.Numbers.{goodNumber}
+use Rattle.rules.specs.Owners.{ownerSound}
 use Rattle.rules.specs.Geometry.{valid}
-use Rattle.rules.specs.Pool.{Pool, entry, leafEntry, putRecords}
+use Rattle.rules.specs.Pool.{Pool, ownerOf, leafEntry, putRecords}
 use Rattle.rules.specs.Insert.{Change, Done, NoneFree, ours, insertAt, insertRecord}
 use Rattle.rules.specs.Layout.{validLength, words, read}
 use Rattle.layout_laws.specs.Slots.{Fit}
@@ -27,7 +28,8 @@ use Rattle.insert_laws.proofs.Standing.{standing-once}
 use Rattle.insert_laws.proofs.Whole.{head-standing, whole-standing, record-fits}
 use Rattle.insert.specs.declared.Outcome.{Outcome}
 use Rattle.insert.specs.declared.Outcome.the-variants.{Made, Refused}
-use Rattle.insert.specs.Left.{Leaves, Upright}
+use Rattle.insert.specs.Left.{Leaves, MayGo, Upright}
+use Rattle.insert.proofs.Fitted.{fits-kind}
 use Rattle.nodes.proofs.Slots.{most-slots}
 
 -- ---- how many records there can be
@@ -67,26 +69,38 @@ module _ (w : List ℤ) (right : validLength w ≡ true) (h : Whole (read w)) (m
   pub head-known : (f : FreeSlots) → Known (read w) f → Known (read v) f
   head-known f k = subst⁻¹ (λ (p : Pool). Known p f) put (known-records (read w) f k m)
 
-  pub head-fits : (r : Record) → valid (r .rect) ≡ true → goodNumber (r .number) ≡ true → Fits (read v) 1 (entry (r .rect) (Number (r .number)))
-  unfolding leafEntry
+  head-fits : (r : Record) → valid (r .rect) ≡ true → goodNumber (r .number) ≡ true → Fits (read v) 1 (leafEntry r)
   head-fits r ok good = record-fits (read v) r ok good
+
+  edition-is : read v .edition ≡ read w .edition
+  unfolding putRecords
+  edition-is = ap (λ (q : Pool). q .edition) put
+
+  pub head-goes : (r : Record) → valid (r .rect) ≡ true → goodNumber (r .number) ≡ true → ownerSound (read w .edition) (r .owner) ≡ true
+      → MayGo (read v) 1 (leafEntry r)
+  unfolding leafEntry ownerOf
+  head-goes r ok good mine = record {
+    fits = head-fits r ok good;
+    kind = fits-kind (read v) 1 (leafEntry r) (head-fits r ok good)
+        (λ _. subst⁻¹ (λ (e : Edition). ownerSound e (r .owner) ≡ true) edition-is mine);
+  }
 
 -- ---- a record goes in, and is counted
 
 -- where it is refused, nothing was written since
-pub refused-fit : (r : Record) (v u : List ℤ) (o : Outcome) → Leaves v (insertAt ours 1 (read v) (entry (r .rect) (Number (r .number)))) o u → o ≡ Refused
+pub refused-fit : (r : Record) (v u : List ℤ) (o : Outcome) → Leaves v (insertAt ours 1 (read v) (leafEntry r)) o u → o ≡ Refused
     → Fit v → Fit u
 refused-fit r v u o leaves e f =
     subst⁻¹ Fit
-    (refused-is (insertAt ours 1 (read v) (entry (r .rect) (Number (r .number)))) v u
-    (subst (λ (x : Outcome). Leaves v (insertAt ours 1 (read v) (entry (r .rect) (Number (r .number)))) x u) e leaves) .1) f
+    (refused-is (insertAt ours 1 (read v) (leafEntry r)) v u
+    (subst (λ (x : Outcome). Leaves v (insertAt ours 1 (read v) (leafEntry r)) x u) e leaves) .1) f
 
 module _ (w : List ℤ) (r : Record) (n : ℕ) (is : n ≡ read w .records) (v : List ℤ) (put : read v ≡ putRecords (read w) (n + 1)) (o : Outcome) (u : List ℤ)
-    (leaves : Leaves v (insertAt ours 1 (read v) (entry (r .rect) (Number (r .number)))) o u) where
-  record-is : insertAt ours 1 (read v) (entry (r .rect) (Number (r .number))) ≡ insertRecord ours (read w) r
-  unfolding insertRecord leafEntry
+    (leaves : Leaves v (insertAt ours 1 (read v) (leafEntry r)) o u) where
+  record-is : insertAt ours 1 (read v) (leafEntry r) ≡ insertRecord ours (read w) r
+  unfolding insertRecord
   record-is =
-      ap (λ (p : Pool). insertAt ours 1 p (entry (r .rect) (Number (r .number))))
+      ap (λ (p : Pool). insertAt ours 1 p (leafEntry r))
       (put ∙ ap (λ (m : ℕ). putRecords (read w) (m + 1)) is)
 
   leaves-record : Leaves v (insertRecord ours (read w) r) o u
@@ -105,7 +119,7 @@ module _ (w : List ℤ) (r : Record) (n : ℕ) (is : n ≡ read w .records) (v :
 
     back-is : putRecords (putRecords (read w) (n + 1)) n ≡ read w
     unfolding putRecords
-    back-is i = record { root = read w .root; height = read w .height; records = is i; slots = read w .slots }
+    back-is i = record { edition = read w .edition; root = read w .root; height = read w .height; records = is i; slots = read w .slots }
 
     pub record-refused : Fit w → (z : List ℤ) → Fit z → read z ≡ putRecords (read u) n → Leaves w (insertRecord ours (read w) r) Refused z
     record-refused x z y back =

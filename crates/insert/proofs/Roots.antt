@@ -14,6 +14,7 @@ use borrow.Author.Tests.{ltb-true, ltb-false, le-ltb}
 use Rattle.rules.specs.declared.Rect.{Rect}
 use Rattle.rules.specs.declared.SlotNumber.{SlotNumber}
 use Rattle.rules.specs.declared.Pointer.the-variants.{Child}
+use Rattle.rules.specs.declared.Edition.{Edition}
 use Rattle.rules.specs.declared.Entry.{Entry}
 use Rattle.rules.specs.declared.FreeSlot.the-variants.{At, Nowhere}
 use Rattle.rules.specs.Numbers.{mostSlots}
@@ -22,7 +23,7 @@ use Rattle.rules.specs.Insert.{Grown, Kept, Split, Full, Change, Done, NoneFree
 use Rattle.rules.specs.Layout.{read}
 use Rattle.rules.specs.Room.{wayUp, fullRun, slotsNeeded}
 use Rattle.rules_laws.proofs.Splits.{ours-lawful}
-use Rattle.layout_laws.specs.Slots.{Fit, SmallAll, KindAll}
+use Rattle.layout_laws.specs.Slots.{Fit, SmallAll, KindOf, KindAll}
 use Rattle.free_slots.specs.declared.FreeSlots.{FreeSlots}
 use Rattle.free_slots.specs.Known.{Known, lessSlot}
 use Rattle.free_slots.proofs.Known.{known-less, known-head}
@@ -56,8 +57,8 @@ module _ (a b : Entry) (more : List Entry) (l : ℕ) (x : Stored l (a .pointer))
   pub two-small : SmallAll (a ∷ b ∷ more) 2
   two-small = record { small = λ i h. two-stored i h .small }
 
-  pub two-kind : KindAll l (a ∷ b ∷ more) 2
-  two-kind = record { kind = λ i h. two-stored i h .kind }
+  pub two-kind : (ed : Edition) → KindAll ed l (a ∷ b ∷ more) 2
+  two-kind ed = record { kind = λ i h. two-stored i h .kind ed }
 
 module _ {p : Pool} {x : Entry} (h : Beside p x) (few : length (p .slots) ≤ mostSlots) (root : SlotNumber) (top : root ≡ p .root)
     (height : ℕ) (high : height ≡ p .height) where
@@ -68,7 +69,7 @@ module _ {p : Pool} {x : Entry} (h : Beside p x) (few : length (p .slots) ≤ mo
   old-stored = child-stored (height + 1) root (omega (arith, h .high)) (omega (arith, beside-slot .high))
 
   pub partner-stored : Stored (height + 1) (x .pointer)
-  partner-stored = subst⁻¹ (λ (k : ℕ). Stored k (x .pointer)) (ap (λ (k : ℕ). k + 1) high ∙ add-one (p .height)) (fits-stored p (suc (p .height)) x few (h .fits))
+  partner-stored = subst⁻¹ (λ (k : ℕ). Stored k (x .pointer)) (ap (λ (k : ℕ). k + 1) high ∙ add-one (p .height)) (fits-stored p (suc (p .height)) x few (omega (arith, h .high)) (h .fits))
 
 module _ {w : List ℤ} {f : FreeSlots} (r : Fitted w f) (x : Entry) where
   abbrev p : Pool
@@ -185,13 +186,13 @@ module _ (p : Pool) (level : ℕ) (e : Entry) (u : Upright p) (low : level ≤ p
         good = fits-valid p level e f;
       }
 
-  pub root-goes : (n : ℕ) → n ≡ p .height - level → (root : SlotNumber) → root ≡ p .root → GoesDown p n root e
+  pub root-goes : KindOf (p .edition) level (e .pointer) → (n : ℕ) → n ≡ p .height - level → (root : SlotNumber) → root ≡ p .root → GoesDown p n root e
   unfolding root-way
-  root-goes n levels root top =
+  root-goes kind n levels root top =
       subst⁻¹ (λ (k : ℕ). GoesDown p k root e) levels (subst⁻¹ (λ (s : SlotNumber). GoesDown p (p .height - level) s e) top (record {
         way = root-way;
         once = subst (λ (k : ℕ). Once (slotsIn p k (p .root))) same (u .once);
-        fits = f;
+        goes = record { fits = f; kind = kind };
       }))
 
   pub enough-free : (count height : ℕ) → height ≡ p .height → height < count → false ≡ ltb count (slotsNeeded ours level p (e .rect))

@@ -34,8 +34,9 @@ use Rattle.insert_laws.proofs.Beside.{among-here, top-same}
 use Rattle.insert_laws.proofs.Widened.{below-cover}
 use Rattle.insert.specs.declared.Growth.{Growth}
 use Rattle.insert.specs.declared.Growth.the-variants.{One, Two, Stuck}
-use Rattle.insert.specs.Left.{HoldsPool, GrewTo}
+use Rattle.insert.specs.Left.{HoldsPool, GrewTo, MayGo}
 use Rattle.insert.specs.State.{Here, GoesDown, Fitted, grownOf, widened, Back}
+use Rattle.insert.proofs.Fitted.{fits-inner}
 use Rattle.insert.proofs.Ways as W
 
 -- ---- the words stand for what the definitions give
@@ -102,12 +103,16 @@ module _ (w : List ℤ) (s : SlotNumber) (i : ℕ) where
 
 -- ---- an entry goes down
 
+-- an inner entry is kept in any edition
+inner-goes : (p : Pool) (l : ℕ) (x : Entry) → G.Fits p (suc (suc l)) x → MayGo p (suc (suc l)) x
+inner-goes p l x f = record { fits = f; kind = fits-inner p l x f (p .edition) }
+
 module _ {p : Pool} {n : ℕ} {s : SlotNumber} {e : Entry} (h : GoesDown p n s e) where
   pub way-end : n ≡ 0 → Here p s e
   way-end z = record {
     level = h .way .level;
     tree = subst (λ (k : ℕ). Tree p k s) (omega arith) (h .way .tree);
-    fits = h .fits;
+    goes = h .goes;
     few = omega (arith, h .way .few);
   }
 
@@ -146,14 +151,14 @@ module _ {p : Pool} {n : ℕ} {s : SlotNumber} {e : Entry} (h : GoesDown p n s e
     down = record {
       way = W.down (h .way) more;
       once = subst (λ (k : ℕ). Once (slotsIn p k child)) (omega (arith, levels)) child-once;
-      fits = h .fits;
+      goes = h .goes;
     }
 
     -- ---- and back
 
     grew : G.Grows p (suc below) child (h .way .level) e (slotsIn p (suc below) child) (insertBelow ours (n - 1) p child e)
     grew =
-        below-grows ours ours-lawful p (h .way .level) e (h .fits) (n - 1) (suc below) child (omega (arith, levels)) (inner .child) child-once
+        below-grows ours ours-lawful p (h .way .level) e (h .goes .fits) (n - 1) (suc below) child (omega (arith, levels)) (inner .child) child-once
         (λ _. omega (arith, inner .enough))
 
     -- the node has not changed, and its entry leads to the child
@@ -184,7 +189,7 @@ module _ {p : Pool} {n : ℕ} {s : SlotNumber} {e : Entry} (h : GoesDown p n s e
     kept-back q f v is a b =
         let many : least ≤ length (entriesAt q child) = omega (arith, inner .enough, a .3) in
         let wide =
-        below-cover ours ours-lawful p (h .way .level) e (h .fits) (n - 1) (suc below) child (omega (arith, levels)) (inner .child) child-once
+        below-cover ours ours-lawful p (h .way .level) e (h .goes .fits) (n - 1) (suc below) child (omega (arith, levels)) (inner .child) child-once
         (omega (arith, inner .enough)) q is (omega (arith, many)) in
         let old = same-entry q (a .1) (omega arith) many in (
           holds-ready b,
@@ -202,7 +207,7 @@ module _ {p : Pool} {n : ℕ} {s : SlotNumber} {e : Entry} (h : GoesDown p n s e
           subst⁻¹ (λ (u : Pool). Here (tighten u s at) s y) (b .is) (subst⁻¹ (Here (tighten q s at) s) z (record {
             level = suc (suc below);
             tree = t .tree;
-            fits = t .fit x (List·Memᴰ·head refl);
+            goes = inner-goes (tighten q s at) below x (t .fit x (List·Memᴰ·head refl));
             few = omega (arith, h .way .few, levels);
           })),
         )

@@ -19,6 +19,7 @@ use Rattle.free_slots.specs.declared.FreeSlots.{FreeSlots}
 use Rattle.free_slots.specs.Known.{Known}
 use Rattle.sound_laws.specs.Tree.{slotsIn, Once, Slot, Tree}
 use Rattle.insert_laws.specs.Grown.{Fits}
+use Rattle.insert.specs.Left.{MayGo}
 use Rattle.insert.specs.declared.Growth.{Growth}
 use Rattle.insert.specs.declared.Growth.the-variants.{One, Two, Stuck}
 
@@ -31,7 +32,7 @@ pub record Inside (places : List ℕ) (n : ℕ) : Type 0 where
 pub record Here (p : Pool) (s : SlotNumber) (e : Entry) : Type 0 where
   pub level : ℕ
   pub tree : Tree p level s
-  pub fits : Fits p level e
+  pub goes : MayGo p level e
   pub few : level ≤ 64
 
 -- the node at s is the top of a tree of n levels and more: a rectangle comes from there to a node n levels below
@@ -47,7 +48,7 @@ pub record WayDown (p : Pool) (n : ℕ) (s : SlotNumber) (new : Rect) : Type 0 w
 pub record GoesDown (p : Pool) (n : ℕ) (s : SlotNumber) (e : Entry) : Type 0 where
   pub way : WayDown p n s (e .rect)
   pub once : Once (slotsIn p (n + way .level) s)
-  pub fits : Fits p (way .level) e
+  pub goes : MayGo p (way .level) e
 
 -- the other entry may be beside the root's own in a new root
 pub record Beside (p : Pool) (x : Entry) : Type 0 where

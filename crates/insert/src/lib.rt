@@ -8,6 +8,7 @@ ghost use lib.ListN.{length, take};
 ghost use Rattle.rules.specs.declared.FreeSlot.the-variants.{At};
 ghost use Rattle.rules.specs.Numbers.{goodNumber};
 ghost use Rattle.rules.specs.Geometry.{valid};
+ghost use Rattle.rules.specs.Owners.{ownerSound};
 ghost use Rattle.rules.specs.Layout as L;
 ghost use Rattle.rules.specs.Pool as P;
 ghost use Rattle.rules.specs.Insert as I;
@@ -17,7 +18,7 @@ ghost use Rattle.nodes.specs.Reading.{LeadsOn};
 ghost use Rattle.free_slots.specs.Known.{Known};
 ghost use Rattle.sound_laws.specs.Tree.{Whole};
 ghost use Rattle.insert_laws.specs.Grown.{Fits};
-ghost use Rattle.insert.specs.Left.{GrewTo, Leaves, Upright};
+ghost use Rattle.insert.specs.Left.{GrewTo, Leaves, MayGo, Upright};
 ghost use Rattle.insert.specs.State.{Inside, Here, WayDown, GoesDown, Beside, Fitted, grownOf, widened, Back, Risen};
 use free_slots::FreeSlots;
 use rules::Entry;
@@ -108,7 +109,7 @@ fn put_group(
     requires { ⌜ length es ≡ 9 ⌝ }
     requires { ⌜ Inside places n ⌝ }
     requires { ⌜ SmallAll es 9 ⌝ }
-    requires { ⌜ KindAll level es 9 ⌝ }
+    requires { ⌜ KindAll (L.editionOf (now pool)) level es 9 ⌝ }
     ensures is { λ _. ⌜ L.read (now (pool .exit)) ≡ P.putNode (L.read (now (pool .entry))) s (P.node level (map (P.entryFrom es) (take n places))) ⌝ }
     ensures fit { λ _. ⌜ Fit (now (pool .exit)) ⌝ }
 {
@@ -325,7 +326,7 @@ pub fn insert_at(pool: &mut [i32], level: usize, e: Entry, free: FreeSlots) -> O
     requires { ⌜ Fit (now pool) ⌝ }
     requires { ⌜ Upright (L.read (now pool)) ⌝ }
     requires { ⌜ (level ≤ L.read (now pool) .height) × (L.read (now pool) .height ≤ 64) ⌝ }
-    requires { ⌜ Fits (L.read (now pool)) level e ⌝ }
+    requires { ⌜ MayGo (L.read (now pool)) level e ⌝ }
     requires { ⌜ Known (L.read (now pool)) free ⌝ }
     ensures { λ r. ⌜ Leaves (now (pool .entry)) (I.insertAt I.ours level (L.read (now (pool .entry))) e) r (now (pool .exit)) ⌝ }
 {
@@ -342,7 +343,7 @@ pub fn insert_at(pool: &mut [i32], level: usize, e: Entry, free: FreeSlots) -> O
 pub fn insert_record(pool: &mut [i32], r: Record, free: FreeSlots) -> Outcome
     requires { ⌜ Fit (now pool) ⌝ }
     requires { ⌜ Whole (L.read (now pool)) ⌝ }
-    requires { ⌜ (valid (r .rect) ≡ true) × (goodNumber (r .number) ≡ true) ⌝ }
+    requires { ⌜ (valid (r .rect) ≡ true) × (goodNumber (r .number) ≡ true) × (ownerSound (L.read (now pool) .edition) (r .owner) ≡ true) ⌝ }
     requires { ⌜ Known (L.read (now pool)) free ⌝ }
     ensures { λ o. ⌜ Leaves (now (pool .entry)) (I.insertRecord I.ours (L.read (now (pool .entry))) r) o (now (pool .exit)) ⌝ }
 {
@@ -351,9 +352,10 @@ pub fn insert_record(pool: &mut [i32], r: Record, free: FreeSlots) -> Outcome
     pool::put_records(pool, counted);
     let rect = r.rect;
     let number = r.number;
+    let owner = r.owner;
     let e = Entry {
         rect,
-        pointer: Pointer::Number(number),
+        pointer: Pointer::Number(number, owner),
     };
     let outcome = insert_at(pool, 1, e, free);
     match outcome {

@@ -8,6 +8,7 @@ pub mod Beside
 pub mod Tighten
 pub mod Below
 pub mod Root
+pub mod Lasting
 pub mod Standing
 pub mod Whole
 pub mod Runs

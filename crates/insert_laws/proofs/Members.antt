@@ -19,21 +19,26 @@ use Rattle.sound_laws.proofs.Same.{same-is, same-rect, same-slot}
 
 -- the same pointer, the same entry
 samePointer : Pointer → Pointer → Bool
-samePointer (Number m) (Number n) = same (m .0) (n .0)
-samePointer (Number m) (Child t) = false
-samePointer (Child s) (Number n) = false
+samePointer (Number m a) (Number n b) = same (m .0) (n .0) && same (a .0) (b .0)
+samePointer (Number m a) (Child t) = false
+samePointer (Child s) (Number n b) = false
 samePointer (Child s) (Child t) = sameSlot s t
 
 pointer-to : (x y : Pointer) → samePointer x y ≡ true → x ≡ y
 unfolding samePointer
-pointer-to (Number m) (Number n) h = let e = same-is (m .0) (n .0) .0 h in λ i. Number (record { 0 = e i })
-pointer-to (Number m) (Child t) h = let z : _≡_ {A = ℕ} 0 1 = cc in absurd (omega arith)
-pointer-to (Child s) (Number n) h = let z : _≡_ {A = ℕ} 0 1 = cc in absurd (omega arith)
+pointer-to (Number m a) (Number n b) h =
+    let q = and-both (same (m .0) (n .0)) (same (a .0) (b .0)) h in
+    let e = same-is (m .0) (n .0) .0 (q .0) in
+    let f = same-is (a .0) (b .0) .0 (q .1) in
+    λ i. Number (record { 0 = e i }) (record { 0 = f i })
+pointer-to (Number m a) (Child t) h = let z : _≡_ {A = ℕ} 0 1 = cc in absurd (omega arith)
+pointer-to (Child s) (Number n b) h = let z : _≡_ {A = ℕ} 0 1 = cc in absurd (omega arith)
 pointer-to (Child s) (Child t) h = ap Child (same-slot s t .0 h)
 
 pointer-self : (x : Pointer) → samePointer x x ≡ true
 unfolding samePointer
-pointer-self (Number m) = same-is (m .0) (m .0) .1 refl
+pointer-self (Number m a) =
+    both-and (same (m .0) (m .0)) (same (a .0) (a .0)) (same-is (m .0) (m .0) .1 refl) (same-is (a .0) (a .0) .1 refl)
 pointer-self (Child s) = same-slot s s .1 refl
 
 sameEntry : Entry → Entry → Bool

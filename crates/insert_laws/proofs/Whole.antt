@@ -12,7 +12,7 @@ use Rattle.rules.specs.declared.Record.{Record}
 use Rattle.rules.specs.Lists.{those}
 use Rattle.rules.specs.Numbers.{goodNumber}
 use Rattle.rules.specs.Geometry.{valid}
-use Rattle.rules.specs.Pool.{Pool, nodeAt, entriesAt, numberOf, recordOf, leafEntry, stored, putRecords}
+use Rattle.rules.specs.Pool.{Pool, nodeAt, entriesAt, numberOf, ownerOf, recordOf, leafEntry, stored, putRecords}
 use Rattle.rules.specs.Sound.{soundPool}
 use Rattle.rules.specs.Insert.{Choice, Done, insertAt, insertRecord}
 use Rattle.rules.specs.Lawful.{Lawful}
@@ -112,7 +112,7 @@ unfolding leafEntry numberOf
 record-leaf r v n = record { rect = v; number = n }
 
 under-record : (p : Pool) (r : Record) → recordsUnder p 1 (leafEntry r) ≡ r ∷ []
-unfolding recordsUnder recordOf leafEntry numberOf
+unfolding recordsUnder recordOf leafEntry numberOf ownerOf
 under-record p r = refl
 
 -- the pool that the record goes into, which counts it already

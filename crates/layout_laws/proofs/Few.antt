@@ -23,7 +23,7 @@ stored-few w =
       length-map (joined (map entries (those isLeaf (read w .slots)))) recordOf,
       joined-length entries (those isLeaf (read w .slots)),
       total-most (λ n. length (entries n)) 8 (those isLeaf (read w .slots))
-          (λ n m. each-of Fine (read-fine w) (among-those isLeaf n (read w .slots) .0 m .0) .few),
+          (λ n m. each-of (Fine (read w .edition)) (read-fine w) (among-those isLeaf n (read w .slots) .0 m .0) .few),
       those-fewer isLeaf (read w .slots),
       read-slots w,
     )

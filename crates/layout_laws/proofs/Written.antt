@@ -9,117 +9,157 @@ use lib.ListN.{length, getD, set, take, drop, length-append, length-take, length
 use lib.Seq.{sets, length-sets, drop-at}
 use lib.Dec.{eqb}
 use lib.IntN.{ℤ, pos}
+use Rattle.rules.specs.declared.Edition.{Edition}
+use Rattle.rules.specs.declared.Edition.the-variants.{One, Two}
 use Rattle.rules.specs.declared.SlotNumber.{SlotNumber}
 use Rattle.rules.specs.declared.Pointer.{Pointer}
 use Rattle.rules.specs.declared.Pointer.the-variants.{Number, Child}
 use Rattle.rules.specs.declared.Entry.{Entry}
 use Rattle.rules.specs.Lists.{joined}
-use Rattle.rules.specs.Pool.{Node, Pool, slot, number, node, noEntry, childOf, isLeaf, putNode, putRoot, putRecords}
+use Rattle.rules.specs.Pool.{Node, Pool, slot, number, node, noEntry, nodeAt, childOf, isLeaf, putNode, putRoot, putRecords}
 use Rattle.rules.specs.Numbers.{most}
-use Rattle.rules.specs.Layout.{headSize, rootPlace, heightPlace, recordsPlace, rectSize, entrySize, slotHead, slotSize, slotStart, slotCount, validLength, pointerWord, entryWords}
-use Rattle.rules.specs.Layout.{padded, nodeWords, headWords, words, natural, wordAt, runs, rectOf, pointerOf, entryOf, nodeOf, read}
+use Rattle.rules.specs.Lists.{same}
+use Rattle.rules.specs.Owners.{editionNumber, owner}
+use Rattle.rules.specs.Layout.{headSize, editionPlace, rootPlace, heightPlace, recordsPlace, rectSize, entrySize, slotHead, slotSize, slotStart}
+use Rattle.rules.specs.Layout.{slotsIn, validSize, editionOf, slotCount, validLength, pointerWord, ownerWord, ownerWords, entryWords}
+use Rattle.rules.specs.Layout.{padded, nodeWords, headWords, words, natural, wordAt, runs, rectOf, pointerOf, ownerAt, entryOf, nodeOf, read}
 use Rattle.rules_laws.proofs.Places.{Each}
-use Rattle.layout_laws.specs.Slots.{InPool, Fit, KindAll}
-use Rattle.layout_laws.proofs.Parts.{node-count, length-runs}
+use Rattle.layout_laws.specs.Slots.{InPool, Fit, ownerKept, KindOf, KindAll}
+use Rattle.layout_laws.proofs.Parts.{slotWords, slot-node, node-count, length-runs}
 use Rattle.layout_laws.proofs.Runs.{zeros, Wide, wide-at, map-wide, map-set, length-parts, runs-joined, sets-right, sets-all, sets-joined}
 use Rattle.layout_laws.proofs.Padded.{placed, unplaced, placed-size, placed-is, placed-back}
 
 -- ---- a node
 
--- the pointer is of the level's kind
-abbrev pub Kind : ℕ → Entry → Type 0
-Kind l e = pointerOf l (pointerWord (e .pointer)) ≡ e .pointer
-
--- a node that a slot can hold
-pub record Fine (n : Node) : Type 0 where
+-- a node that a slot of the edition can hold
+pub record Fine (e : Edition) (n : Node) : Type 0 where
   pub few : length (n .entries) ≤ most
-  pub kinds : Each (Kind (n .level)) (n .entries)
+  pub kinds : Each (λ (x : Entry). KindOf e (n .level) (x .pointer)) (n .entries)
 
-entry-back : (l : ℕ) (e : Entry) → Kind l e → entryOf l (entryWords e) ≡ e
+-- an owner is kept, and read back
+owner-back : (e : Edition) (x : Entry) → ownerAt e (entryWords e x) ≡ ownerKept e (ownerWord (x .pointer))
+unfolding ownerAt entryWords ownerWords ownerKept wordAt
+owner-back One x = refl
+owner-back Two x = refl
+
+entry-back : (e : Edition) (l : ℕ) (x : Entry) → KindOf e l (x .pointer) → entryOf e l (entryWords e x) ≡ x
 unfolding entryOf entryWords rectOf wordAt
-entry-back l e k = λ i. record { rect = e .rect; pointer = k i }
+entry-back e l x k = λ i. record { rect = x .rect; pointer = (ap (pointerOf l (pointerWord (x .pointer))) (owner-back e x) ∙ k) i }
 
-entries-back : (l : ℕ) (es : List Entry) → Each (Kind l) es → map (entryOf l) (map entryWords es) ≡ es
-entries-back l [] k = refl
-entries-back l (e ∷ es) k = ap₂ (λ (a : Entry) (b : List Entry). a ∷ b) (entry-back l e (k .0)) (entries-back l es (k .1))
+entries-back : (e : Edition) (l : ℕ) (es : List Entry) → Each (λ (x : Entry). KindOf e l (x .pointer)) es → map (entryOf e l) (map (entryWords e) es) ≡ es
+entries-back e l [] k = refl
+entries-back e l (x ∷ es) k = ap₂ (λ (a : Entry) (b : List Entry). a ∷ b) (entry-back e l x (k .0)) (entries-back e l es (k .1))
 
-pub entry-size : (e : Entry) → length (entryWords e) ≡ entrySize
-unfolding entryWords
-entry-size e = refl
+pub entry-size : (e : Edition) (x : Entry) → length (entryWords e x) ≡ entrySize e
+unfolding entryWords ownerWords
+entry-size One x = refl
+entry-size Two x = refl
 
-pub entry-wide : (es : List Entry) → Wide entrySize (map entryWords es)
-entry-wide = map-wide entrySize entryWords entry-size
+pub entry-wide : (e : Edition) (es : List Entry) → Wide (entrySize e) (map (entryWords e) es)
+entry-wide e = map-wide (entrySize e) (entryWords e) (entry-size e)
 
 -- the words of a node's places: those of its entries, and zeros after them
-abbrev pub placeWords : List Entry → List ℤ
-placeWords es = placed entrySize most entryWords entry-size es
+abbrev pub placeWords : Edition → List Entry → List ℤ
+placeWords e es = placed (entrySize e) most (entryWords e) (entry-size e) es
 
 -- how many words the places have that no entry is in
-abbrev pub unused : List Entry → ℕ
-unused es = unplaced entrySize most entryWords entry-size es
+abbrev pub unused : Edition → List Entry → ℕ
+unused e es = unplaced (entrySize e) most (entryWords e) (entry-size e) es
 
-pub padded-is : (es : List Entry) → length es ≤ most → placeWords es ≡ joined (map entryWords es) ++ zeros (unused es)
-padded-is = placed-is entrySize most entryWords entry-size
+pub padded-is : (e : Edition) (es : List Entry) → length es ≤ most → placeWords e es ≡ joined (map (entryWords e) es) ++ zeros (unused e es)
+padded-is e = placed-is (entrySize e) most (entryWords e) (entry-size e)
 
-pub node-size : (n : Node) → length (nodeWords n) ≡ slotSize
+pub node-size : (e : Edition) (n : Node) → length (nodeWords e n) ≡ slotSize e
 unfolding nodeWords
-node-size n = omega (arith, placed-size entrySize most entryWords entry-size (n .entries))
+node-size e n = omega (arith, placed-size (entrySize e) most (entryWords e) (entry-size e) (n .entries))
 
-pub node-back : {n : Node} → Fine n → nodeOf (nodeWords n) ≡ n
+pub node-back : {e : Edition} {n : Node} → Fine e n → nodeOf e (nodeWords e n) ≡ n
 unfolding nodeOf nodeWords natural wordAt
-node-back {n} f = λ i. record { level = n .level; entries = same i }
+node-back {e} {n} f = λ i. record { level = n .level; entries = same i }
   where
-    same : map (entryOf (n .level)) (take (length (n .entries)) (runs entrySize most (placeWords (n .entries)))) ≡ n .entries
+    same : map (entryOf e (n .level)) (take (length (n .entries)) (runs (entrySize e) most (placeWords e (n .entries)))) ≡ n .entries
     same =
-        ap (map (entryOf (n .level))) (placed-back entrySize most entryWords entry-size (n .entries) (f .few))
-        ∙ entries-back (n .level) (n .entries) (f .kinds)
+        ap (map (entryOf e (n .level))) (placed-back (entrySize e) most (entryWords e) (entry-size e) (n .entries) (f .few))
+        ∙ entries-back e (n .level) (n .entries) (f .kinds)
 
 -- ---- a pool
 
--- a pool whose nodes slots can hold
+-- a pool whose nodes its slots can hold
 abbrev pub AllFine : Pool → Type 0
-AllFine p = Each Fine (p .slots)
+AllFine p = Each (Fine (p .edition)) (p .slots)
 
-pub node-wide : (ns : List Node) → Wide slotSize (map nodeWords ns)
-node-wide = map-wide slotSize nodeWords node-size
+pub node-wide : (e : Edition) (ns : List Node) → Wide (slotSize e) (map (nodeWords e) ns)
+node-wide e = map-wide (slotSize e) (nodeWords e) (node-size e)
 
-nodes-back : (ns : List Node) → Each Fine ns → map nodeOf (map nodeWords ns) ≡ ns
-nodes-back [] f = refl
-nodes-back (n ∷ ns) f = ap₂ (λ (a : Node) (b : List Node). a ∷ b) (node-back (f .0)) (nodes-back ns (f .1))
+nodes-back : (e : Edition) (ns : List Node) → Each (Fine e) ns → map (nodeOf e) (map (nodeWords e) ns) ≡ ns
+nodes-back e [] f = refl
+nodes-back e (n ∷ ns) f = ap₂ (λ (a : Node) (b : List Node). a ∷ b) (node-back (f .0)) (nodes-back e ns (f .1))
 
 pub head-size : (p : Pool) → length (headWords p) ≡ headSize
 unfolding headWords padded
 head-size p = refl
 
-slots-after-head : (p : Pool) → drop headSize (words p) ≡ joined (map nodeWords (p .slots))
+slots-after-head : (p : Pool) → drop headSize (words p) ≡ joined (map (nodeWords (p .edition)) (p .slots))
 unfolding words
-slots-after-head p = drop-at (headWords p) (joined (map nodeWords (p .slots))) headSize (head-size p)
+slots-after-head p = drop-at (headWords p) (joined (map (nodeWords (p .edition)) (p .slots))) headSize (head-size p)
+
+-- word 0 tells the edition
+edition-word : (p : Pool) → wordAt (words p) editionPlace ≡ pos (editionNumber (p .edition))
+unfolding words headWords padded wordAt
+edition-word p = refl
+
+edition-back : (e : Edition) (w : List ℤ) → wordAt w editionPlace ≡ pos (editionNumber e) → editionOf w ≡ e
+unfolding editionOf editionNumber same
+edition-back One w q = rw (editionOf, q) refl
+edition-back Two w q = rw (editionOf, q) refl
+
+pub words-edition : (p : Pool) → editionOf (words p) ≡ p .edition
+words-edition p = edition-back (p .edition) (words p) (edition-word p)
+
+-- as many slots as fit
+slots-fit : (e : Edition) (n m : ℕ) → n ≡ headSize + slotSize e * m → slotsIn e n ≡ m
+unfolding slotsIn
+slots-fit One n m q = omega arith
+slots-fit Two n m q = omega arith
 
 module _ (p : Pool) where
   abbrev slotLists : List (List ℤ)
-  slotLists = map nodeWords (p .slots)
+  slotLists = map (nodeWords (p .edition)) (p .slots)
 
   lists : length slotLists ≡ length (p .slots)
-  lists = length-map (p .slots) nodeWords
+  lists = length-map (p .slots) (nodeWords (p .edition))
 
-  pub words-size : length (words p) ≡ headSize + slotSize * length (p .slots)
+  pub words-size : length (words p) ≡ headSize + slotSize (p .edition) * length (p .slots)
   unfolding words
-  words-size = omega (arith, length-append (headWords p) (joined slotLists), head-size p, length-parts slotSize nodeWords node-size (p .slots))
+  words-size =
+      omega (
+        arith,
+        length-append (headWords p) (joined slotLists),
+        head-size p,
+        length-parts (slotSize (p .edition)) (nodeWords (p .edition)) (node-size (p .edition)) (p .slots),
+      )
 
   pub words-slots : slotCount (words p) ≡ length (p .slots)
   unfolding slotCount
-  words-slots = omega (arith, words-size)
+  words-slots = ap (λ (e : Edition). slotsIn e (length (words p))) (words-edition p) ∙ slots-fit (p .edition) (length (words p)) (length (p .slots)) words-size
 
-  slots-back : AllFine p → map nodeOf (runs slotSize (slotCount (words p)) (drop headSize (words p))) ≡ p .slots
-  slots-back f =
-      ap (map nodeOf)
-      (ap₂ (runs slotSize) (words-slots ∙ sym lists) (slots-after-head p ∙ sym (append-nil (joined slotLists)))
-      ∙ runs-joined slotSize slotLists (node-wide (p .slots)) [])
-      ∙ nodes-back (p .slots) f
+  slots-back : AllFine p → (e : Edition) → e ≡ p .edition → map (nodeOf e) (runs (slotSize e) (slotCount (words p)) (drop headSize (words p))) ≡ p .slots
+  slots-back f e q =
+      ap (λ (x : Edition). map (nodeOf x) (runs (slotSize x) (slotCount (words p)) (drop headSize (words p)))) q
+      ∙ ap (map (nodeOf (p .edition)))
+      (ap₂ (runs (slotSize (p .edition))) (words-slots ∙ sym lists) (slots-after-head p ∙ sym (append-nil (joined slotLists)))
+      ∙ runs-joined (slotSize (p .edition)) slotLists (node-wide (p .edition) (p .slots)) [])
+      ∙ nodes-back (p .edition) (p .slots) f
 
   pub read-words : AllFine p → read (words p) ≡ p
   unfolding read words headWords padded natural wordAt
-  read-words f = λ i. record { root = p .root; height = p .height; records = p .records; slots = slots-back f i }
+  read-words f = λ i. record {
+    edition = words-edition p i;
+    root = p .root;
+    height = p .height;
+    records = p .records;
+    slots = slots-back f (editionOf (words p)) (words-edition p) i;
+  }
 
 -- ---- a node written into its slot
 
@@ -127,78 +167,102 @@ pub same-head : (p : Pool) (s : SlotNumber) (n : Node) → headWords p ≡ headW
 unfolding putNode headWords
 same-head p s n = refl
 
-pub words-put : (p : Pool) (s : SlotNumber) (n : Node) → 1 ≤ s .0 → s .0 ≤ length (p .slots) → sets (words p) (slotStart s) (nodeWords n) ≡ words (putNode p s n)
+pub words-put : (p : Pool) (s : SlotNumber) (n : Node) → 1 ≤ s .0 → s .0 ≤ length (p .slots)
+    → sets (words p) (slotStart (p .edition) s) (nodeWords (p .edition) n) ≡ words (putNode p s n)
 unfolding words putNode
 words-put p s n low high =
-    let ls = map nodeWords (p .slots) in
+    let e = p .edition in
+    let ns = nodeWords e n in
+    let ls = map (nodeWords e) (p .slots) in
     let m = s .0 - 1 in
-    let inside : m < length ls = omega (arith, length-map (p .slots) nodeWords) in
-    let here : slotStart s ≡ length (headWords p) + (slotSize * m + 0) = omega (arith, head-size p) in
-    let fits : 0 + length (nodeWords n) ≤ slotSize = omega (arith, node-size n) in
-    let whole : length (nodeWords n) ≡ length (getD ls m []) = node-size n ∙ sym (wide-at slotSize ls m (node-wide (p .slots)) inside) in
-    ap (λ (k : ℕ). sets (headWords p ++ joined ls) k (nodeWords n)) here
-    ∙ sets-right (nodeWords n) (headWords p) (joined ls) (slotSize * m + 0)
+    let inside : m < length ls = omega (arith, length-map (p .slots) (nodeWords e)) in
+    let here : slotStart e s ≡ length (headWords p) + (slotSize e * m + 0) = omega (arith, head-size p) in
+    let fits : 0 + length ns ≤ slotSize e = omega (arith, node-size e n) in
+    let whole : length ns ≡ length (getD ls m []) = node-size e n ∙ sym (wide-at (slotSize e) ls m (node-wide e (p .slots)) inside) in
+    ap (λ (k : ℕ). sets (headWords p ++ joined ls) k ns) here
+    ∙ sets-right ns (headWords p) (joined ls) (slotSize e * m + 0)
     ∙ ap (λ (l : List ℤ). headWords p ++ l)
-    (sets-joined slotSize ls (node-wide (p .slots)) m 0 (nodeWords n) inside fits
-    ∙ ap joined (ap (set ls m) (sets-all (getD ls m []) (nodeWords n) whole) ∙ map-set nodeWords (p .slots) m n))
-    ∙ ap (λ (h : List ℤ). h ++ joined (map nodeWords (set (p .slots) m n))) (same-head p s n)
+    (sets-joined (slotSize e) ls (node-wide e (p .slots)) m 0 ns inside fits
+    ∙ ap joined (ap (set ls m) (sets-all (getD ls m []) ns whole) ∙ map-set (nodeWords e) (p .slots) m n))
+    ∙ ap (λ (h : List ℤ). h ++ joined (map (nodeWords e) (set (p .slots) m n))) (same-head p s n)
 
 -- ---- what is read
 
-number-word : (z : ℤ) → pointerWord (Number (number z)) ≡ z
+number-word : (z o : ℤ) → pointerWord (Number (number z) (owner o)) ≡ z
 unfolding pointerWord
-number-word z = refl
+number-word z o = refl
+
+owner-of-number : (z o : ℤ) → ownerWord (Number (number z) (owner o)) ≡ o
+unfolding ownerWord
+owner-of-number z o = refl
 
 child-word : (z : ℤ) → Child (slot (natural (pointerWord (Child (slot (natural z)))))) ≡ Child (slot (natural z))
 unfolding pointerWord natural
 child-word z = refl
 
--- the length alone decides whether it is valid
-pub right-same : (v w : List ℤ) → length v ≡ length w → validLength w ≡ true → validLength v ≡ true
-unfolding validLength slotCount
-right-same v w e r = rw e r
+-- the length and word 0 alone decide whether it is valid
+pub right-same : (v w : List ℤ) → length v ≡ length w → editionOf v ≡ editionOf w → validLength w ≡ true → validLength v ≡ true
+unfolding validLength
+right-same v w long same r = ap₂ validSize same long ∙ r
 
-pub pointer-number : (l : ℕ) (z : ℤ) → eqb l 1 ≡ true → pointerOf l z ≡ Number (number z)
+pub pointer-number : (l : ℕ) (z o : ℤ) → eqb l 1 ≡ true → pointerOf l z o ≡ Number (number z) (owner o)
 unfolding pointerOf
-pointer-number l z e = rw (pointerOf, e)
+pointer-number l z o e = rw (pointerOf, e)
 
-pub pointer-child : (l : ℕ) (z : ℤ) → eqb l 1 ≡ false → pointerOf l z ≡ Child (slot (natural z))
+pub pointer-child : (l : ℕ) (z o : ℤ) → eqb l 1 ≡ false → pointerOf l z o ≡ Child (slot (natural z))
 unfolding pointerOf
-pointer-child l z e = rw (pointerOf, e)
+pointer-child l z o e = rw (pointerOf, e)
+
+-- what an entry of the edition has for an owner, it keeps
+pub owner-kept : (e : Edition) (ws : List ℤ) → ownerKept e (ownerAt e ws) ≡ ownerAt e ws
+unfolding ownerKept ownerAt
+owner-kept One ws = refl
+owner-kept Two ws = refl
 
 -- a pointer that is read is of its level's kind
-pointer-kind : (l : ℕ) (z : ℤ) → pointerOf l (pointerWord (pointerOf l z)) ≡ pointerOf l z
-pointer-kind l z = go (eqb l 1) refl
+pointer-kind : (e : Edition) (l : ℕ) (z : ℤ) (ws : List ℤ) → KindOf e l (pointerOf l z (ownerAt e ws))
+pointer-kind e l z ws = go (eqb l 1) refl
   where
-    go : (t : Bool) → eqb l 1 ≡ t → pointerOf l (pointerWord (pointerOf l z)) ≡ pointerOf l z
-    go true e = ap (pointerOf l) (ap pointerWord (pointer-number l z e) ∙ number-word z)
-    go false e =
-        ap (λ q. pointerOf l (pointerWord q)) (pointer-child l z e) ∙ pointer-child l (pointerWord (Child (slot (natural z)))) e
-        ∙ child-word z ∙ sym (pointer-child l z e)
+    o : ℤ
+    o = ownerAt e ws
 
-entry-kinds : (l : ℕ) (xs : List (List ℤ)) → Each (Kind l) (map (entryOf l) xs)
+    kept : Pointer → Pointer
+    kept q = pointerOf l (pointerWord q) (ownerKept e (ownerWord q))
+
+    go : (t : Bool) → eqb l 1 ≡ t → kept (pointerOf l z o) ≡ pointerOf l z o
+    go true q =
+        ap kept (pointer-number l z o q)
+        ∙ ap₂ (pointerOf l) (number-word z o) (ap (ownerKept e) (owner-of-number z o) ∙ owner-kept e ws)
+    go false q =
+        let child = Child (slot (natural z)) in
+        ap kept (pointer-child l z o q) ∙ pointer-child l (pointerWord child) (ownerKept e (ownerWord child)) q
+        ∙ child-word z ∙ sym (pointer-child l z o q)
+
+entry-kinds : (e : Edition) (l : ℕ) (xs : List (List ℤ)) → Each (λ (x : Entry). KindOf e l (x .pointer)) (map (entryOf e l) xs)
 unfolding entryOf
-entry-kinds l [] = tt
-entry-kinds l (x ∷ xs) = (pointer-kind l (wordAt x rectSize), entry-kinds l xs)
+entry-kinds e l [] = tt
+entry-kinds e l (x ∷ xs) = (pointer-kind e l (wordAt x rectSize) x, entry-kinds e l xs)
 
-read-kinds : (ws : List ℤ) → Each (Kind (nodeOf ws .level)) (nodeOf ws .entries)
+read-kinds : (e : Edition) (ws : List ℤ) → Each (λ (x : Entry). KindOf e (nodeOf e ws .level) (x .pointer)) (nodeOf e ws .entries)
 unfolding nodeOf
-read-kinds ws = entry-kinds (natural (wordAt ws 0)) (take (natural (wordAt ws 1)) (runs entrySize most (drop slotHead ws)))
+read-kinds e ws = entry-kinds e (natural (wordAt ws 0)) (take (natural (wordAt ws 1)) (runs (entrySize e) most (drop slotHead ws)))
 
-pub node-fine : (ws : List ℤ) → Fine (nodeOf ws)
-node-fine ws = record { few = omega (arith, node-count ws); kinds = read-kinds ws }
+pub node-fine : (e : Edition) (ws : List ℤ) → Fine e (nodeOf e ws)
+node-fine e ws = record { few = omega (arith, node-count e ws); kinds = read-kinds e ws }
 
-nodes-fine : (ls : List (List ℤ)) → Each Fine (map nodeOf ls)
-nodes-fine [] = tt
-nodes-fine (l ∷ ls) = (node-fine l, nodes-fine ls)
+nodes-fine : (e : Edition) (ls : List (List ℤ)) → Each (Fine e) (map (nodeOf e) ls)
+nodes-fine e [] = tt
+nodes-fine e (l ∷ ls) = (node-fine e l, nodes-fine e ls)
 
 pub read-fine : (w : List ℤ) → AllFine (read w)
 unfolding read
-read-fine w = nodes-fine (runs slotSize (slotCount w) (drop headSize w))
+read-fine w = nodes-fine (editionOf w) (runs (slotSize (editionOf w)) (slotCount w) (drop headSize w))
 
 pub read-slots : (w : List ℤ) → length (read w .slots) ≡ slotCount w
 unfolding read
-read-slots w = length-map (runs slotSize (slotCount w) (drop headSize w)) nodeOf ∙ length-runs slotSize (slotCount w) (drop headSize w)
+read-slots w =
+    let e = editionOf w in
+    length-map (runs (slotSize e) (slotCount w) (drop headSize w)) (nodeOf e) ∙ length-runs (slotSize e) (slotCount w) (drop headSize w)
 
 pub each-set : {A : Type 0} (P : A → Type 0) (xs : List A) (i : ℕ) (y : A) → Each P xs → P y → Each P (set xs i y)
 each-set P [] i y a f = tt
@@ -206,32 +270,68 @@ each-set P (x ∷ xs) zero y a f = (f, a .1)
 each-set P (x ∷ xs) (suc i) y a f = (a .0, each-set P xs i y (a .1) f)
 
 -- the first n entries of an array make a fine node
-kinds-taken : (l : ℕ) (es : List Entry) (n : ℕ) → ((i : ℕ) → i < n → Kind l (getD es i noEntry)) → Each (Kind l) (take n es)
-kinds-taken l es zero k = tt
-kinds-taken l [] (suc n) k = tt
-kinds-taken l (e ∷ es) (suc n) k = (k 0 (omega arith), kinds-taken l es n (λ i h. k (suc i) (omega arith)))
+kinds-taken : (e : Edition) (l : ℕ) (es : List Entry) (n : ℕ) → ((i : ℕ) → i < n → KindOf e l (getD es i noEntry .pointer))
+    → Each (λ (x : Entry). KindOf e l (x .pointer)) (take n es)
+kinds-taken e l es zero k = tt
+kinds-taken e l [] (suc n) k = tt
+kinds-taken e l (x ∷ es) (suc n) k = (k 0 (omega arith), kinds-taken e l es n (λ i h. k (suc i) (omega arith)))
 
-pub fine-node : (l : ℕ) (es : List Entry) (n : ℕ) → n ≤ most → KindAll l es n → Fine (node l (take n es))
-fine-node l es n h k = record { few = omega (arith, length-take n es); kinds = kinds-taken l es n (k .kind) }
+pub fine-node : (e : Edition) (l : ℕ) (es : List Entry) (n : ℕ) → n ≤ most → KindAll e l es n → Fine e (node l (take n es))
+fine-node e l es n h k = record { few = omega (arith, length-take n es); kinds = kinds-taken e l es n (k .kind) }
+
+-- the node in a slot
+pub fine-at : {w : List ℤ} {s : SlotNumber} → InPool w s → Fine (editionOf w) (nodeAt (read w) s)
+fine-at {w} {s} i = subst (Fine (editionOf w)) (sym (slot-node i)) (node-fine (editionOf w) (slotWords w s))
+
+-- what is read for the edition, and that it is as it was
+pub edition-is : (w : List ℤ) → editionOf w ≡ read w .edition
+unfolding read
+edition-is w = refl
+
+pub edition-put : (w v : List ℤ) (s : SlotNumber) (n : Node) → read v ≡ putNode (read w) s n → editionOf v ≡ editionOf w
+unfolding read putNode
+edition-put w v s n e = ap (λ (p : Pool). p .edition) e
 
 -- ---- a pool's words stay a pool's words
 
-module _ {w : List ℤ} {s : SlotNumber} (f : Fit w) (i : InPool w s) {n : Node} (g : Fine n) where
-  pub put-is : sets w (slotStart s) (nodeWords n) ≡ words (putNode (read w) s n)
-  put-is = ap (λ (x : List ℤ). sets x (slotStart s) (nodeWords n)) (sym (f .same)) ∙ words-put (read w) s n (i .low) (omega (arith, i .high, read-slots w))
+-- words that are a fine pool's, and of the length that the pool's words had, are a pool's
+module _ {w v : List ℤ} (f : Fit w) (q : Pool) (size : length v ≡ length w) (is : v ≡ words q) (same : q .edition ≡ editionOf w) (fine : AllFine q) where
+  words-read : read v ≡ q
+  words-read = ap read is ∙ read-words q fine
+
+  words-fit : Fit v
+  words-fit = record { right = right-same v w size (ap editionOf is ∙ words-edition q ∙ same) (f .right); same = ap words words-read ∙ sym is }
+
+module _ {w : List ℤ} {s : SlotNumber} (f : Fit w) (i : InPool w s) {n : Node} (g : Fine (editionOf w) n) where
+  abbrev written : List ℤ
+  written = sets w (slotStart (editionOf w) s) (nodeWords (editionOf w) n)
+
+  edition-read : read w .edition ≡ editionOf w
+  unfolding read
+  edition-read = refl
+
+  pub put-is : sets w (slotStart (editionOf w) s) (nodeWords (editionOf w) n) ≡ words (putNode (read w) s n)
+  put-is =
+      ap (λ (x : List ℤ). sets x (slotStart (editionOf w) s) (nodeWords (editionOf w) n)) (sym (f .same))
+      ∙ ap (λ (e : Edition). sets (words (read w)) (slotStart e s) (nodeWords e n)) (sym edition-read)
+      ∙ words-put (read w) s n (i .low) (omega (arith, i .high, read-slots w))
 
   put-fine : AllFine (putNode (read w) s n)
-  unfolding putNode
-  put-fine = each-set Fine (read w .slots) (s .0 - 1) n (read-fine w) g
+  unfolding putNode read
+  put-fine = each-set (Fine (editionOf w)) (read w .slots) (s .0 - 1) n (read-fine w) g
 
-  pub put-read : read (sets w (slotStart s) (nodeWords n)) ≡ putNode (read w) s n
-  put-read = ap read put-is ∙ read-words (putNode (read w) s n) put-fine
+  put-edition : putNode (read w) s n .edition ≡ editionOf w
+  unfolding putNode read
+  put-edition = refl
 
-  pub put-fit : Fit (sets w (slotStart s) (nodeWords n))
-  put-fit = record {
-    right = right-same (sets w (slotStart s) (nodeWords n)) w (length-sets w (slotStart s) (nodeWords n)) (f .right);
-    same = ap words put-read ∙ sym put-is;
-  }
+  put-long : length written ≡ length w
+  put-long = length-sets w (slotStart (editionOf w) s) (nodeWords (editionOf w) n)
+
+  pub put-read : read (sets w (slotStart (editionOf w) s) (nodeWords (editionOf w) n)) ≡ putNode (read w) s n
+  put-read = words-read f (putNode (read w) s n) put-long put-is put-edition put-fine
+
+  pub put-fit : Fit (sets w (slotStart (editionOf w) s) (nodeWords (editionOf w) n))
+  put-fit = words-fit f (putNode (read w) s n) put-long put-is put-edition put-fine
 
 -- ---- a child read
 
@@ -240,7 +340,7 @@ unfolding childOf
 child-is e n z q h = ap slot h ∙ sym (ap child-of q)
   where
     child-of : Pointer → SlotNumber
-    child-of = elim [ Number m ↦ slot 0 | Child s ↦ s ]
+    child-of = elim [ Number m o ↦ slot 0 | Child s ↦ s ]
 
 pub leaf-not : (n : Node) → isLeaf n ≡ false → eqb (n .level) 1 ≡ false
 unfolding isLeaf
@@ -256,44 +356,53 @@ records-words : (p : Pool) (n : ℕ) → set (words p) recordsPlace (pos n) ≡ 
 unfolding words headWords padded putRecords
 records-words p n = refl
 
-root-slots : (p : Pool) (s : SlotNumber) (h : ℕ) → putRoot p s h .slots ≡ p .slots
-unfolding putRoot
-root-slots p s h = refl
-
-records-slots : (p : Pool) (n : ℕ) → putRecords p n .slots ≡ p .slots
-unfolding putRecords
-records-slots p n = refl
-
--- words that are a pool's, with another head, are a pool's
-module _ {w v : List ℤ} (f : Fit w) (q : Pool) (size : length v ≡ length w) (is : v ≡ words q) (same : q .slots ≡ read w .slots) where
-  head-read : read v ≡ q
-  head-read = ap read is ∙ read-words q (subst (Each Fine) (sym same) (read-fine w))
-
-  head-fit : Fit v
-  head-fit = record { right = right-same v w size (f .right); same = ap words head-read ∙ sym is }
-
 module _ {w : List ℤ} (f : Fit w) (s : SlotNumber) (h : ℕ) where
   abbrev headSet : List ℤ → List ℤ
   headSet x = set (set x rootPlace (pos (s .0))) heightPlace (pos h)
 
-  root-is : headSet w ≡ words (putRoot (read w) s h)
+  abbrev rooted : Pool
+  rooted = putRoot (read w) s h
+
+  root-is : headSet w ≡ words rooted
   root-is = ap (λ (x : List ℤ). headSet x) (sym (f .same)) ∙ root-words (read w) s h
 
   root-size : length (headSet w) ≡ length w
   root-size = length-set (set w rootPlace (pos (s .0))) heightPlace (pos h) ∙ length-set w rootPlace (pos (s .0))
 
+  root-edition : rooted .edition ≡ editionOf w
+  unfolding putRoot read
+  root-edition = refl
+
+  root-fine : AllFine rooted
+  unfolding putRoot
+  root-fine = read-fine w
+
   pub root-read : read (headSet w) ≡ putRoot (read w) s h
-  root-read = head-read f (putRoot (read w) s h) root-size root-is (root-slots (read w) s h)
+  root-read = words-read f rooted root-size root-is root-edition root-fine
 
   pub root-fit : Fit (headSet w)
-  root-fit = head-fit f (putRoot (read w) s h) root-size root-is (root-slots (read w) s h)
+  root-fit = words-fit f rooted root-size root-is root-edition root-fine
 
 module _ {w : List ℤ} (f : Fit w) (n : ℕ) where
-  records-is : set w recordsPlace (pos n) ≡ words (putRecords (read w) n)
+  abbrev counted : Pool
+  counted = putRecords (read w) n
+
+  abbrev countSet : List ℤ
+  countSet = set w recordsPlace (pos n)
+
+  records-is : countSet ≡ words counted
   records-is = ap (λ (x : List ℤ). set x recordsPlace (pos n)) (sym (f .same)) ∙ records-words (read w) n
 
+  records-edition : counted .edition ≡ editionOf w
+  unfolding putRecords read
+  records-edition = refl
+
+  records-fine : AllFine counted
+  unfolding putRecords
+  records-fine = read-fine w
+
   pub records-read : read (set w recordsPlace (pos n)) ≡ putRecords (read w) n
-  records-read = head-read f (putRecords (read w) n) (length-set w recordsPlace (pos n)) records-is (records-slots (read w) n)
+  records-read = words-read f counted (length-set w recordsPlace (pos n)) records-is records-edition records-fine
 
   pub records-fit : Fit (set w recordsPlace (pos n))
-  records-fit = head-fit f (putRecords (read w) n) (length-set w recordsPlace (pos n)) records-is (records-slots (read w) n)
+  records-fit = words-fit f counted (length-set w recordsPlace (pos n)) records-is records-edition records-fine

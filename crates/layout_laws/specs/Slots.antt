@@ -5,14 +5,16 @@ use mathlib.Core.List.{List}
 use Prim.Native.Nat.{ℕ, _≤_, _<_}
 use lib.Dec.{ltb}
 use lib.ListN.{getD}
-use lib.IntN.{ℤ}
+use lib.IntN.{ℤ, pos}
+use Rattle.rules.specs.declared.Edition.{Edition}
+use Rattle.rules.specs.declared.Edition.the-variants.{One, Two}
 use Rattle.rules.specs.declared.SlotNumber.{SlotNumber}
 use Rattle.rules.specs.declared.Pointer.{Pointer}
 use Rattle.rules.specs.declared.Pointer.the-variants.{Number, Child}
 use Rattle.rules.specs.declared.Entry.{Entry}
 use Rattle.rules.specs.Numbers.{mostSlots}
 use Rattle.rules.specs.Pool.{noEntry}
-use Rattle.rules.specs.Layout.{validLength, slotCount, words, read, pointerOf, pointerWord}
+use Rattle.rules.specs.Layout.{validLength, slotCount, words, read, pointerOf, pointerWord, ownerWord}
 
 -- "a slot from 1 to N"
 pub record InPool (w : List ℤ) (s : SlotNumber) : Type 0 where
@@ -27,7 +29,7 @@ pub record Fit (w : List ℤ) : Type 0 where
 
 -- a slot number that a word holds
 abbrev pub Small : Pointer → Type 0
-Small (Number n) = Unit {0}
+Small (Number n o) = Unit {0}
 Small (Child s) = s .0 ≤ mostSlots
 
 -- the first n entries have such pointers
@@ -42,6 +44,15 @@ pub record NoneFrom (n : ℕ) (es : List Entry) : Type 0 where
 abbrev pub usedAt : List Entry → ℕ → ℕ → Entry
 usedAt es n i = cond (ltb i n) (getD es i noEntry) noEntry
 
--- .. and are of the level's kind: record numbers in a leaf, child slots above
-pub record KindAll (level : ℕ) (es : List Entry) (n : ℕ) : Type 0 where
-  pub kind : (i : ℕ) → i < n → pointerOf level (pointerWord (getD es i noEntry .pointer)) ≡ getD es i noEntry .pointer
+-- what a slot of an edition keeps of an owner's word: in edition 1, nothing
+unfoldable pub ownerKept : Edition → ℤ → ℤ
+ownerKept One z = pos 0
+ownerKept Two z = z
+
+-- the pointer is of the level's kind, a record number in a leaf, a child slot above; and a slot of the edition can keep its owner
+abbrev pub KindOf : Edition → ℕ → Pointer → Type 0
+KindOf e level p = pointerOf level (pointerWord p) (ownerKept e (ownerWord p)) ≡ p
+
+-- .. the pointers of the first n entries
+pub record KindAll (e : Edition) (level : ℕ) (es : List Entry) (n : ℕ) : Type 0 where
+  pub kind : (i : ℕ) → i < n → KindOf e level (getD es i noEntry .pointer)

@@ -8,10 +8,10 @@ use lib.Dec.{eqb}
 use lib.IntN.{ℤ, pos}
 use mir.Val.{ofZ}
 use mir.Syntax.{w32}
-use Rattle.rules.specs.declared.Record.{Record}
+use Rattle.rules.specs.declared.FoundRecord.{FoundRecord}
 use Rattle.rules.specs.declared.Answer.{Answer}
 use Rattle.rules.specs.declared.Verdict.{Verdict}
-use Rattle.rules.specs.declared.Verdict.the-variants.{BadLists, BadLength, NotSound, NoRequest}
+use Rattle.rules.specs.declared.Verdict.the-variants.{BadLists, BadOwner, BadLength, NotSound, NoRequest}
 use Rattle.rules.specs.Lists.{every}
 use Rattle.rules.specs.Answers.{verdictNumber}
 use Rattle.rules.specs.Call.{Lent, Left, isRequest, callFault, refused, served}
@@ -30,12 +30,14 @@ told : (l : Lent) → EachGiven FaultTold (callFault l)
 unfolding callFault verdictNumber
 told l =
     given-row FaultTold _ BadLists _ refl
-    (given-row FaultTold _ BadLength _ refl (given-row FaultTold _ NotSound _ refl (given-row FaultTold _ NoRequest _ refl (given-none FaultTold))))
+    (given-row FaultTold _ BadOwner _ refl
+    (given-row FaultTold _ BadLength _ refl
+    (given-row FaultTold _ NotSound _ refl (given-row FaultTold _ NoRequest _ refl (given-none FaultTold)))))
 
 module _ (l : Lent) (all : Bool) (asked : all ≡ every isRequest (l .requests)) (z : ℤ)
-    (is : z ≡ refusalOf (l .pool) (length (l .workspace)) (length (l .requests)) (length (l .answers)) all) where
-  same : z ≡ refusalOf (l .pool) (length (l .workspace)) (length (l .requests)) (length (l .answers)) (every isRequest (l .requests))
-  same = is ∙ ap (refusalOf (l .pool) (length (l .workspace)) (length (l .requests)) (length (l .answers))) asked
+    (is : z ≡ refusalOf (l .pool) (l .owner .0) (length (l .workspace)) (length (l .requests)) (length (l .answers)) all) where
+  same : z ≡ refusalOf (l .pool) (l .owner .0) (length (l .workspace)) (length (l .requests)) (length (l .answers)) (every isRequest (l .requests))
+  same = is ∙ ap (refusalOf (l .pool) (l .owner .0) (length (l .workspace)) (length (l .requests)) (length (l .answers))) asked
 
   number-is : z ≡ faultNumber (callFault l)
   number-is = same ∙ refusal-is l
@@ -61,7 +63,7 @@ module _ (l : Lent) (all : Bool) (asked : all ≡ every isRequest (l .requests))
       }
 
 -- "On return 0 the workspace equals the pool."
-pub left-served : (l : Lent) → callFault l ≡ none → (pool work : List ℤ) (answers : List Answer) (found : List Record)
+pub left-served : (l : Lent) → callFault l ≡ none → (pool work : List ℤ) (answers : List Answer) (found : List FoundRecord)
     → Batched (batchOf l) pool answers found → work ≡ pool → Allowed l (left (pos 0) pool work answers found)
 unfolding served verdictNumber
 left-served l h pool work answers found b e =

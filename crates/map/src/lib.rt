@@ -1,29 +1,66 @@
 // The map for other languages: the exported functions, with no `requires`.
 ghost use mathlib.Core.Path.{_≡_};
 ghost use lib.IntN.{pos};
-ghost use Rattle.rules.specs.Layout as L;
+ghost use Rattle.rules.specs.declared.Edition.the-variants as E;
+ghost use Rattle.rules.specs.Owners as O;
+ghost use Rattle.rules.specs.Owners.{editionTold};
 ghost use Rattle.rules.specs.Call as C;
 ghost use Rattle.rules.specs.Room.{roomNumber, roomWords};
 ghost use Rattle.promises.specs.Calls.{lent, nothingAsked, left, Allowed};
-ghost use Rattle.promises.specs.Files.{Writes, Reads};
+ghost use Rattle.promises.specs.Blanks.{Blanks, BlanksAs};
+ghost use Rattle.promises.specs.Files.{Writes, Reads, ReadsAs};
 ghost use Rattle.promises.specs.Rooms.{Tells};
 ghost use Rattle.promises.specs.Surveys.{Converts, ofBox, ofPoint, ofDisc};
+ghost use Rattle.map.specs.Told.{toldOf};
 use rules::Answer;
+use rules::Edition;
+use rules::FoundRecord;
 use rules::InsertRoom;
 use rules::Query;
-use rules::Record;
 use rules::Rect;
 use rules::Request;
 use rules::SurveyBox;
 use rules::Surveyed;
 
-// For any words: 0 and a blank pool; or 1 for a wrong length, and nothing is written.
+// For any words: 0 and a blank pool of edition 1; or 1 for a wrong length, and nothing is written.
 #[no_mangle]
 pub extern "C" fn dustmap_blank(pool: &mut [i32]) -> i32
-    ensures number { λ r. ⌜ r ≡ pos (L.blank (now (pool .entry)) .number) ⌝ }
-    ensures words { λ _. ⌜ now (pool .exit) ≡ L.blank (now (pool .entry)) .pool ⌝ }
+    ensures { λ n. ⌜ Blanks E.One (now (pool .entry)) n (now (pool .exit)) ⌝ }
 {
-    pool::blank::blank(pool)
+    pool::blank::blank(pool, Edition::One)
+}
+
+// The edition that a number tells, with the number of a rule; or that they tell none.
+enum ToldEdition {
+    Pool(Edition),
+    Nothing,
+}
+
+// "told the edition, by an enum that has no other": 1 and 2. Of rules there is 0 alone.
+fn edition_told(edition: i32, rule: i32) -> ToldEdition
+    ensures { λ t. ⌜ toldOf t ≡ editionTold edition rule ⌝ }
+{
+    if !geometry::same(rule, 0) {
+        return ToldEdition::Nothing;
+    }
+    if geometry::same(edition, 1) {
+        return ToldEdition::Pool(Edition::One);
+    }
+    if geometry::same(edition, 2) {
+        return ToldEdition::Pool(Edition::Two);
+    }
+    ToldEdition::Nothing
+}
+
+// .. of the edition told. -1, before all else, where there is none of it or of the rule, and nothing is written.
+#[no_mangle]
+pub extern "C" fn dustmap_blank_as(pool: &mut [i32], edition: i32, rule: i32) -> i32
+    ensures { λ n. ⌜ BlanksAs edition rule (now (pool .entry)) n (now (pool .exit)) ⌝ }
+{
+    match edition_told(edition, rule) {
+        ToldEdition::Pool(e) => pool::blank::blank(pool, e),
+        ToldEdition::Nothing => -1,
+    }
 }
 
 // What a call with no request would return: 1 for a wrong length, 2 for a pool that is not sound, else 0. Nothing is written.
@@ -32,30 +69,45 @@ pub extern "C" fn dustmap_check(pool: &[i32]) -> i32
     ensures { λ r. ⌜ r ≡ C.call (nothingAsked (now (pool .entry))) .number ⌝ }
 {
     let n = pool.len();
-    batch::refusal(pool, n, 0, 0, true)
+    batch::refusal(pool, 1, n, 0, 0, true)
 }
 
-// One call: a batch over lent lists. For any input at all, the number, the pool, the workspace, the answers and the found list are those
-// that the definition `call` gives.
+// One call: a batch of an owner over lent lists. For any input at all, the number, the pool, the workspace, the answers and the found list
+// are those that the definition `call` gives.
+#[no_mangle]
+pub extern "C" fn dustmap_call_as(
+    pool: &mut [i32],
+    work: &mut [i32],
+    requests: &[Request],
+    answers: &mut [Answer],
+    found: &mut [FoundRecord],
+    owner: i32,
+) -> i32
+    ensures { λ r. ⌜ Allowed (lent (O.owner owner) (now (pool .entry)) (now (work .entry)) (now (requests .entry)) (now (answers .entry)) (now (found .entry))) (left r (now (pool .exit)) (now (work .exit)) (now (answers .exit)) (now (found .exit))) ⌝ }
+{
+    let all = batch::all_asked(requests);
+    let n = batch::refusal(pool, owner, work.len(), requests.len(), answers.len(), all);
+    if n != 0 {
+        return n;
+    }
+    batch::serve(pool, work, requests, answers, found, owner);
+    // "On return 0 the workspace equals the pool."
+    pool::copy(pool, work);
+    0
+}
+
+// .. of owner 1.
 #[no_mangle]
 pub extern "C" fn dustmap_call(
     pool: &mut [i32],
     work: &mut [i32],
     requests: &[Request],
     answers: &mut [Answer],
-    found: &mut [Record],
+    found: &mut [FoundRecord],
 ) -> i32
-    ensures { λ r. ⌜ Allowed (lent (now (pool .entry)) (now (work .entry)) (now (requests .entry)) (now (answers .entry)) (now (found .entry))) (left r (now (pool .exit)) (now (work .exit)) (now (answers .exit)) (now (found .exit))) ⌝ }
+    ensures { λ r. ⌜ Allowed (lent (O.owner (pos 1)) (now (pool .entry)) (now (work .entry)) (now (requests .entry)) (now (answers .entry)) (now (found .entry))) (left r (now (pool .exit)) (now (work .exit)) (now (answers .exit)) (now (found .exit))) ⌝ }
 {
-    let all = batch::all_asked(requests);
-    let n = batch::refusal(pool, work.len(), requests.len(), answers.len(), all);
-    if n != 0 {
-        return n;
-    }
-    batch::serve(pool, work, requests, answers, found);
-    // "On return 0 the workspace equals the pool."
-    pool::copy(pool, work);
-    0
+    dustmap_call_as(pool, work, requests, answers, found, 1)
 }
 
 // The file of the map, at the front of a lent buffer, and how many bytes it has. Beside a refusal the buffer stays and the length is 0.
@@ -66,12 +118,29 @@ pub extern "C" fn dustmap_write(pool: &[i32], file: &mut [u8], size: &mut u64) -
     file::write(pool, file, size)
 }
 
-// The map of a file. Beside a refusal past 1 the pool stays, and the workspace is made equal to it.
+// The map of a file of edition 1. Beside a refusal past 1 the pool stays, and the workspace is made equal to it.
 #[no_mangle]
 pub extern "C" fn dustmap_read(pool: &mut [i32], work: &mut [i32], file: &[u8]) -> i32
-    ensures { λ n. ⌜ Reads (now (pool .entry)) (now (work .entry)) (now (file .entry)) n (now (pool .exit)) (now (work .exit)) ⌝ }
+    ensures { λ n. ⌜ Reads E.One (now (pool .entry)) (now (work .entry)) (now (file .entry)) n (now (pool .exit)) (now (work .exit)) ⌝ }
 {
-    file::read(pool, work, file)
+    file::read(pool, work, file, Edition::One)
+}
+
+// .. of the edition told. -1, before all else, where there is none of it or of the rule, and nothing is written.
+#[no_mangle]
+pub extern "C" fn dustmap_read_as(
+    pool: &mut [i32],
+    work: &mut [i32],
+    file: &[u8],
+    edition: i32,
+    rule: i32,
+) -> i32
+    ensures { λ n. ⌜ ReadsAs edition rule (now (pool .entry)) (now (work .entry)) (now (file .entry)) n (now (pool .exit)) (now (work .exit)) ⌝ }
+{
+    match edition_told(edition, rule) {
+        ToldEdition::Pool(e) => file::read(pool, work, file, e),
+        ToldEdition::Nothing => -1,
+    }
 }
 
 // What is written of a window, and its number: the rectangle beside 0; beside 12, nothing.

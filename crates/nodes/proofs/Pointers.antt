@@ -1,8 +1,8 @@
--- An entry's child and its record number are those of its pointer, since the definitions look at nothing else of it.
+-- An entry's child, its record number and its owner are those of its pointer, since the definitions look at nothing else of it.
 use mathlib.Core.Path.{_≡_, refl}
 use Rattle.rules.specs.declared.Entry.{Entry}
-use Rattle.rules.specs.Pool.{childOf, numberOf}
-use Rattle.nodes.specs.Reading.{pointedChild, pointedNumber}
+use Rattle.rules.specs.Pool.{childOf, numberOf, ownerOf}
+use Rattle.nodes.specs.Reading.{pointedChild, pointedNumber, pointedOwner}
 
 pub child-is : (e : Entry) → pointedChild (e .pointer) ≡ childOf e
 unfolding childOf
@@ -11,3 +11,7 @@ child-is e = refl
 pub number-is : (e : Entry) → pointedNumber (e .pointer) ≡ numberOf e
 unfolding numberOf
 number-is e = refl
+
+pub owner-is : (e : Entry) → pointedOwner (e .pointer) ≡ ownerOf e
+unfolding ownerOf
+owner-is e = refl

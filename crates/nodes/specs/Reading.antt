@@ -4,19 +4,26 @@ use lib.ListN.{length}
 use lib.IntN.{pos}
 use Rattle.rules.specs.declared.SlotNumber.{SlotNumber}
 use Rattle.rules.specs.declared.RecordNumber.{RecordNumber}
+use Rattle.rules.specs.declared.Owner.{Owner}
 use Rattle.rules.specs.declared.Pointer.{Pointer}
 use Rattle.rules.specs.declared.Pointer.the-variants.{Number, Child}
+use Rattle.rules.specs.Owners.{nobody}
 use Rattle.rules.specs.Pool.{Pool, slot, number, nodeAt, entriesAt, entryAt, childOf}
 
 -- the child that a pointer leads to: `childOf` of an entry is this of its pointer
 abbrev pub pointedChild : Pointer → SlotNumber
-pointedChild (Number n) = slot 0
+pointedChild (Number n o) = slot 0
 pointedChild (Child s) = s
 
 -- the record number that it is: `numberOf` of an entry is this of its pointer
 abbrev pub pointedNumber : Pointer → RecordNumber
-pointedNumber (Number n) = n
+pointedNumber (Number n o) = n
 pointedNumber (Child s) = number (pos 0)
+
+-- its owner: `ownerOf` of an entry is this of its pointer
+abbrev pub pointedOwner : Pointer → Owner
+pointedOwner (Number n o) = o
+pointedOwner (Child s) = nobody
 
 -- entry i of the inner node at s leads to a slot
 pub record LeadsOn (p : Pool) (s : SlotNumber) (i : ℕ) : Type 0 where

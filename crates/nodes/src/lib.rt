@@ -8,8 +8,9 @@ ghost use Rattle.rules.specs.Layout as L;
 ghost use Rattle.rules.specs.Pool as P;
 ghost use Rattle.rules.specs.Sound as S;
 ghost use Rattle.layout_laws.specs.Slots.{Fit, InPool};
-ghost use Rattle.nodes.specs.Reading.{pointedChild, pointedNumber, LeadsOn};
+ghost use Rattle.nodes.specs.Reading.{pointedChild, pointedNumber, pointedOwner, LeadsOn};
 use rules::Entry;
+use rules::Owner;
 use rules::Pointer;
 use rules::Record;
 use rules::RecordNumber;
@@ -48,7 +49,7 @@ fn pointed_child(p: Pointer) -> SlotNumber
     ensures { λ r. ⌜ r ≡ pointedChild p ⌝ }
 {
     match p {
-        Pointer::Number(_) => SlotNumber(0),
+        Pointer::Number(_, _) => SlotNumber(0),
         Pointer::Child(s) => s,
     }
 }
@@ -58,26 +59,34 @@ fn pointed_number(p: Pointer) -> RecordNumber
     ensures { λ r. ⌜ r ≡ pointedNumber p ⌝ }
 {
     match p {
-        Pointer::Number(n) => n,
+        Pointer::Number(n, _) => n,
         Pointer::Child(_) => RecordNumber(0),
     }
 }
 
-// A leaf entry's record number.
-pub fn number_of(e: Entry) -> RecordNumber
-    ensures { λ r. ⌜ r ≡ P.numberOf e ⌝ }
+// Its owner; a child slot has none.
+fn pointed_owner(p: Pointer) -> Owner
+    ensures { λ r. ⌜ r ≡ pointedOwner p ⌝ }
 {
-    let p = e.pointer;
-    pointed_number(p)
+    match p {
+        Pointer::Number(_, o) => o,
+        Pointer::Child(_) => Owner(0),
+    }
 }
 
 // A leaf entry as the record that it holds.
 pub fn record_of(e: Entry) -> Record
     ensures { λ r. ⌜ r ≡ P.recordOf e ⌝ }
 {
-    let number = number_of(e);
+    let p = e.pointer;
+    let owner = pointed_owner(p);
+    let number = pointed_number(p);
     let rect = e.rect;
-    Record { number, rect }
+    Record {
+        owner,
+        number,
+        rect,
+    }
 }
 
 // ---- nodes read, whatever the slot number

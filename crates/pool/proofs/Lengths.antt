@@ -2,29 +2,79 @@
 use mathlib.Core.Path.{_≡_}
 use mathlib.Core.Bool.{true, false, and-false, and-true}
 use mathlib.Core.List.{List}
-use Prim.Native.Nat.{_+_, _*_, _≤_, _<_}
+use Prim.Native.Nat.{ℕ, _+_, _*_, _-_, _≤_, _<_}
 use native.Mathlib.Omega.{arith}
 use lib.Dec.{eqb}
 use lib.ListN.{length}
 use lib.IntN.{ℤ}
 use borrow.Author.Tests.{le-leb, lt-leb}
-use Rattle.rules.specs.Numbers.{mostSlots}
-use Rattle.rules.specs.Layout.{headSize, slotSize, slotCount, validLength}
-use Rattle.layout_laws.proofs.Parts.{right-size, some-slot}
+use Rattle.rules.specs.declared.Edition.{Edition}
+use Rattle.rules.specs.declared.Edition.the-variants.{One, Two}
+use Rattle.rules.specs.declared.SlotNumber.{SlotNumber}
+use Rattle.rules.specs.Numbers.{most, mostSlots}
+use Rattle.rules.specs.Layout.{headSize, entrySize, slotSize, slotStart, slotsIn, validSize, editionOf, slotCount, validLength}
+use Rattle.layout_laws.specs.Slots.{InPool}
+use Rattle.layout_laws.proofs.Parts.{sized, right-size, few}
 
+module _ (e : Edition) (n : ℕ) where
+  pub no-slots : slotsIn e n < 1 → validSize e n ≡ false
+  unfolding validSize
+  no-slots h = rw (lt-leb 1 (slotsIn e n) h, and-false)
+
+  pub many-slots : mostSlots < slotsIn e n → validSize e n ≡ false
+  unfolding validSize
+  many-slots h = rw (lt-leb (slotsIn e n) mostSlots h, and-false)
+
+  pub by-length : 1 ≤ slotsIn e n → slotsIn e n ≤ mostSlots → validSize e n ≡ eqb n (headSize + slotSize e * slotsIn e n)
+  unfolding validSize
+  by-length l h = simp (le-leb 1 (slotsIn e n) l, le-leb (slotsIn e n) mostSlots h, and-true)
+
+-- fewer words than a head has no slot
+pub short-none : (e : Edition) (n : ℕ) → n < headSize → slotsIn e n ≡ 0
+unfolding slotsIn
+short-none One n h = omega arith
+short-none Two n h = omega arith
+
+pub short-count : (w : List ℤ) → length w < headSize → slotCount w ≡ 0
+unfolding slotCount
+short-count w h = short-none (editionOf w) (length w) h
+
+pub short-wrong : (w : List ℤ) → length w < headSize → validLength w ≡ false
+unfolding validLength
+short-wrong w h = no-slots (editionOf w) (length w) (omega (arith, short-none (editionOf w) (length w) h))
+
+-- one slot, and where a slot begins: in either edition
+size-some : (e : Edition) (n : ℕ) → 1 ≤ n → slotSize e ≤ slotSize e * n
+size-some One n h = omega arith
+size-some Two n h = omega arith
+
+pub size-few : (e : Edition) (n : ℕ) → n ≤ mostSlots → slotSize e * n ≤ 204800
+size-few One n h = omega arith
+size-few Two n h = omega arith
+
+pub entry-few : (e : Edition) → entrySize e ≤ 6
+entry-few One = omega arith
+entry-few Two = omega arith
+
+entries-few : (e : Edition) (i : ℕ) → i ≤ most → entrySize e * i ≤ 48
+entries-few One i h = omega arith
+entries-few Two i h = omega arith
+
+-- .. of a pool's own edition
 module _ (w : List ℤ) where
-  pub no-slots : slotCount w < 1 → validLength w ≡ false
-  unfolding validLength
-  no-slots h = rw (lt-leb 1 (slotCount w) h, and-false)
+  pub size-most : (n : ℕ) → n ≤ mostSlots → slotSize (editionOf w) * n ≤ 204800
+  size-most = size-few (editionOf w)
 
-  pub many-slots : mostSlots < slotCount w → validLength w ≡ false
-  unfolding validLength
-  many-slots h = rw (lt-leb (slotCount w) mostSlots h, and-false)
+  pub entries-most : (i : ℕ) → i ≤ most → entrySize (editionOf w) * i ≤ 48
+  entries-most = entries-few (editionOf w)
 
-  pub by-length : 1 ≤ slotCount w → slotCount w ≤ mostSlots → validLength w ≡ eqb (length w) (headSize + slotSize * slotCount w)
-  unfolding validLength
-  by-length l h = simp (le-leb 1 (slotCount w) l, le-leb (slotCount w) mostSlots h, and-true)
+pub start-most : {w : List ℤ} {s : SlotNumber} → InPool w s → slotStart (editionOf w) s ≤ 204808
+start-most {w} {s} i = omega (arith, size-most w (s .0 - 1) (omega (arith, few i)))
 
-  -- the head and a slot at least
-  pub long : validLength w ≡ true → headSize + slotSize ≤ length w
-  long r = omega (arith, right-size w r, some-slot w r)
+-- the head and a slot at least
+pub valid-long : (e : Edition) (n : ℕ) → validSize e n ≡ true → headSize + slotSize e ≤ n
+valid-long e n r = let s = sized e n r in omega (arith, s .0, size-some e (slotsIn e n) (s .1))
+
+module _ (w : List ℤ) (r : validLength w ≡ true) where
+  pub some-word : 1 ≤ length w
+  some-word = omega (arith, right-size w r)

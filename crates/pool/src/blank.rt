@@ -3,12 +3,13 @@ ghost use mathlib.Core.Path.{_≡_};
 ghost use lib.ListN.{length, replicate};
 ghost use lib.IntN.{pos};
 ghost use Rattle.rules.specs.Layout as L;
-use crate::EDITION;
 use crate::EDITION_PLACE;
 use crate::HEAD_SIZE;
 use crate::HEIGHT_PLACE;
 use crate::ROOT_PLACE;
-use crate::valid_length;
+use crate::edition_number;
+use crate::valid_size;
+use rules::Edition;
 
 // "all else zero": every word is zeroed, and blanking writes the others after that.
 fn zero_all(pool: &mut [i32])
@@ -22,14 +23,14 @@ fn zero_all(pool: &mut [i32])
 }
 
 // "Blanking writes edition 1, root 1, height 1, records 0, slot 1 as an empty leaf, all else zero." It "knows only 1, for the pool's
-// length", and then writes nothing.
-pub fn blank(pool: &mut [i32]) -> i32
-    ensures number { λ r. ⌜ r ≡ pos (L.blank (now (pool .entry)) .number) ⌝ }
-    ensures words { λ _. ⌜ now (pool .exit) ≡ L.blank (now (pool .entry)) .pool ⌝ }
+// length", and then writes nothing. Req 07: it is told the edition, and goes by it.
+pub fn blank(pool: &mut [i32], edition: Edition) -> i32
+    ensures number { λ r. ⌜ r ≡ L.blank edition (now (pool .entry)) .number ⌝ }
+    ensures words { λ _. ⌜ now (pool .exit) ≡ L.blank edition (now (pool .entry)) .pool ⌝ }
 {
-    if valid_length(pool) {
+    if valid_size(edition, pool.len()) {
         zero_all(pool);
-        pool[EDITION_PLACE] = EDITION;
+        pool[EDITION_PLACE] = edition_number(edition);
         pool[ROOT_PLACE] = 1;
         pool[HEIGHT_PLACE] = 1;
         // Slot 1 begins after the head, with its level.

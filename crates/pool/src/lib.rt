@@ -8,18 +8,23 @@ ghost use Prim.Native.Nat.{_+_, _<_, _≤_};
 ghost use lib.Dec.{eqb};
 ghost use lib.ListN.{length, set, take, drop};
 ghost use lib.Seq.{sets};
-ghost use Rattle.rules.specs.Numbers.{goodNumber, most, mostSlots};
+ghost use lib.IntN.{pos};
+ghost use Rattle.rules.specs.declared.Edition.the-variants as E;
+ghost use Rattle.rules.specs.Numbers.{goodNumber, goodOwner, most, mostSlots};
+ghost use Rattle.rules.specs.Owners.{editionNumber};
 ghost use Rattle.rules.specs.Layout as L;
 ghost use Rattle.rules.specs.Pool as P;
 ghost use Rattle.rules.specs.Choose.{rectFrom};
-ghost use Rattle.layout_laws.specs.Slots.{Fit, InPool, KindAll, NoneFrom, Small, SmallAll, usedAt};
+ghost use Rattle.layout_laws.specs.Slots.{Fit, InPool, KindOf, KindAll, NoneFrom, Small, SmallAll, usedAt};
 
 pub mod blank;
 pub mod tidy;
 
+use rules::Edition;
 use rules::Entry;
 use rules::MOST;
 use rules::MOST_SLOTS;
+use rules::Owner;
 use rules::Pointer;
 use rules::RecordNumber;
 use rules::Rect;
@@ -29,8 +34,6 @@ use rules::SlotNumber;
 
 // "Head: word 0 edition, 1; word 1 root slot; word 2 height; word 3 number of records; words 4 to 7 zero."
 pub const HEAD_SIZE: usize = 8;
-
-const EDITION: i32 = 1;
 
 const EDITION_PLACE: usize = 0;
 
@@ -42,75 +45,135 @@ const RECORDS_PLACE: usize = 3;
 
 const UNUSED_PLACE: usize = RECORDS_PLACE + 1;
 
-// "8 entries of five words: low x, low y, high x, high y, pointer"
+// "8 entries of five words: low x, low y, high x, high y, pointer"; Req 07: "an owner, 1 or 2, as a sixth word"
 const RECT_SIZE: usize = 4;
 
-const ENTRY_SIZE: usize = RECT_SIZE + 1;
+const OWNER_PLACE: usize = RECT_SIZE + 1;
 
 // "level, count, then 8 entries"
 const SLOT_HEAD: usize = 2;
 
-pub const SLOT_SIZE: usize = SLOT_HEAD + MOST * ENTRY_SIZE;
+// The edition of a pool: "a pool whose word 0 isn't 2 is measured as edition 1".
+pub fn edition_of(pool: &[i32]) -> Edition
+    requires { ⌜ 1 ≤ length (now pool) ⌝ }
+    ensures { λ r. ⌜ r ≡ L.editionOf (now (pool .entry)) ⌝ }
+{
+    if geometry::same(word(pool, EDITION_PLACE), 2) {
+        return Edition::Two;
+    }
+    Edition::One
+}
 
-// "Slot s (from 1) takes 42 words from word 8 + 42(s - 1)", the first of them its level.
-fn slot_start(s: SlotNumber) -> usize
-    requires { ⌜ (1 ≤ s .0) × (s .0 ≤ mostSlots) ⌝ }
-    ensures { λ r. ⌜ r ≡ L.slotStart s ⌝ }
+// .. and as word 0 has it.
+fn edition_number(edition: Edition) -> i32
+    ensures { λ r. ⌜ r ≡ pos (editionNumber edition) ⌝ }
+{
+    match edition {
+        Edition::One => 1,
+        Edition::Two => 2,
+    }
+}
+
+// How many words an entry has.
+fn entry_size(edition: Edition) -> usize
+    ensures { λ r. ⌜ r ≡ L.entrySize edition ⌝ }
+{
+    match edition {
+        Edition::One => OWNER_PLACE,
+        Edition::Two => OWNER_PLACE + 1,
+    }
+}
+
+// .. and a slot.
+pub fn slot_size(edition: Edition) -> usize
+    ensures { λ r. ⌜ r ≡ L.slotSize edition ⌝ }
+{
+    SLOT_HEAD + MOST * entry_size(edition)
+}
+
+// "Slot s (from 1) takes 42 words from word 8 + 42(s - 1)", the first of them its level; in edition 2, 50 words.
+fn slot_start(pool: &[i32], s: SlotNumber) -> usize
+    requires { ⌜ InPool (now pool) s ⌝ }
+    ensures { λ r. ⌜ r ≡ L.slotStart (L.editionOf (now (pool .entry))) s ⌝ }
 {
     let n = s.0;
-    HEAD_SIZE + SLOT_SIZE * (n - 1)
+    HEAD_SIZE + slot_size(edition_of(pool)) * (n - 1)
 }
 
 // Where the count of its entries stands.
-fn count_place(s: SlotNumber) -> usize
-    requires { ⌜ (1 ≤ s .0) × (s .0 ≤ mostSlots) ⌝ }
-    ensures { λ r. ⌜ r ≡ L.countPlace s ⌝ }
+fn count_place(pool: &[i32], s: SlotNumber) -> usize
+    requires { ⌜ InPool (now pool) s ⌝ }
+    ensures { λ r. ⌜ r ≡ L.countPlace (L.editionOf (now (pool .entry))) s ⌝ }
 {
-    slot_start(s) + 1
+    slot_start(pool, s) + 1
 }
 
 // Where the words of the entry at place i of slot s begin, its rectangle first.
-pub fn spot(s: SlotNumber, i: usize) -> usize
-    requires { ⌜ (1 ≤ s .0) × (s .0 ≤ mostSlots) ⌝ }
+pub fn spot(pool: &[i32], s: SlotNumber, i: usize) -> usize
+    requires { ⌜ InPool (now pool) s ⌝ }
     requires { ⌜ i < most ⌝ }
-    ensures { λ r. ⌜ r ≡ L.entryPlace s i ⌝ }
+    ensures { λ r. ⌜ r ≡ L.entryPlace (L.editionOf (now (pool .entry))) s i ⌝ }
 {
-    slot_start(s) + SLOT_HEAD + ENTRY_SIZE * i
+    slot_start(pool, s) + SLOT_HEAD + entry_size(edition_of(pool)) * i
 }
 
 // Where the pointer of that entry stands.
-fn pointer_place(s: SlotNumber, i: usize) -> usize
-    requires { ⌜ (1 ≤ s .0) × (s .0 ≤ mostSlots) ⌝ }
+fn pointer_place(pool: &[i32], s: SlotNumber, i: usize) -> usize
+    requires { ⌜ InPool (now pool) s ⌝ }
     requires { ⌜ i < most ⌝ }
-    ensures { λ r. ⌜ r ≡ L.pointerPlace s i ⌝ }
+    ensures { λ r. ⌜ r ≡ L.pointerPlace (L.editionOf (now (pool .entry))) s i ⌝ }
 {
-    spot(s, i) + RECT_SIZE
+    spot(pool, s, i) + RECT_SIZE
 }
 
-// How many slots there are.
+// How many slots of an edition fit into so many words. Each division is by a number that the compiler knows: it is asked at every node, and
+// a division by any other is slow.
+fn slots_in(edition: Edition, n: usize) -> usize
+    ensures { λ r. ⌜ r ≡ L.slotsIn edition n ⌝ }
+{
+    if n < HEAD_SIZE {
+        return 0;
+    }
+    match edition {
+        Edition::One => (n - HEAD_SIZE) / (SLOT_HEAD + MOST * OWNER_PLACE),
+        Edition::Two => (n - HEAD_SIZE) / (SLOT_HEAD + MOST * (OWNER_PLACE + 1)),
+    }
+}
+
+// "A pool is 8 + 42N signed 32-bit words", N from 1 to 4,096; in edition 2, 8 + 50N.
+pub fn valid_size(edition: Edition, n: usize) -> bool
+    ensures { λ r. ⌜ r ≡ L.validSize edition n ⌝ }
+{
+    let slots = slots_in(edition, n);
+    if slots < 1 {
+        return false;
+    }
+    if MOST_SLOTS < slots {
+        return false;
+    }
+    n == HEAD_SIZE + slot_size(edition) * slots
+}
+
+// How many slots a pool has.
 pub fn slot_count(pool: &[i32]) -> usize
     ensures { λ r. ⌜ r ≡ L.slotCount (now (pool .entry)) ⌝ }
 {
     let n = pool.len();
     if n < HEAD_SIZE {
-        0
-    } else {
-        (n - HEAD_SIZE) / SLOT_SIZE
+        return 0;
     }
+    slots_in(edition_of(pool), n)
 }
 
-// "A pool is 8 + 42N signed 32-bit words", N from 1 to 4,096.
+// Whether its length is valid, measured by its own edition.
 pub fn valid_length(pool: &[i32]) -> bool
     ensures { λ r. ⌜ r ≡ L.validLength (now (pool .entry)) ⌝ }
 {
-    let n = slot_count(pool);
-    if n < 1 {
+    let n = pool.len();
+    if n < HEAD_SIZE {
         return false;
     }
-    if MOST_SLOTS < n {
-        return false;
-    }
-    pool.len() == HEAD_SIZE + SLOT_SIZE * n
+    valid_size(edition_of(pool), n)
 }
 
 // False where 1 is given: "pool length wrong, or workspace length differs from the pool's".
@@ -129,6 +192,14 @@ pub fn good_number(n: RecordNumber) -> bool
 {
     let k = n.0;
     geometry::le(1, k)
+}
+
+// Req 07: "an owner, 1 or 2".
+pub fn good_owner(o: Owner) -> bool
+    ensures { λ r. ⌜ r ≡ goodOwner o ⌝ }
+{
+    let k = o.0;
+    geometry::and(geometry::le(1, k), geometry::le(k, 2))
 }
 
 // ---- a copy
@@ -200,7 +271,7 @@ pub fn level_of(pool: &[i32], s: SlotNumber) -> usize
     requires { ⌜ InPool (now pool) s ⌝ }
     ensures { λ r. ⌜ r ≡ P.nodeAt (L.read (now (pool .entry))) s .level ⌝ }
 {
-    number_at(pool, slot_start(s))
+    number_at(pool, slot_start(pool, s))
 }
 
 // How many entries are in use.
@@ -209,7 +280,7 @@ pub fn count_of(pool: &[i32], s: SlotNumber) -> usize
     ensures is { λ r. ⌜ r ≡ length (P.entriesAt (L.read (now (pool .entry))) s) ⌝ }
     ensures most { λ r. ⌜ r ≤ most ⌝ }
 {
-    let n = number_at(pool, count_place(s));
+    let n = number_at(pool, count_place(pool, s));
     if n < MOST { n } else { MOST }
 }
 
@@ -236,15 +307,27 @@ pub fn rect_of(pool: &[i32], s: SlotNumber, i: usize) -> Rect
     requires { ⌜ i < length (P.entriesAt (L.read (now pool)) s) ⌝ }
     ensures { λ r. ⌜ r ≡ rectFrom (P.rects (P.entriesAt (L.read (now (pool .entry))) s)) i ⌝ }
 {
-    rect_at(pool, spot(s, i))
+    rect_at(pool, spot(pool, s, i))
 }
 
-// A leaf's pointer is a record number, any other a child slot: here a word becomes one of them.
-fn pointer_of(level: usize, z: i32) -> Pointer
-    ensures { λ r. ⌜ r ≡ L.pointerOf level z ⌝ }
+// The owner of an entry whose words begin at a place; an entry of edition 1 has none, 0.
+pub fn owner_at(pool: &[i32], at: usize) -> i32
+    requires { ⌜ 1 ≤ length (now pool) ⌝ }
+    requires { ⌜ at + L.entrySize (L.editionOf (now pool)) ≤ length (now pool) ⌝ }
+    ensures { λ r. ⌜ r ≡ L.ownerAt (L.editionOf (now (pool .entry))) (drop at (now (pool .entry))) ⌝ }
+{
+    match edition_of(pool) {
+        Edition::One => 0,
+        Edition::Two => word(pool, at + OWNER_PLACE),
+    }
+}
+
+// A leaf's pointer is a record number, with its owner, any other a child slot: here words become one of them.
+fn pointer_of(level: usize, z: i32, owner: i32) -> Pointer
+    ensures { λ r. ⌜ r ≡ L.pointerOf level z owner ⌝ }
 {
     if level == 1 {
-        return Pointer::Number(RecordNumber(z));
+        return Pointer::Number(RecordNumber(z), Owner(owner));
     }
     let s = natural(z);
     Pointer::Child(SlotNumber(s))
@@ -257,8 +340,9 @@ pub fn entry_pointer(pool: &[i32], s: SlotNumber, i: usize) -> Pointer
     ensures { λ r. ⌜ r ≡ P.entryAt (L.read (now (pool .entry))) s i .pointer ⌝ }
 {
     let level = level_of(pool, s);
-    let z = word(pool, pointer_place(s, i));
-    pointer_of(level, z)
+    let z = word(pool, pointer_place(pool, s, i));
+    let owner = owner_at(pool, spot(pool, s, i));
+    pointer_of(level, z, owner)
 }
 
 // The entry at place i.
@@ -279,7 +363,7 @@ pub fn child_of(pool: &[i32], s: SlotNumber, i: usize) -> SlotNumber
     requires { ⌜ P.isLeaf (P.nodeAt (L.read (now pool)) s) ≡ false ⌝ }
     ensures { λ r. ⌜ r ≡ P.childOf (P.entryAt (L.read (now (pool .entry))) s i) ⌝ }
 {
-    SlotNumber(number_at(pool, pointer_place(s, i)))
+    SlotNumber(number_at(pool, pointer_place(pool, s, i)))
 }
 
 // An entry whose words are all zero.
@@ -345,7 +429,7 @@ fn pointer_word(p: Pointer) -> i32
     ensures { λ r. ⌜ r ≡ L.pointerWord p ⌝ }
 {
     match p {
-        Pointer::Number(n) => n.0,
+        Pointer::Number(n, _) => n.0,
         Pointer::Child(s) => {
             let k = s.0;
             k as i32
@@ -353,11 +437,21 @@ fn pointer_word(p: Pointer) -> i32
     }
 }
 
-// The words of an entry, from a place on.
-fn put_entry(pool: &mut [i32], at: usize, e: Entry)
-    requires { ⌜ at + L.entrySize ≤ length (now pool) ⌝ }
+// The word for its owner: "zero in inner entries".
+fn owner_word(p: Pointer) -> i32
+    ensures { λ r. ⌜ r ≡ L.ownerWord p ⌝ }
+{
+    match p {
+        Pointer::Number(_, o) => o.0,
+        Pointer::Child(_) => 0,
+    }
+}
+
+// The words that an entry has in every edition, from a place on.
+fn put_pair(pool: &mut [i32], at: usize, e: Entry)
+    requires { ⌜ at + L.entrySize E.One ≤ length (now pool) ⌝ }
     requires { ⌜ Small (e .pointer) ⌝ }
-    ensures { λ _. ⌜ now (pool .exit) ≡ sets (now (pool .entry)) at (L.entryWords e) ⌝ }
+    ensures { λ _. ⌜ now (pool .exit) ≡ sets (now (pool .entry)) at (L.entryWords E.One e) ⌝ }
 {
     let r = e.rect;
     let p = e.pointer;
@@ -371,6 +465,23 @@ fn put_entry(pool: &mut [i32], at: usize, e: Entry)
     pool[at + 2] = c;
     pool[at + 3] = d;
     pool[at + RECT_SIZE] = k;
+}
+
+// The words of an entry of an edition, from a place on.
+fn put_entry(pool: &mut [i32], edition: Edition, at: usize, e: Entry)
+    requires { ⌜ at + L.entrySize edition ≤ length (now pool) ⌝ }
+    requires { ⌜ Small (e .pointer) ⌝ }
+    ensures { λ _. ⌜ now (pool .exit) ≡ sets (now (pool .entry)) at (L.entryWords edition e) ⌝ }
+{
+    let p = e.pointer;
+    let owner = owner_word(p);
+    put_pair(pool, at, e);
+    match edition {
+        Edition::One => {}
+        Edition::Two => {
+            pool[at + OWNER_PLACE] = owner;
+        }
+    }
 }
 
 // The entry at place i of those in use, or zero words.
@@ -387,15 +498,17 @@ fn write_slot(pool: &mut [i32], s: SlotNumber, level: usize, es: [Entry; MOST + 
     requires { ⌜ level ≤ mostSlots ⌝ }
     requires { ⌜ n ≤ most ⌝ }
     requires { ⌜ SmallAll es n ⌝ }
-    ensures { λ _. ⌜ now (pool .exit) ≡ sets (now (pool .entry)) (L.slotStart s) (L.nodeWords (P.node level (take n es))) ⌝ }
+    ensures { λ _. ⌜ now (pool .exit) ≡ sets (now (pool .entry)) (L.slotStart (L.editionOf (now (pool .entry))) s) (L.nodeWords (L.editionOf (now (pool .entry))) (P.node level (take n es))) ⌝ }
 {
-    let at = slot_start(s);
+    let edition = edition_of(pool);
+    let size = entry_size(edition);
+    let at = slot_start(pool, s);
     pool[at] = level as i32;
     pool[at + 1] = n as i32;
     let mut i: usize = 0;
     while i < MOST {
         let e = used(es, n, i);
-        put_entry(pool, at + SLOT_HEAD + ENTRY_SIZE * i, e);
+        put_entry(pool, edition, at + SLOT_HEAD + size * i, e);
         i += 1;
     }
 }
@@ -407,7 +520,7 @@ pub fn put_node(pool: &mut [i32], s: SlotNumber, level: usize, es: [Entry; MOST 
     requires { ⌜ level ≤ mostSlots ⌝ }
     requires { ⌜ n ≤ most ⌝ }
     requires { ⌜ SmallAll es n ⌝ }
-    requires { ⌜ KindAll level es n ⌝ }
+    requires { ⌜ KindAll (L.editionOf (now pool)) level es n ⌝ }
     ensures is { λ _. ⌜ L.read (now (pool .exit)) ≡ P.putNode (L.read (now (pool .entry))) s (P.node level (take n es)) ⌝ }
     ensures fit { λ _. ⌜ Fit (now (pool .exit)) ⌝ }
 {
@@ -420,13 +533,14 @@ pub fn add_entry(pool: &mut [i32], s: SlotNumber, e: Entry)
     requires { ⌜ InPool (now pool) s ⌝ }
     requires { ⌜ length (P.entriesAt (L.read (now pool)) s) < most ⌝ }
     requires { ⌜ Small (e .pointer) ⌝ }
-    requires { ⌜ L.pointerOf (P.nodeAt (L.read (now pool)) s .level) (L.pointerWord (e .pointer)) ≡ e .pointer ⌝ }
+    requires { ⌜ KindOf (L.editionOf (now pool)) (P.nodeAt (L.read (now pool)) s .level) (e .pointer) ⌝ }
     ensures is { λ _. ⌜ L.read (now (pool .exit)) ≡ P.putEntries (L.read (now (pool .entry))) s (P.entriesAt (L.read (now (pool .entry))) s ++ e ∷ []) ⌝ }
     ensures fit { λ _. ⌜ Fit (now (pool .exit)) ⌝ }
 {
+    let edition = edition_of(pool);
     let n = count_of(pool, s);
-    put_entry(pool, spot(s, n), e);
-    let at = count_place(s);
+    let at = count_place(pool, s);
+    put_entry(pool, edition, spot(pool, s, n), e);
     pool[at] = (n + 1) as i32;
 }
 
@@ -436,9 +550,10 @@ pub fn put_entry_of(pool: &mut [i32], s: SlotNumber, i: usize, e: Entry)
     requires { ⌜ InPool (now pool) s ⌝ }
     requires { ⌜ i < length (P.entriesAt (L.read (now pool)) s) ⌝ }
     requires { ⌜ Small (e .pointer) ⌝ }
-    requires { ⌜ L.pointerOf (P.nodeAt (L.read (now pool)) s .level) (L.pointerWord (e .pointer)) ≡ e .pointer ⌝ }
+    requires { ⌜ KindOf (L.editionOf (now pool)) (P.nodeAt (L.read (now pool)) s .level) (e .pointer) ⌝ }
     ensures is { λ _. ⌜ L.read (now (pool .exit)) ≡ P.putEntries (L.read (now (pool .entry))) s (set (P.entriesAt (L.read (now (pool .entry))) s) i e) ⌝ }
     ensures fit { λ _. ⌜ Fit (now (pool .exit)) ⌝ }
 {
-    put_entry(pool, spot(s, i), e);
+    let edition = edition_of(pool);
+    put_entry(pool, edition, spot(pool, s, i), e);
 }

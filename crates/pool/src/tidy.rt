@@ -4,7 +4,7 @@ ghost use mathlib.Core.Path.{_≡_};
 ghost use mathlib.Core.Bool.{true, _&&_};
 ghost use mathlib.Core.List.{map};
 ghost use Prim.Native.Nat.{_+_, _-_, _*_, _<_, _≤_, min};
-ghost use lib.ListN.{length, replicate};
+ghost use lib.ListN.{length, replicate, drop};
 ghost use lib.IntN.{pos};
 ghost use lib.Signed.{leZ};
 ghost use Rattle.rules.specs.Lists as Li;
@@ -13,22 +13,25 @@ ghost use Rattle.rules.specs.Layout as L;
 ghost use Rattle.rules.specs.Pool as P;
 ghost use Rattle.layout_laws.specs.Slots.{InPool};
 ghost use Rattle.pool.specs.Standing.{stand};
-use crate::EDITION;
 use crate::EDITION_PLACE;
-use crate::ENTRY_SIZE;
 use crate::HEAD_SIZE;
 use crate::HEIGHT_PLACE;
 use crate::RECORDS_PLACE;
 use crate::ROOT_PLACE;
 use crate::SLOT_HEAD;
-use crate::SLOT_SIZE;
 use crate::UNUSED_PLACE;
 use crate::count_of;
 use crate::count_place;
+use crate::edition_number;
+use crate::edition_of;
+use crate::entry_size;
 use crate::level_of;
+use crate::owner_at;
 use crate::pointer_place;
 use crate::slot_count;
+use crate::slot_size;
 use crate::slot_start;
+use crate::spot;
 use crate::word;
 use rules::MOST;
 use rules::SlotNumber;
@@ -89,12 +92,12 @@ fn tidy_numbers(pool: &[i32]) -> bool
     geometry::and(root, geometry::and(height, records))
 }
 
-// "Head: word 0 edition, 1; .. words 4 to 7 zero."
+// "Head: word 0 edition, 1; .. words 4 to 7 zero." A word 0 that is not 2 has to be 1.
 pub fn tidy_head(pool: &[i32]) -> bool
     requires { ⌜ L.validLength (now pool) ≡ true ⌝ }
     ensures { λ r. ⌜ r ≡ stand (L.headWords (L.read (now (pool .entry)))) (now (pool .entry)) 0 ⌝ }
 {
-    let edition = is_word(pool, EDITION_PLACE, EDITION);
+    let edition = is_word(pool, EDITION_PLACE, edition_number(edition_of(pool)));
     let numbers = tidy_numbers(pool);
     let rest = zeros(pool, UNUSED_PLACE, HEAD_SIZE);
     geometry::and(edition, geometry::and(numbers, rest))
@@ -102,11 +105,22 @@ pub fn tidy_head(pool: &[i32]) -> bool
 
 // ---- a slot
 
-// The entries in use. "A leaf's pointer is a record number, any other a child slot", which is not negative. The loop has no branch: all
+// The words of the entry at place i of an inner node: a child slot, which is not negative, and "zero in inner entries" for an owner.
+fn tidy_inner(pool: &[i32], s: SlotNumber, i: usize) -> bool
+    requires { ⌜ InPool (now pool) s ⌝ }
+    requires { ⌜ i < most ⌝ }
+    ensures { λ r. ⌜ r ≡ (leZ (pos 0) (L.wordAt (now (pool .entry)) (L.pointerPlace (L.editionOf (now (pool .entry))) s i)) && Li.same (pos 0) (L.ownerAt (L.editionOf (now (pool .entry))) (drop (L.entryPlace (L.editionOf (now (pool .entry))) s i) (now (pool .entry))))) ⌝ }
+{
+    let child = at_least(pool, pointer_place(pool, s, i), 0);
+    let owner = owner_at(pool, spot(pool, s, i));
+    geometry::and(child, geometry::same(0, owner))
+}
+
+// The entries in use. "A leaf's pointer is a record number, any other a child slot", which has no owner. The loop has no branch: all
 // pointers are looked at.
 fn tidy_entries(pool: &[i32], s: SlotNumber) -> bool
     requires { ⌜ InPool (now pool) s ⌝ }
-    ensures { λ r. ⌜ r ≡ stand (Li.joined (map L.entryWords (P.entriesAt (L.read (now (pool .entry))) s))) (now (pool .entry)) (L.slotStart s + L.slotHead) ⌝ }
+    ensures { λ r. ⌜ r ≡ stand (Li.joined (map (L.entryWords (L.editionOf (now (pool .entry)))) (P.entriesAt (L.read (now (pool .entry))) s))) (now (pool .entry)) (L.slotStart (L.editionOf (now (pool .entry))) s + L.slotHead) ⌝ }
 {
     if level_of(pool, s) == 1 {
         return true;
@@ -115,7 +129,7 @@ fn tidy_entries(pool: &[i32], s: SlotNumber) -> bool
     let mut all = true;
     let mut i: usize = 0;
     while i < n {
-        all = geometry::and(all, at_least(pool, pointer_place(s, i), 0));
+        all = geometry::and(all, tidy_inner(pool, s, i));
         i += 1;
     }
     all
@@ -124,12 +138,15 @@ fn tidy_entries(pool: &[i32], s: SlotNumber) -> bool
 // "unused entries .. are all zero"
 fn tidy_places(pool: &[i32], s: SlotNumber) -> bool
     requires { ⌜ InPool (now pool) s ⌝ }
-    ensures { λ r. ⌜ r ≡ stand (L.padded (most * L.entrySize) (Li.joined (map L.entryWords (P.entriesAt (L.read (now (pool .entry))) s)))) (now (pool .entry)) (L.slotStart s + L.slotHead) ⌝ }
+    ensures { λ r. ⌜ r ≡ stand (L.padded (most * L.entrySize (L.editionOf (now (pool .entry)))) (Li.joined (map (L.entryWords (L.editionOf (now (pool .entry)))) (P.entriesAt (L.read (now (pool .entry))) s)))) (now (pool .entry)) (L.slotStart (L.editionOf (now (pool .entry))) s + L.slotHead) ⌝ }
 {
-    let at = slot_start(s);
+    let edition = edition_of(pool);
+    let size = entry_size(edition);
+    let long = slot_size(edition);
+    let at = slot_start(pool, s);
     let n = count_of(pool, s);
     let used = tidy_entries(pool, s);
-    let rest = zeros(pool, at + SLOT_HEAD + ENTRY_SIZE * n, at + SLOT_SIZE);
+    let rest = zeros(pool, at + SLOT_HEAD + size * n, at + long);
     geometry::and(used, rest)
 }
 
@@ -147,11 +164,11 @@ fn tidy_count(pool: &[i32], at: usize) -> bool
 // "level, count, then 8 entries": the slot's words are those of the node that is read from them.
 pub fn tidy_slot(pool: &[i32], s: SlotNumber) -> bool
     requires { ⌜ InPool (now pool) s ⌝ }
-    ensures { λ r. ⌜ r ≡ stand (L.nodeWords (P.nodeAt (L.read (now (pool .entry))) s)) (now (pool .entry)) (L.slotStart s) ⌝ }
+    ensures { λ r. ⌜ r ≡ stand (L.nodeWords (L.editionOf (now (pool .entry))) (P.nodeAt (L.read (now (pool .entry))) s)) (now (pool .entry)) (L.slotStart (L.editionOf (now (pool .entry))) s) ⌝ }
 {
-    let at = slot_start(s);
+    let at = slot_start(pool, s);
     let level = at_least(pool, at, 0);
-    let count = tidy_count(pool, count_place(s));
+    let count = tidy_count(pool, count_place(pool, s));
     let places = tidy_places(pool, s);
     geometry::and(level, geometry::and(count, places))
 }
@@ -159,10 +176,11 @@ pub fn tidy_slot(pool: &[i32], s: SlotNumber) -> bool
 // "free slots are all zero"
 pub fn zero_slot(pool: &[i32], s: SlotNumber) -> bool
     requires { ⌜ InPool (now pool) s ⌝ }
-    ensures { λ r. ⌜ r ≡ stand (L.nodeWords P.freeNode) (now (pool .entry)) (L.slotStart s) ⌝ }
+    ensures { λ r. ⌜ r ≡ stand (L.nodeWords (L.editionOf (now (pool .entry))) P.freeNode) (now (pool .entry)) (L.slotStart (L.editionOf (now (pool .entry))) s) ⌝ }
 {
-    let at = slot_start(s);
-    zeros(pool, at, at + SLOT_SIZE)
+    let long = slot_size(edition_of(pool));
+    let at = slot_start(pool, s);
+    zeros(pool, at, at + long)
 }
 
 // The pointer of the entry at place i is 1 or more, whether it is a record number or a child slot.
@@ -171,5 +189,5 @@ pub fn numbered(pool: &[i32], s: SlotNumber, i: usize) -> bool
     requires { ⌜ i < length (P.entriesAt (L.read (now pool)) s) ⌝ }
     ensures { λ r. ⌜ r ≡ leZ (pos 1) (L.pointerWord (P.entryAt (L.read (now (pool .entry))) s i .pointer)) ⌝ }
 {
-    at_least(pool, pointer_place(s, i), 1)
+    at_least(pool, pointer_place(pool, s, i), 1)
 }

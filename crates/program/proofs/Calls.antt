@@ -9,20 +9,22 @@ use native.Mathlib.Decide.{decLe}
 use native.Mathlib.Nat.{min-eq-left, min-eq-right}
 use lib.ListN.{length, getD, set, replicate}
 use lib.Seq.{sets, length-sets}
-use lib.IntN.{ℤ}
+use lib.IntN.{ℤ, pos}
 use borrow.Author.Tests.{eq-eqb}
-use Rattle.rules.specs.declared.Record.{Record}
+use Rattle.rules.specs.declared.FoundRecord.{FoundRecord}
 use Rattle.rules.specs.declared.Request.{Request}
 use Rattle.rules.specs.declared.Asked.{Asked}
+use Rattle.rules.specs.Numbers.{goodOwner}
 use Rattle.rules.specs.Lists.{every}
-use Rattle.rules.specs.Layout.{validLength, words, read}
+use Rattle.rules.specs.Owners.{owner, ownerIn}
+use Rattle.rules.specs.Layout.{validLength, words, editionOf, read}
 use Rattle.rules.specs.Sound.{sound}
 use Rattle.rules.specs.Insert.{ours}
 use Rattle.rules.specs.Answers.{answer, answerOf, firstRow}
 use Rattle.rules.specs.Request.{asked, request}
-use Rattle.rules.specs.Call.{Lent, Left, afterTurn, doRequest, doRequests, isRequest, callFault, served, starting, callBy, call}
+use Rattle.rules.specs.Call.{Lent, Left, afterTurn, doRequest, doRequests, isRequest, callFault, served, starting, batchOwner, callBy, call}
 use Rattle.rules.specs.Frames.{frameCall, replyLines}
-use Rattle.found_items.specs.Items.{itemAt, itemsFrom}
+use Rattle.found_items.specs.Items.{shownAt, shownFrom}
 use Rattle.found_items.proofs.Words.{items-none, items-one, items-length, items-append}
 use Rattle.request.specs.declared.Served.{Served}
 use Rattle.request.specs.Serving.{Serves}
@@ -35,57 +37,57 @@ use Rattle.rules.specs.Pool.{noRecord}
 
 -- ---- the found list
 
-abbrev empties : List Record
+abbrev empties : List FoundRecord
 empties = replicate 64 noRecord
 
 module _ (p w : List ℤ) where
-  pub empties-none : empties ≡ sets empties 0 (itemsFrom p w 0 0)
-  empties-none = rw (items-none p w 0)
+  pub empties-none : empties ≡ sets empties 0 (shownFrom p w 0 0)
+  empties-none = rw (items-none (shownAt p w) 0)
 
-  pub empties-more : (k : ℕ) → set (sets empties 0 (itemsFrom p w 0 k)) k (itemAt p w k) ≡ sets empties 0 (itemsFrom p w 0 (k + 1))
+  pub empties-more : (k : ℕ) → set (sets empties 0 (shownFrom p w 0 k)) k (shownAt p w k) ≡ sets empties 0 (shownFrom p w 0 (k + 1))
   empties-more k =
-      let n = items-length p w 0 k in
-      let e : 0 + length (itemsFrom p w 0 k) ≡ k = omega arith in
+      let n = items-length (shownAt p w) 0 k in
+      let e : 0 + length (shownFrom p w 0 k) ≡ k = omega arith in
       let z : 0 + k ≡ k = omega arith in
-      let more : itemsFrom p w 0 (k + 1) ≡ itemsFrom p w 0 k ++ itemAt p w k ∷ [] =
-      items-append p w 0 k 1 ∙ ap (λ (l : List Record). itemsFrom p w 0 k ++ l) (ap (λ (j : ℕ). itemsFrom p w j 1) z ∙ items-one p w k) in
-      ap (λ (j : ℕ). set (sets empties 0 (itemsFrom p w 0 k)) j (itemAt p w k)) (sym e)
-      ∙ sets-append (itemsFrom p w 0 k) (itemAt p w k ∷ []) empties 0 ∙ ap (λ (l : List Record). sets empties 0 l) (sym more)
+      let more : shownFrom p w 0 (k + 1) ≡ shownFrom p w 0 k ++ shownAt p w k ∷ [] =
+      items-append (shownAt p w) 0 k 1 ∙ ap (λ (l : List FoundRecord). shownFrom p w 0 k ++ l) (ap (λ (j : ℕ). shownFrom p w j 1) z ∙ items-one (shownAt p w) k) in
+      ap (λ (j : ℕ). set (sets empties 0 (shownFrom p w 0 k)) j (shownAt p w k)) (sym e)
+      ∙ sets-append (shownFrom p w 0 k) (shownAt p w k ∷ []) empties 0 ∙ ap (λ (l : List FoundRecord). sets empties 0 l) (sym more)
 
   -- the list has 64 places, so no more are filled
-  pub empties-all : (n : ℕ) → sets empties 0 (itemsFrom p w 0 (min n 64)) ≡ sets empties 0 (itemsFrom p w 0 n)
+  pub empties-all : (n : ℕ) → sets empties 0 (shownFrom p w 0 (min n 64)) ≡ sets empties 0 (shownFrom p w 0 n)
   empties-all n = go (decLe n 64)
     where
-      go : Dec (n ≤ 64) → sets empties 0 (itemsFrom p w 0 (min n 64)) ≡ sets empties 0 (itemsFrom p w 0 n)
-      go (yes h) = ap (λ (k : ℕ). sets empties 0 (itemsFrom p w 0 k)) (min-eq-left h)
+      go : Dec (n ≤ 64) → sets empties 0 (shownFrom p w 0 (min n 64)) ≡ sets empties 0 (shownFrom p w 0 n)
+      go (yes h) = ap (λ (k : ℕ). sets empties 0 (shownFrom p w 0 k)) (min-eq-left h)
       go (no h) =
           let m : min n 64 ≡ 64 = min-eq-right {n = 64} {m = n} (omega arith) in
           let e : 64 + (n - 64) ≡ n = omega arith in
-          let l = items-length p w 0 64 in
-          let f : 0 + length (itemsFrom p w 0 64) ≡ 64 = omega arith in
-          ap (λ (k : ℕ). sets empties 0 (itemsFrom p w 0 k)) m
-          ∙ sym (ap (λ (k : ℕ). sets empties 0 (itemsFrom p w 0 k)) (sym e) ∙ ap (λ (r : List Record). sets empties 0 r) (items-append p w 0 64 (n - 64))
-          ∙ sym (sets-append (itemsFrom p w 0 64) (itemsFrom p w 64 (n - 64)) empties 0)
-          ∙ ap (λ (j : ℕ). sets (sets empties 0 (itemsFrom p w 0 64)) j (itemsFrom p w 64 (n - 64))) f
-          ∙ sets-beyond (itemsFrom p w 64 (n - 64)) (sets empties 0 (itemsFrom p w 0 64)) 64 (omega (arith, length-sets empties 0 (itemsFrom p w 0 64))))
+          let l = items-length (shownAt p w) 0 64 in
+          let f : 0 + length (shownFrom p w 0 64) ≡ 64 = omega arith in
+          ap (λ (k : ℕ). sets empties 0 (shownFrom p w 0 k)) m
+          ∙ sym (ap (λ (k : ℕ). sets empties 0 (shownFrom p w 0 k)) (sym e) ∙ ap (λ (r : List FoundRecord). sets empties 0 r) (items-append (shownAt p w) 0 64 (n - 64))
+          ∙ sym (sets-append (shownFrom p w 0 64) (shownFrom p w 64 (n - 64)) empties 0)
+          ∙ ap (λ (j : ℕ). sets (sets empties 0 (shownFrom p w 0 64)) j (shownFrom p w 64 (n - 64))) f
+          ∙ sets-beyond (shownFrom p w 64 (n - 64)) (sets empties 0 (shownFrom p w 0 64)) 64 (omega (arith, length-sets empties 0 (shownFrom p w 0 64))))
 
 -- ---- the call
 
 lentBy : List ℤ → Request → Lent
-lentBy w q = record { pool = w; workspace = w; requests = q ∷ []; answers = answer 0 0 0 0 ∷ []; found = empties }
+lentBy w q = record { owner = owner (pos 1); pool = w; workspace = w; requests = q ∷ []; answers = answer 0 0 0 0 ∷ []; found = empties }
 
 module _ (w : List ℤ) (q : Request) (right : validLength w ≡ true) (ok : sound w ≡ true) (is : isRequest q ≡ true) where
   one-accepted : callFault (lentBy w q) ≡ none
-  unfolding callFault firstRow lentBy every
+  unfolding callFault firstRow lentBy every goodOwner
   one-accepted = rw (callFault, firstRow, right, eq-eqb (length w) (length w) refl, ok, is)
 
   one-served : call (lentBy w q) ≡ served (doRequests ours 0 (q ∷ []) (starting (lentBy w q)))
   unfolding call callBy lentBy
   one-served = rw (call, callBy, one-accepted)
 
-  module _ (a : Asked) (e : asked q ≡ some a) where
+  module _ (a : Asked) (e : asked (ownerIn (editionOf w) (owner (pos 1))) q ≡ some a) where
     one-done : doRequests ours 0 (q ∷ []) (starting (lentBy w q)) ≡ afterTurn 0 (starting (lentBy w q)) (request ours (read w) 0 64 a)
-    unfolding doRequests doRequest starting lentBy
+    unfolding doRequests doRequest starting lentBy batchOwner read
     one-done = rw (doRequests, e)
 
     frame-is : frameCall w q ≡ served (afterTurn 0 (starting (lentBy w q)) (request ours (read w) 0 64 a))
@@ -103,14 +105,14 @@ module _ (w : List ℤ) (q : Request) (right : validLength w ≡ true) (ok : sou
 
 -- one request does the call, and its lines are the call's
 pub replies-by : (w : List ℤ) (q : Request) (a : Asked) (before at : ℕ) (out now : List ℕ) (left scratch : List ℤ) (s : Served) (filled : ℕ)
-    (f : List Record) → validLength w ≡ true → sound w ≡ true → isRequest q ≡ true → asked q ≡ some a
-    → Serves (length w) (request ours (read w) 0 64 a) s left scratch → f ≡ sets empties 0 (itemsFrom left scratch 0 (min (s .listed) 64))
+    (f : List FoundRecord) → validLength w ≡ true → sound w ≡ true → isRequest q ≡ true → asked (ownerIn (editionOf w) (owner (pos 1))) q ≡ some a
+    → Serves (length w) (request ours (read w) 0 64 a) s left scratch → f ≡ sets empties 0 (shownFrom left scratch 0 (min (s .listed) 64))
     → Wrote out at (replyLines (suc before) (s .answer) f) now filled → filled ≤ at + 7124 → Replies w q before out at left now (s .free) filled
 replies-by w q a before at out now left scratch s filled f right ok is e v g t h =
     record {
       ready = v .ready;
       map = sym (left-is w q right ok is a e ∙ ap words (sym (v .pool)) ∙ sound-fit left (v .ready .right) (v .ready .sound) .same);
-      wrote = wrote-as (ap₂ (replyLines (suc before)) (v .answer) (g ∙ empties-all left scratch (s .listed) ∙ ap (λ (l : List Record). sets empties 0 l) (v .items))
+      wrote = wrote-as (ap₂ (replyLines (suc before)) (v .answer) (g ∙ empties-all left scratch (s .listed) ∙ ap (λ (l : List FoundRecord). sets empties 0 l) (v .items))
           ∙ sym (replied-is w q right ok is a e before)) t;
       short = h;
     }

@@ -5,6 +5,7 @@ use mathlib.Core.List.{List, [], _++_}
 use Prim.Native.Nat.{ℕ, suc, _+_, _*_, _≤_}
 use lib.ListN.{length, take}
 use lib.IntN.{ℤ, pos}
+use Rattle.rules.specs.declared.Edition.the-variants.{One}
 use Rattle.rules.specs.declared.Request.{Request}
 use Rattle.rules.specs.Layout.{headSize, slotSize}
 use Rattle.rules.specs.Frames.{frameCall, badLine, dustmap}
@@ -23,7 +24,7 @@ use Rattle.program.specs.Moving.{mostRounds, heldIn, Taken, Stuck, Empti
 
 -- "a 128-slot pool (5,384 words)"
 abbrev pub poolSize : ℕ
-poolSize = headSize + slotSize * 128
+poolSize = headSize + slotSize One * 128
 
 -- with the bytes `arrived` read and `printed` written before, all that is to be printed is this, the first bytes of `out`, and what the bytes
 -- that are not done print

@@ -8,7 +8,7 @@ ghost use lib.ListN.{length, replicate};
 ghost use lib.Seq.{sets};
 ghost use Rattle.rules.specs.Pool.{number, noRecord};
 ghost use Rattle.rules.specs.Call.{isRequest};
-ghost use Rattle.found_items.specs.Items.{itemsFrom, Pointing};
+ghost use Rattle.found_items.specs.Items.{shownFrom, Pointing};
 ghost use Rattle.request.specs.Serving.{Ready};
 ghost use Rattle.program.specs.Moving.{mostRounds, again, movedBy, heldUpTo, Sends, Flushes, Receives};
 ghost use Rattle.program.specs.Running.{poolSize, Stands, Onward, Replies, Drains, Closes, Ending, Waited, Rounds, Runs};
@@ -16,13 +16,14 @@ use frames::Framed;
 use free_slots::FreeSlots;
 use libc::STDIN_FILENO;
 use libc::STDOUT_FILENO;
-use rules::Record;
+use rules::Edition;
+use rules::FoundRecord;
 use rules::RecordNumber;
 use rules::Rect;
 use rules::Request;
 
 // "a 128-slot pool (5,384 words)"
-const WORDS: usize = pool::HEAD_SIZE + pool::SLOT_SIZE * 128;
+const WORDS: usize = 5384;
 
 // The lines of one frame take no more bytes of the output than this.
 const ROOM: usize = 7124;
@@ -63,7 +64,7 @@ struct Answered {
 }
 
 // A place of the found list before anything is found.
-fn no_record() -> Record
+fn no_record() -> FoundRecord
     ensures { λ r. ⌜ r ≡ noRecord ⌝ }
 {
     let number = RecordNumber(0);
@@ -73,7 +74,7 @@ fn no_record() -> Record
         highX: 0,
         highY: 0,
     };
-    Record { number, rect }
+    FoundRecord { number, rect }
 }
 
 fn least(a: usize, b: usize) -> usize
@@ -83,11 +84,11 @@ fn least(a: usize, b: usize) -> usize
 }
 
 // "a found list of 64", filled with what the request listed.
-fn found_list(pool: &[i32], work: &[i32], listed: usize) -> [Record; 64]
+fn found_list(pool: &[i32], work: &[i32], listed: usize) -> [FoundRecord; 64]
     requires { ⌜ length (now pool) ≡ poolSize ⌝ }
     requires { ⌜ length (now work) ≡ poolSize ⌝ }
     requires { ⌜ Pointing (now pool) (now work) 0 listed ⌝ }
-    ensures { λ r. ⌜ r ≡ sets (replicate 64 noRecord) 0 (itemsFrom (now (pool .entry)) (now (work .entry)) 0 (min listed 64)) ⌝ }
+    ensures { λ r. ⌜ r ≡ sets (replicate 64 noRecord) 0 (shownFrom (now (pool .entry)) (now (work .entry)) 0 (min listed 64)) ⌝ }
 {
     let none = no_record();
     let shown = least(listed, 64);
@@ -118,7 +119,7 @@ fn answer(
     requires counted { ⌜ before < mostRounds ⌝ }
     ensures { λ r. ⌜ Replies (now (pool .entry)) q before (now (out .entry)) at (now (pool .exit)) (now (out .exit)) (r .free) (r .filled) ⌝ }
 {
-    let served = request::one_request(pool, work, q, 0, 64, free);
+    let served = request::one_request(pool, work, 1, q, 0, 64, free);
     let left = served.free;
     let a = served.answer;
     let found = found_list(pool, work, served.listed);
@@ -409,7 +410,7 @@ fn answer_all() -> i32
     let mut work = [0i32; WORDS];
     let mut input = io::large_buffer();
     let mut out = io::large_buffer();
-    pool::blank::blank(&mut pool);
+    pool::blank::blank(&mut pool, Edition::One);
     let free = free_slots::free_slots(&pool);
     let mut run = Run {
         before: 0,

@@ -1,2 +1,3 @@
 -- What follows from the promises alone.
 pub mod Once
+pub mod Plain

@@ -4,6 +4,7 @@ use mathlib.Core.Bool.{Bool, true, false}
 use mathlib.Core.Option.{Option, none, some}
 use Prim.Native.Nat.{ℕ}
 use lib.IntN.{ℤ, pos}
+use Rattle.rules.specs.declared.Owner.{Owner}
 use Rattle.rules.specs.declared.Request.{Request}
 use Rattle.rules.specs.declared.Asked.{Asked}
 use Rattle.rules.specs.declared.Asked.the-variants.{Insert, Delete, Update, Search}
@@ -16,23 +17,23 @@ use Rattle.sound_laws.proofs.Same.{same-is}
 use Rattle.in_force_laws.proofs.Asks.{asks-nothing}
 use Rattle.request.specs.Serving.{modeOf}
 use Rattle.rules.specs.Answers.{firstRow, answer, answerOf}
-use Rattle.rules.specs.Request.{asked}
+use Rattle.rules.specs.Request.{pairIn, asked}
 use Rattle.rules.specs.Call.{isRequest}
 
-module _ (q : Request) where
+module _ (o : Owner) (q : Request) where
   abbrev kind : ℤ → Bool
   kind k = same (q .kind) k
 
-  pub asks-insert : kind (pos 1) ≡ true → asked q ≡ some (Insert (record { number = q .number; rect = q .first }))
+  pub asks-insert : kind (pos 1) ≡ true → asked o q ≡ some (Insert (pairIn o q))
   unfolding asked firstRow
   asks-insert h = rw (h, firstRow)
 
-  pub asks-delete : kind (pos 1) ≡ false → kind (pos 2) ≡ true → asked q ≡ some (Delete (record { number = q .number; rect = q .first }))
+  pub asks-delete : kind (pos 1) ≡ false → kind (pos 2) ≡ true → asked o q ≡ some (Delete (pairIn o q))
   unfolding asked firstRow
   asks-delete a h = rw (a, h, firstRow)
 
   pub asks-update : kind (pos 1) ≡ false → kind (pos 2) ≡ false → kind (pos 3) ≡ true
-      → asked q ≡ some (Update (record { number = q .number; rect = q .first }) (q .second))
+      → asked o q ≡ some (Update (pairIn o q) (q .second))
   unfolding asked firstRow
   asks-update a b h = rw (a, b, h, firstRow)
 
@@ -50,15 +51,15 @@ module _ (q : Request) where
   kind-6 n e = rw (n, e)
 
   pub asks-search : kind (pos 1) ≡ false → kind (pos 2) ≡ false → kind (pos 3) ≡ false → isRequest q ≡ true
-      → asked q ≡ some (Search (modeOf (q .kind)) (q .first))
+      → asked o q ≡ some (Search o (modeOf (q .kind)) (q .first))
   unfolding asked firstRow
   asks-search a b d h = go (kind (pos 4)) (kind (pos 5)) (kind (pos 6)) refl refl refl
     where
-      go : (x y z : Bool) → kind (pos 4) ≡ x → kind (pos 5) ≡ y → kind (pos 6) ≡ z → asked q ≡ some (Search (modeOf (q .kind)) (q .first))
+      go : (x y z : Bool) → kind (pos 4) ≡ x → kind (pos 5) ≡ y → kind (pos 6) ≡ z → asked o q ≡ some (Search o (modeOf (q .kind)) (q .first))
       go true y z e f g = rw (kind-4 e, a, b, d, e, firstRow)
       go false true z e f g = rw (kind-5 f, a, b, d, e, f, firstRow)
       go false false true e f g = rw (kind-6 f g, a, b, d, e, f, g, firstRow)
-      go false false false e f g = never-both h (asks-nothing q (rw (a, b, d, e, f, g, firstRow)))
+      go false false false e f g = never-both h (asks-nothing o q (rw (a, b, d, e, f, g, firstRow)))
 
 -- ---- what is told
 
@@ -97,8 +98,8 @@ module _ (reply : Reply) where
 
 -- ---- what is asked is one thing
 
-pub asks-one : (P : Asked → Type 0) (q : Request) (b : Asked) → asked q ≡ some b → P b → (a : Asked) → asked q ≡ some a → P a
-asks-one P q b h x a e = subst P (ap pick (sym h ∙ e)) x
+pub asks-one : (P : Asked → Type 0) (x o : Owner) → x ≡ o → (q : Request) (b : Asked) → asked x q ≡ some b → P b → (a : Asked) → asked o q ≡ some a → P a
+asks-one P x o is q b h y a e = subst P (ap pick (sym h ∙ ap (λ (w : Owner). asked w q) is ∙ e)) y
   where
     pick : Option Asked → Asked
     pick none = b

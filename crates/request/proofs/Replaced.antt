@@ -6,7 +6,7 @@ use lib.ListN.{length}
 use lib.IntN.{ℤ}
 use Rattle.rules.specs.declared.Rect.{Rect}
 use Rattle.rules.specs.declared.Record.{Record}
-use Rattle.rules.specs.Pool.{Pool}
+use Rattle.rules.specs.Pool.{Pool, moved}
 use Rattle.rules.specs.Layout.{read}
 use Rattle.rules.specs.Insert.{ours, Change, Done, NoneFree, insertRecord}
 use Rattle.rules.specs.Delete.{deleteRecord, updateRecord}
@@ -16,7 +16,8 @@ use Rattle.sound_laws.specs.Tree.{Whole}
 use Rattle.free_slots.specs.declared.FreeSlots.{FreeSlots}
 use Rattle.free_slots.specs.Known.{Known}
 use Rattle.delete_laws.proofs.Delete.{delete-whole}
-use Rattle.delete_laws.proofs.Update.{renewed, update-done, update-stuck}
+use Rattle.delete_laws.proofs.Lasting.{delete-edition}
+use Rattle.delete_laws.proofs.Update.{update-done, update-stuck}
 use Rattle.insert.specs.declared.Outcome.{Outcome}
 use Rattle.insert.specs.declared.Outcome.the-variants.{Made, Refused}
 use Rattle.insert.specs.Left.{Leaves}
@@ -33,6 +34,7 @@ leaves-removes w v u NoneFree Refused e h = e
 pub record Half (w : List ℤ) (g : FreeSlots) (v : List ℤ) : Type 0 where
   pub fit : Fit v
   pub whole : Whole (read v)
+  pub edition : read v .edition ≡ read w .edition
   pub known : Known (read v) g
 
 module _ (w : List ℤ) (whole : Whole (read w)) (old : Record) (new : Rect) where
@@ -57,17 +59,18 @@ module _ (w : List ℤ) (whole : Whole (read w)) (old : Record) (new : Rect) whe
         go (Done q) e k = record {
           fit = k .fit;
           whole = subst Whole (sym (k .is)) (delete-whole ours ours-lawful (read w) whole old q e);
+          edition = ap (λ (p : Pool). p .edition) (k .is) ∙ delete-edition ours (read w) q old e;
           known = subst (λ (p : Pool). Known p g) (sym (k .is)) (k .known);
         }
         go NoneFree e k = absurd k
 
-    pub replace-made : (o : Outcome) (u : List ℤ) → length u ≡ length w → Leaves v (insertRecord ours (read v) (renewed old new)) o u
+    pub replace-made : (o : Outcome) (u : List ℤ) → length u ≡ length w → Leaves v (insertRecord ours (read v) (moved old new)) o u
         → Removes w (updateRecord ours (read w) old new) o u
     replace-made o u e l = go deletes refl half
       where
         go : (c : Change) → deletes ≡ c → Removes w c (Made g) v → Removes w (updateRecord ours (read w) old new) o u
         go (Done q) d k =
             subst (λ (c : Change). Removes w c o u)
-            (ap (λ (p : Pool). insertRecord ours p (renewed old new)) (k .is) ∙ sym (update-done ours (read w) old new q d))
-            (leaves-removes w v u (insertRecord ours (read v) (renewed old new)) o e l)
+            (ap (λ (p : Pool). insertRecord ours p (moved old new)) (k .is) ∙ sym (update-done ours (read w) old new q d))
+            (leaves-removes w v u (insertRecord ours (read v) (moved old new)) o e l)
         go NoneFree d k = absurd k

@@ -7,15 +7,17 @@ use Prim.Native.Nat.{ℕ, _≤_, _<_}
 use lib.ListN.{length}
 use borrow.Author.Tests.{lt-ltb, le-ltb}
 use Rattle.rules.specs.declared.Rect.{Rect}
+use Rattle.rules.specs.declared.Owner.{Owner}
 use Rattle.rules.specs.declared.Record.{Record}
 use Rattle.rules.specs.declared.Mode.{Mode}
 use Rattle.rules.specs.declared.Asked.the-variants.{Insert, Delete, Update, Search}
 use Rattle.rules.specs.declared.Reply.the-variants.{Listed, BadRectangle, BadNumber, NotHeld, Held, NoRoom}
 use Rattle.rules.specs.Numbers.{goodNumber}
 use Rattle.rules.specs.Lists.{same}
+use Rattle.rules.specs.Owners.{ownedBy}
 use Rattle.rules.specs.Geometry.{valid}
 use Rattle.rules.specs.Compare.{compared, isEqual, exactPair}
-use Rattle.rules.specs.Pool.{Pool, held}
+use Rattle.rules.specs.Pool.{Pool, moved, held}
 use Rattle.rules.specs.Search.{found, opened}
 use Rattle.rules.specs.Insert.{ours, insertRecord}
 use Rattle.rules.specs.Delete.{deleteRecord, updateRecord}
@@ -105,43 +107,46 @@ module _ (p : Pool) (filled room : ℕ) (old : Record) (new : Rect) where
 
 -- ---- search: 3, 8
 
-module _ (p : Pool) (filled room : ℕ) (mode : Mode) (window : Rect) where
+module _ (p : Pool) (filled room : ℕ) (o : Owner) (mode : Mode) (window : Rect) where
   abbrev searches : Turn
-  searches = request ours p filled room (Search mode window)
+  searches = request ours p filled room (Search o mode window)
 
   pub search-3 : valid window ≡ false → searches ≡ turn p BadRectangle []
   unfolding searchFault firstRow
-  search-3 v = search-some ours p filled room mode window BadRectangle (rw (v, firstRow))
+  search-3 v = search-some ours p filled room o mode window BadRectangle (rw (v, firstRow))
 
-  pub search-8 : valid window ≡ true → room < length (found p mode window) → searches ≡ turn p (NoRoom (length (found p mode window)) (opened p window)) []
+  pub search-8 : valid window ≡ true → room < length (found p o mode window) → searches ≡ turn p (NoRoom (length (found p o mode window)) (opened p window)) []
   unfolding searchFault firstRow
-  search-8 v h = search-some ours p filled room mode window (NoRoom (length (found p mode window)) (opened p window)) (rw (v, lt-ltb _ _ h, firstRow))
+  search-8 v h = search-some ours p filled room o mode window (NoRoom (length (found p o mode window)) (opened p window)) (rw (v, lt-ltb _ _ h, firstRow))
 
-  pub search-0 : valid window ≡ true → length (found p mode window) ≤ room
-      → searches ≡ turn p (Listed (length (found p mode window)) filled (opened p window)) (found p mode window)
+  pub search-0 : valid window ≡ true → length (found p o mode window) ≤ room
+      → searches ≡ turn p (Listed (length (found p o mode window)) filled (opened p window)) (found p o mode window)
   unfolding searchFault firstRow
-  search-0 v h = search-none ours p filled room mode window (rw (v, le-ltb _ _ h, firstRow))
+  search-0 v h = search-none ours p filled room o mode window (rw (v, le-ltb _ _ h, firstRow))
 
 -- ---- "and not the old pair"
 
 module _ (p : Pool) (old : Record) (new : Rect) where
   abbrev moves : Record
-  moves = record { number = old .number; rect = new }
+  moves = moved old new
 
   same-number : same (old .number .0) (old .number .0) ≡ true
   same-number = same-is (old .number .0) (old .number .0) .1 refl
 
+  same-owner : same (old .owner .0) (old .owner .0) ≡ true
+  same-owner = same-is (old .owner .0) (old .owner .0) .1 refl
+
   -- the pair is the old one where the rectangle is
   pub other-same : isEqual (compared (old .rect) new) ≡ true → false ≡ otherHeld p old new
-  unfolding otherHeld exactPair
-  other-same h = rw (same-number, h) (go (held p moves))
+  unfolding otherHeld exactPair ownedBy
+  other-same h = rw (same-number, h, same-owner) (go (held p moves))
     where
       go : (b : Bool) → false ≡ (b && false)
       go true = refl
       go false = refl
 
   pub other-new : isEqual (compared (old .rect) new) ≡ false → held p moves ≡ otherHeld p old new
-  unfolding otherHeld exactPair
+  unfolding otherHeld exactPair ownedBy
   other-new h = rw (same-number, h) (go (held p moves))
     where
       go : (b : Bool) → b ≡ (b && true)

@@ -16,7 +16,9 @@ use Rattle.rules.specs.declared.Asked.{Asked}
 use Rattle.rules.specs.declared.Asked.the-variants.{Insert, Delete, Update}
 use Rattle.rules.specs.declared.Reply.{Reply}
 use Rattle.rules.specs.declared.Reply.the-variants.{Changed, NoSlot}
-use Rattle.rules.specs.Pool.{Pool, held, freeCount}
+use Rattle.rules.specs.Owners.{ownerSound}
+use Rattle.rules.specs.Pool.{Pool, stored, held, freeCount}
+use Rattle.rules.specs.Sound.{ownersSound}
 use Rattle.rules.specs.Layout.{read}
 use Rattle.rules.specs.Numbers.{goodNumber}
 use Rattle.rules.specs.Geometry.{valid}
@@ -41,9 +43,12 @@ use Rattle.request.specs.Serving.{Ready, Changes, ChangesTo, replied, ca
 use Rattle.rules_laws.proofs.Splits.{ours-lawful}
 use Rattle.insert_laws.proofs.Whole.{insert-whole}
 use Rattle.delete_laws.proofs.Delete.{delete-whole, delete-fits, pool-left}
+use Rattle.delete_laws.proofs.Held.{held-stored}
 use Rattle.delete_laws.proofs.Update.{update-whole, update-fits}
 use Rattle.request.proofs.Rows.{insert-0, delete-0, update-0}
-use Rattle.in_force_laws.proofs.Sounds.{sound-fit, sound-tree, fit-sound}
+use Rattle.in_force_laws.proofs.Sounds.{sound-fit, sound-tree, sound-owners, fit-sound}
+use Rattle.in_force_laws.specs.Shows.{EachOwned}
+use Rattle.in_force_laws.proofs.Owned.{owned-sound, insert-owned, delete-owned, update-owned}
 
 -- ---- ready
 
@@ -54,10 +59,24 @@ module _ (w : List ℤ) (f : FreeSlots) (r : Ready w f) where
   pub ready-whole : Whole (read w)
   ready-whole = sound-tree w (r .sound)
 
-held-ready : (q : Pool) (f : FreeSlots) (w : List ℤ) → Whole q → HoldsPool q f w → Ready w f
+  pub ready-owners : ownersSound (read w) ≡ true
+  ready-owners = sound-owners w (r .sound)
+
+  ready-each : EachOwned (read w) (stored (read w))
+  ready-each = owned-sound (read w) .0 ready-owners
+
+  -- a pair that is held is of an owner that the edition has
+  pub ready-owner : (x : Record) → held (read w) x ≡ true → ownerSound (read w .edition) (x .owner) ≡ true
+  ready-owner x h = ready-each x (held-stored x (read w) h)
+
+-- what a change leaves: one tree, with owners that its edition has
+abbrev Keeps : Pool → Type 0
+Keeps q = Whole q × (ownersSound q ≡ true)
+
+held-ready : (q : Pool) (f : FreeSlots) (w : List ℤ) → Keeps q → HoldsPool q f w → Ready w f
 held-ready q f w t h = record {
   right = h .fit .right;
-  sound = fit-sound w (h .fit) (subst Whole (sym (h .is)) t);
+  sound = fit-sound w (h .fit) (subst Whole (sym (h .is)) (t .0)) (subst (λ (p : Pool). ownersSound p ≡ true) (sym (h .is)) (t .1));
   known = subst (λ (p : Pool). Known p f) (sym (h .is)) (h .known);
 }
 
@@ -70,14 +89,14 @@ module _ (w : List ℤ) (f : FreeSlots) (r : Ready w f) where
 
 -- ---- changed
 
-made : (q : Pool) (g : FreeSlots) (v : List ℤ) (n : ℕ) → Whole q → HoldsPool q g v → length v ≡ n
+made : (q : Pool) (g : FreeSlots) (v : List ℤ) (n : ℕ) → Keeps q → HoldsPool q g v → length v ≡ n
     → Changes n (turn q Changed []) (replied Changed g) v
 unfolding replied
 made q g v n t h e = record { ready = held-ready q g v t h; pool = h .is; answer = refl; none = refl; listed = refl; same = e }
 
 module _ (w : List ℤ) (f : FreeSlots) (r : Ready w f) where
   -- an insert: where it is refused nothing was written
-  pub inserted : (change : Change) → EachPool Whole change → (o : Outcome) (v : List ℤ) → length v ≡ length w → Leaves w change o v
+  pub inserted : (change : Change) → EachPool Keeps change → (o : Outcome) (v : List ℤ) → length v ≡ length w → Leaves w change o v
       → Changes (length w) (afterChange (read w) change) (came o f) v
   unfolding afterChange came
   inserted (Done q) t (Made g) v e h = made q g v (length w) t h e
@@ -88,7 +107,7 @@ module _ (w : List ℤ) (f : FreeSlots) (r : Ready w f) where
   -- a delete or an update: where it is refused it is taken back from the copy, which was made where slots are scarce; where they are not,
   -- it is not refused
   module _ (room : ℕ) (kept : List ℤ) (copied : ltb (f .count) room ≡ true → kept ≡ w) where
-    pub removed : (change : Change) → EachPool Whole change → (room ≤ f .count → change ≢ NoneFree) → (o : Outcome) (v : List ℤ)
+    pub removed : (change : Change) → EachPool Keeps change → (room ≤ f .count → change ≢ NoneFree) → (o : Outcome) (v : List ℤ)
         → Removes w change o v → (u : List ℤ) → length u ≡ length w → TakenBack o v kept u
         → Changes (length w) (afterChange (read w) change) (came o f) u
     unfolding afterChange came
@@ -141,7 +160,7 @@ room-is p way records h k eh ek = rw (eh, ek, ← (plus-one (p .height + mostBac
 -- what a delete is asked with
 pub to-delete : (w : List ℤ) (f : FreeSlots) → Ready w f → (p : Record) (way : Way) → way .found ≡ true
     → Gives (pathTo (read w) p) (read w .height) way → ToDelete w p way
-to-delete w f r p way found shows = record { fit = ready-fit w f r; whole = ready-whole w f r; found = found; shows = shows }
+to-delete w f r p way found shows = record { fit = ready-fit w f r; whole = ready-whole w f r; owned = ready-owners w f r; found = found; shows = shows }
 
 module _ (p : Pool) (way : Path) (f : FreeSlots) (many : f .count ≡ freeCount p) where
   delete-enough : roomFrom p way 0 ≤ f .count → roomFor (mostBack p way) (p .height) ≤ freeCount p
@@ -159,12 +178,15 @@ module _ (w : List ℤ) (f : FreeSlots) (r : Ready w f) where
   row-applies a reply h filled room = stays w f r _ reply (h filled room)
 
   module _ (p : Record) (a : valid (p .rect) ≡ true) (b : goodNumber (p .number) ≡ true) where
-    pub insert-changes : held (read w) p ≡ false → (o : Outcome) (v : List ℤ)
+    pub insert-changes : ownerSound (read w .edition) (p .owner) ≡ true → held (read w) p ≡ false → (o : Outcome) (v : List ℤ)
         → length v ≡ length w → Leaves w (insertRecord ours (read w) p) o v → ChangesTo w (Insert p) (came o f) v
-    insert-changes d o v e h filled room =
+    insert-changes s d o v e h filled room =
         subst (λ (t : Turn). Changes (length w) t (came o f) v) (sym (insert-0 (read w) filled room p a b d))
         (inserted w f r (insertRecord ours (read w) p)
-        (pool-left Whole (insertRecord ours (read w) p) (insert-whole ours ours-lawful (read w) (ready-whole w f r) p a b)) o v e h)
+        (pool-left Keeps (insertRecord ours (read w) p) (λ q z. (
+          insert-whole ours ours-lawful (read w) (ready-whole w f r) p a b q z,
+          owned-sound q .1 (insert-owned ours ours-lawful (read w) (ready-whole w f r) (ready-each w f r) p a b s q z),
+        ))) o v e h)
 
     module _ (d : held (read w) p ≡ true) (way : Way) (g : ToDelete w p way) (kept : List ℤ) where
       abbrev path : Path
@@ -176,7 +198,10 @@ module _ (w : List ℤ) (f : FreeSlots) (r : Ready w f) where
       delete-changes halfway is copied o v h u e back filled room =
           subst (λ (t : Turn). Changes (length w) t (came o f) u) (sym (delete-0 (read w) filled room p a b d))
           (removed w f r (roomFrom (read w) path 0) kept (λ few. copied (is ∙ few)) (deleteRecord ours (read w) p)
-          (pool-left Whole (deleteRecord ours (read w) p) (delete-whole ours ours-lawful (read w) (ready-whole w f r) p))
+          (pool-left Keeps (deleteRecord ours (read w) p) (λ q z. (
+            delete-whole ours ours-lawful (read w) (ready-whole w f r) p q z,
+            owned-sound q .1 (delete-owned ours ours-lawful (read w) (ready-whole w f r) (ready-each w f r) p d q z),
+          )))
           (λ n.
           delete-fits ours (read w) p (ready-whole w f r) ours-lawful path (finds g) (delete-enough (read w) path f (r .known .many) n))
           o v h u e back)
@@ -188,7 +213,10 @@ module _ (w : List ℤ) (f : FreeSlots) (r : Ready w f) where
         update-changes halfway is copied o v h u e back filled room =
             subst (λ (t : Turn). Changes (length w) t (came o f) u) (sym (update-0 (read w) filled room p new a c b d other))
             (removed w f r (roomFrom (read w) path 1) kept (λ few. copied (is ∙ few)) (updateRecord ours (read w) p new)
-            (pool-left Whole (updateRecord ours (read w) p new) (update-whole ours (read w) p new ours-lawful (ready-whole w f r) d c))
+            (pool-left Keeps (updateRecord ours (read w) p new) (λ q z. (
+              update-whole ours (read w) p new ours-lawful (ready-whole w f r) d c q z,
+              owned-sound q .1 (update-owned ours ours-lawful (read w) (ready-whole w f r) (ready-each w f r) p new d c q z),
+            )))
             (λ n.
             update-fits ours (read w) p new ours-lawful (ready-whole w f r) d c path (finds g)
             (update-enough (read w) path f (r .known .many) n))

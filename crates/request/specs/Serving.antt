@@ -7,6 +7,7 @@ use Prim.Native.Nat.{ℕ, suc, _+_, _*_, _≤_}
 use lib.ListN.{length}
 use lib.IntN.{ℤ, pos}
 use Rattle.rules.specs.declared.Rect.{Rect}
+use Rattle.rules.specs.declared.Owner.{Owner}
 use Rattle.rules.specs.declared.Record.{Record}
 use Rattle.rules.specs.declared.Request.{Request}
 use Rattle.rules.specs.declared.Asked.{Asked}
@@ -16,7 +17,7 @@ use Rattle.rules.specs.declared.Reply.{Reply}
 use Rattle.rules.specs.declared.Reply.the-variants.{Changed, NoSlot}
 use Rattle.rules.specs.Lists.{same}
 use Rattle.rules.specs.Compare.{exactPair}
-use Rattle.rules.specs.Pool.{Pool, held}
+use Rattle.rules.specs.Pool.{Pool, moved, held}
 use Rattle.rules.specs.Layout.{validLength, read}
 use Rattle.rules.specs.Sound.{sound}
 use Rattle.rules.specs.Answers.{answerOf}
@@ -25,7 +26,7 @@ use Rattle.rules.specs.Delete.{Path}
 use Rattle.rules.specs.Request.{Turn, asked, request}
 use Rattle.free_slots.specs.declared.FreeSlots.{FreeSlots}
 use Rattle.free_slots.specs.Known.{Known}
-use Rattle.found_items.specs.Items.{itemsFrom, Pointing}
+use Rattle.found_items.specs.Items.{shownFrom, Pointing}
 use Rattle.delete_laws.specs.Way.{mostBack}
 use Rattle.delete_laws.specs.Shrunk.{roomFor}
 use Rattle.insert.specs.declared.Outcome.{Outcome}
@@ -45,7 +46,7 @@ pub record Serves (long : ℕ) (t : Turn) (r : Served) (left scratch : List ℤ)
   pub answer : r .answer ≡ answerOf (t .reply)
   pub listed : r .listed ≡ length (t .listed)
   pub few : r .listed ≤ 32768
-  pub items : itemsFrom left scratch 0 (r .listed) ≡ t .listed
+  pub items : shownFrom left scratch 0 (r .listed) ≡ t .listed
   pub pointing : Pointing left scratch 0 (r .listed)
   pub same : length left ≡ long
   pub work : length scratch ≡ long
@@ -63,10 +64,10 @@ pub record Changes (long : ℕ) (t : Turn) (r : Served) (left : List ℤ) : Type
 abbrev pub ChangesTo : List ℤ → Asked → Served → List ℤ → Type 0
 ChangesTo w a r left = (filled room : ℕ) → Changes (length w) (request ours (read w) filled room a) r left
 
--- the request q of a batch is done in the words w
-abbrev pub ServesTo : List ℤ → Request → ℕ → ℕ → Served → List ℤ → List ℤ → Type 0
-ServesTo w q filled room r left scratch =
-    (a : Asked) → asked q ≡ some a → Serves (length w) (request ours (read w) filled room a) r left scratch
+-- the request q of an owner's batch is done in the words w
+abbrev pub ServesTo : List ℤ → Owner → Request → ℕ → ℕ → Served → List ℤ → List ℤ → Type 0
+ServesTo w o q filled room r left scratch =
+    (a : Asked) → asked o q ≡ some a → Serves (length w) (request ours (read w) filled room a) r left scratch
 
 -- what is handed back for a reply that lists nothing, and for a change that was made or refused
 unfoldable pub replied : Reply → FreeSlots → Served
@@ -92,5 +93,4 @@ modeOf k = cond (same k (pos 5)) OnlyInside (cond (same k (pos 6)) OnlyEnclosing
 
 -- 6: "update: new pair held and not the old pair"
 unfoldable pub otherHeld : Pool → Record → Rect → Bool
-otherHeld p old new =
-    held p (record { number = old .number; rect = new }) && not (exactPair old (record { number = old .number; rect = new }))
+otherHeld p old new = held p (moved old new) && not (exactPair old (moved old new))

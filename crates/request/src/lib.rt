@@ -8,7 +8,12 @@ ghost use lib.ListN.{length};
 ghost use Rattle.rules.specs.declared.Asked.the-variants as K;
 ghost use Rattle.rules.specs.Numbers as N;
 ghost use Rattle.rules.specs.Geometry as G;
+ghost use Rattle.rules.specs.Owners as O;
+ghost use Rattle.rules.specs.Owners.{ownerSound};
+ghost use Rattle.rules.specs.Pool as P;
 ghost use Rattle.rules.specs.Layout as L;
+ghost use Rattle.rules.specs.Sound.{ownersSound};
+ghost use Rattle.rules.specs.Search as F;
 ghost use Rattle.rules.specs.Insert as I;
 ghost use Rattle.rules.specs.Delete as D;
 ghost use Rattle.rules.specs.Answers as T;
@@ -27,10 +32,11 @@ use free_slots::FreeSlots;
 use insert::Outcome;
 use rules::Answer;
 use rules::Asked;
+use rules::Edition;
 use rules::LEAST;
 use rules::Mode;
+use rules::Owner;
 use rules::Record;
-use rules::RecordNumber;
 use rules::Rect;
 use rules::Reply;
 use rules::Request;
@@ -57,26 +63,39 @@ fn mode_of(kind: i32) -> Mode
     Mode::Meeting
 }
 
-// "A request is of one of the four kinds; fields that its kind doesn't use are not looked at".
-fn asked(q: Request) -> Asked
+// "A request is of one of the four kinds; fields that its kind doesn't use are not looked at". It is an owner's.
+fn asked(owner: Owner, q: Request) -> Asked
     requires { ⌜ isRequest q ≡ true ⌝ }
-    ensures { λ r. ⌜ R.asked q ≡ some r ⌝ }
+    ensures { λ r. ⌜ R.asked owner q ≡ some r ⌝ }
 {
     let kind = q.kind;
     let number = q.number;
     let rect = q.first;
     let second = q.second;
     if geometry::same(kind, 1) {
-        return Asked::Insert(Record { number, rect });
+        return Asked::Insert(Record {
+            owner,
+            number,
+            rect,
+        });
     }
     if geometry::same(kind, 2) {
-        return Asked::Delete(Record { number, rect });
+        return Asked::Delete(Record {
+            owner,
+            number,
+            rect,
+        });
     }
     if geometry::same(kind, 3) {
-        return Asked::Update(Record { number, rect }, second);
+        let old = Record {
+            owner,
+            number,
+            rect,
+        };
+        return Asked::Update(old, second);
     }
     let mode = mode_of(kind);
-    Asked::Search(mode, rect)
+    Asked::Search(owner, mode, rect)
 }
 
 // "Changes and refusals report zeros for the last three".
@@ -172,6 +191,7 @@ fn came_to(o: Outcome, free: FreeSlots) -> Served
 // 3, 4 and 6, and then the record goes in.
 fn insert(pool: &mut [i32], r: Record, free: FreeSlots) -> Served
     requires { ⌜ Ready (now pool) free ⌝ }
+    requires { ⌜ ownerSound (L.read (now pool) .edition) (r .owner) ≡ true ⌝ }
     ensures { λ s. ⌜ ChangesTo (now (pool .entry)) (K.Insert r) s (now (pool .exit)) ⌝ }
 {
     let rect = r.rect;
@@ -247,19 +267,32 @@ fn delete(pool: &mut [i32], work: &mut [i32], r: Record, free: FreeSlots) -> Ser
     came_to(o, free)
 }
 
+// "the new rectangle under the same number", and of the same owner.
+fn moved(old: Record, new: Rect) -> Record
+    ensures { λ r. ⌜ r ≡ P.moved old new ⌝ }
+{
+    let owner = old.owner;
+    let number = old.number;
+    Record {
+        owner,
+        number,
+        rect: new,
+    }
+}
+
 // "Update deletes the old pair, then inserts the new rectangle under the same number; also where old equals new."
 fn replace(pool: &mut [i32], old: Record, new: Rect, way: Way, free: FreeSlots) -> Outcome
     requires { ⌜ Fit (now pool) ⌝ }
-    requires { ⌜ Whole (L.read (now pool)) ⌝ }
+    requires { ⌜ Whole (L.read (now pool)) × (ownersSound (L.read (now pool)) ≡ true) ⌝ }
     requires { ⌜ Known (L.read (now pool)) free ⌝ }
     requires { ⌜ way .found ≡ true ⌝ }
     requires { ⌜ Gives (D.pathTo (L.read (now pool)) old) (L.read (now pool) .height) way ⌝ }
-    requires { ⌜ (G.valid new ≡ true) × (N.goodNumber (old .number) ≡ true) ⌝ }
+    requires { ⌜ (G.valid new ≡ true) × (N.goodNumber (old .number) ≡ true) × (ownerSound (L.read (now pool) .edition) (old .owner) ≡ true) ⌝ }
     ensures { λ o. ⌜ Removes (now (pool .entry)) (D.updateRecord I.ours (L.read (now (pool .entry))) old new) o (now (pool .exit)) ⌝ }
 {
-    let number = old.number;
+    let moved = moved(old, new);
     match delete::delete_record(pool, old, way, free) {
-        Outcome::Made(f) => insert::insert_record(pool, Record { number, rect: new }, f),
+        Outcome::Made(f) => insert::insert_record(pool, moved, f),
         Outcome::Refused => Outcome::Refused,
     }
 }
@@ -274,8 +307,7 @@ fn other_held(pool: &[i32], old: Record, new: Rect) -> bool
     if geometry::is_equal(geometry::compare(rect, new)) {
         return false;
     }
-    let number = old.number;
-    find_leaf::holds(pool, Record { number, rect: new })
+    find_leaf::holds(pool, moved(old, new))
 }
 
 // 3, 4, 5 and 6, and then the old pair goes out and the new one goes in.
@@ -311,10 +343,23 @@ fn update(pool: &mut [i32], work: &mut [i32], old: Record, new: Rect, free: Free
 
 // ---- searches
 
+// "Opened is reported as 0" in edition 2.
+fn reported(pool: &[i32], opened: usize) -> u32
+    requires { ⌜ 1 ≤ length (now pool) ⌝ }
+    requires { ⌜ opened ≤ 43046721 ⌝ }
+    ensures { λ r. ⌜ r ≡ F.reported (L.editionOf (now (pool .entry))) opened ⌝ }
+{
+    match pool::edition_of(pool) {
+        Edition::One => opened as u32,
+        Edition::Two => 0,
+    }
+}
+
 // 3 and 8; otherwise the records found are left in the workspace, in order. How many there are is known before any goes to the found list.
 fn search(
     pool: &[i32],
     work: &mut [i32],
+    owner: Owner,
     mode: Mode,
     window: Rect,
     filled: usize,
@@ -323,15 +368,16 @@ fn search(
 ) -> Served
     requires { ⌜ Ready (now pool) free ⌝ }
     requires { ⌜ length (now work) ≡ length (now pool) ⌝ }
+    requires { ⌜ ownerSound (L.read (now pool) .edition) owner ≡ true ⌝ }
     requires { ⌜ filled ≤ 33554432 ⌝ }
-    ensures { λ s. ⌜ Serves (length (now (pool .entry))) (R.request I.ours (L.read (now (pool .entry))) filled room (K.Search mode window)) s (now (pool .entry)) (now (work .exit)) ⌝ }
+    ensures { λ s. ⌜ Serves (length (now (pool .entry))) (R.request I.ours (L.read (now (pool .entry))) filled room (K.Search owner mode window)) s (now (pool .entry)) (now (work .exit)) ⌝ }
 {
     if !geometry::valid(window) {
         return told(Reply::BadRectangle, free);
     }
-    let w = search::list(pool, mode, window, work);
+    let w = search::list(pool, owner, mode, window, work);
     let found = w.next as u32;
-    let opened = w.opened as u32;
+    let opened = reported(pool, w.opened);
     if room < w.next {
         return told(Reply::NoRoom { found, opened }, free);
     }
@@ -350,11 +396,23 @@ fn search(
 
 // ---- any request
 
-// A request is done in a sound pool, with `filled` places of the found list filled and `room` left. The workspace is scratch; what a search
+// Whose records a batch of an owner sees and changes: an edition 1 pool is "served .. for owners 1 and 2 alike", and its records are nobody's.
+fn batch_owner(pool: &[i32], owner: i32) -> Owner
+    requires { ⌜ 1 ≤ length (now pool) ⌝ }
+    ensures { λ r. ⌜ r ≡ O.ownerIn (L.editionOf (now (pool .entry))) (O.owner owner) ⌝ }
+{
+    match pool::edition_of(pool) {
+        Edition::One => Owner(0),
+        Edition::Two => Owner(owner),
+    }
+}
+
+// A request of an owner's batch is done in a sound pool, with `filled` places of the found list filled and `room` left. The workspace is scratch; what a search
 // lists is left there as items, in found order.
 pub fn one_request(
     pool: &mut [i32],
     work: &mut [i32],
+    owner: i32,
     q: Request,
     filled: usize,
     room: usize,
@@ -363,13 +421,17 @@ pub fn one_request(
     requires { ⌜ Ready (now pool) free ⌝ }
     requires { ⌜ length (now work) ≡ length (now pool) ⌝ }
     requires { ⌜ isRequest q ≡ true ⌝ }
+    requires { ⌜ N.goodOwner (O.owner owner) ≡ true ⌝ }
     requires { ⌜ filled ≤ 33554432 ⌝ }
-    ensures { λ r. ⌜ ServesTo (now (pool .entry)) q filled room r (now (pool .exit)) (now (work .exit)) ⌝ }
+    ensures { λ r. ⌜ ServesTo (now (pool .entry)) (O.ownerIn (L.editionOf (now (pool .entry))) (O.owner owner)) q filled room r (now (pool .exit)) (now (work .exit)) ⌝ }
 {
-    match asked(q) {
+    let who = batch_owner(pool, owner);
+    match asked(who, q) {
         Asked::Insert(r) => insert(pool, r, free),
         Asked::Delete(r) => delete(pool, work, r, free),
         Asked::Update(old, new) => update(pool, work, old, new, free),
-        Asked::Search(mode, window) => search(pool, work, mode, window, filled, room, free),
+        Asked::Search(whose, mode, window) => {
+            search(pool, work, whose, mode, window, filled, room, free)
+        }
     }
 }

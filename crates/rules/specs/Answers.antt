@@ -8,7 +8,7 @@ use Rattle.rules.specs.declared.Reply.{Reply}
 use Rattle.rules.specs.declared.Reply.the-variants.{Changed, Listed, BadRectangle, BadNumber, NotHeld, Held, NoSlot, NoRoom}
 use Rattle.rules.specs.declared.Answer.{Answer}
 use Rattle.rules.specs.declared.Verdict.{Verdict}
-use Rattle.rules.specs.declared.Verdict.the-variants.{Served, BadLists, BadLength, NotSound, NoRequest}
+use Rattle.rules.specs.declared.Verdict.the-variants.{Served, BadLists, BadOwner, BadLength, NotSound, NoRequest}
 
 abbrev pub answer : ℕ → ℕ → ℕ → ℕ → Answer
 answer n f s o = record { number = n; found = f; start = s; opened = o }
@@ -28,6 +28,7 @@ answerOf (NoRoom f o) = answer 8 f 0 o
 unfoldable pub verdictNumber : Verdict → ℤ
 verdictNumber Served = pos 0
 verdictNumber BadLists = pos 9
+verdictNumber BadOwner = pos 13
 verdictNumber BadLength = pos 1
 verdictNumber NotSound = pos 2
 verdictNumber NoRequest = negsuc 0

@@ -8,6 +8,7 @@ use Rattle.rules.specs.declared.Relation.the-variants.{Apart, Inside, En
 use Rattle.rules.specs.declared.Mode.{Mode}
 use Rattle.rules.specs.declared.Mode.the-variants.{Meeting, OnlyInside, OnlyEnclosing}
 use Rattle.rules.specs.Lists.{same}
+use Rattle.rules.specs.Owners.{ownedBy}
 use Rattle.rules.specs.Geometry.{meets}
 
 -- ---- the comparison
@@ -69,6 +70,7 @@ wanted Meeting r = isMeeting r
 wanted OnlyInside r = isInside r
 wanted OnlyEnclosing r = isEnclosing r
 
--- "the first exact pair": the same number, and an equal rectangle. Insert, delete and update ask it of the records that are held
+-- "the first exact pair": the same number, and an equal rectangle. Insert, delete and update ask it of the records that are held; Req 07: of
+-- those of the same owner, "a pair counts as held per owner"
 unfoldable pub exactPair : Record → Record → Bool
-exactPair a b = same (a .number .0) (b .number .0) && isEqual (compared (a .rect) (b .rect))
+exactPair a b = same (a .number .0) (b .number .0) && isEqual (compared (a .rect) (b .rect)) && ownedBy (a .owner) b

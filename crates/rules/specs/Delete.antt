@@ -12,7 +12,7 @@ use Rattle.rules.specs.declared.Entry.{Entry}
 use Rattle.rules.specs.Lists.{without}
 use Rattle.rules.specs.Numbers.{least}
 use Rattle.rules.specs.Compare.{compared, isMeeting, exactPair}
-use Rattle.rules.specs.Pool.{Pool, nodeAt, entriesAt, entryAt, childOf, recordOf, putEntries, zeroSlot, putRoot, putRecords, tighten, isLeaf}
+use Rattle.rules.specs.Pool.{Pool, nodeAt, entriesAt, entryAt, childOf, recordOf, moved, putEntries, zeroSlot, putRoot, putRecords, tighten, isLeaf}
 use Rattle.rules.specs.Insert.{Choice, Change, Done, NoneFree, insertAt, insertRecord}
 
 -- ---- FindLeaf
@@ -128,6 +128,6 @@ module _ (c : Choice) where
   unfoldable pub updateRecord : Pool → Record → Rect → Change
   updateRecord p old new =
       elim (deleteRecord p old) [
-        | Done q ↦ insertRecord c q (record { number = old .number; rect = new })
+        | Done q ↦ insertRecord c q (moved old new)
         | NoneFree ↦ NoneFree
       ]

@@ -6,12 +6,14 @@ use Prim.Native.Nat.{ℕ, suc}
 use lib.IntN.{ℤ, pos, negsuc}
 use lib.ListN.{getD}
 use Rattle.rules.specs.declared.Rect.{Rect}
-use Rattle.rules.specs.declared.Record.{Record}
+use Rattle.rules.specs.declared.FoundRecord.{FoundRecord}
+use Rattle.rules.specs.declared.Edition.the-variants.{One}
 use Rattle.rules.specs.declared.Entry.{Entry}
 use Rattle.rules.specs.declared.Pointer.the-variants.{Number}
 use Rattle.rules.specs.declared.Request.{Request}
 use Rattle.rules.specs.declared.Answer.{Answer}
 use Rattle.rules.specs.Geometry.{meets, enlargement, waste}
+use Rattle.rules.specs.Owners.{nobody}
 use Rattle.rules.specs.Pool.{Node, Pool, slot, number, entry, node, freeNode, noRecord}
 use Rattle.rules.specs.Layout.{words, read, blankWords}
 use Rattle.rules.specs.Choose.{chooseChild}
@@ -32,7 +34,7 @@ pub data Says : Type 0 where
   theLevels : ℕ → List ℕ → Says
   theWords : List ℤ → Says
   theAnswers : List Answer → Says
-  theAnswer : Answer → List Record → Says
+  theAnswer : Answer → List FoundRecord → Says
 
 -- an example's number, what the rules say about it, and what document 01 says (of example 8, Req 05)
 pub record Example : Type 0 where
@@ -68,7 +70,7 @@ inserts n [] = []
 inserts n (r ∷ rs) = insert n r ∷ inserts (suc n) rs
 
 abbrev recordEntry : ℕ → Rect → Entry
-recordEntry n r = entry r (Number (number (pos n)))
+recordEntry n r = entry r (Number (number (pos n)) nobody)
 
 abbrev leaf : ℕ → List Rect → List Entry
 leaf n [] = []
@@ -120,6 +122,7 @@ table =
       rules = theWords (then 0 (delete 9 (box 1000 0 1010 10) ∷ []) .pool);
       document =
           theWords (words (record {
+            edition = One;
             root = slot 1;
             height = 1;
             records = 8;

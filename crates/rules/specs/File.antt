@@ -8,14 +8,19 @@ use lib.Seq.{sets}
 use lib.Dec.{ltb, eqb}
 use lib.IntN.{ℤ, pos, negsuc}
 use lib.Signed.{leZ}
+use Rattle.rules.specs.declared.Edition.{Edition}
+use Rattle.rules.specs.declared.Edition.the-variants.{One, Two}
+use Rattle.rules.specs.declared.Owner.{Owner}
 use Rattle.rules.specs.declared.Record.{Record}
+use Rattle.rules.specs.declared.FoundRecord.{FoundRecord}
 use Rattle.rules.specs.declared.FileFault.{FileFault}
-use Rattle.rules.specs.declared.FileFault.the-variants.{BadLength, NotSound, BadRectangle, BadNumber, NoSlot, ShortBuffer, BadFrame, NotAfter}
-use Rattle.rules.specs.Lists.{those, joined, same}
+use Rattle.rules.specs.declared.FileFault.the-variants.{BadLength, NotSound, BadRectangle, BadNumber, BadOwner, NoSlot, ShortBuffer, BadFrame, NotAfter}
+use Rattle.rules.specs.Lists.{those, joined, same, lessThen}
 use Rattle.rules.specs.Numbers.{goodNumber}
-use Rattle.rules.specs.Geometry.{valid, samePair}
+use Rattle.rules.specs.Owners.{editionNumber, editionTold, owner, nobody, ownerSound, ownersOf, ownedBy, asFound, ofOwner}
+use Rattle.rules.specs.Geometry.{valid, sameFound}
 use Rattle.rules.specs.Pool.{Pool, number, stored, blankPool}
-use Rattle.rules.specs.Layout.{edition, natural, wordAt, slotCount, validLength, words, read}
+use Rattle.rules.specs.Layout.{natural, wordAt, slotsIn, validSize, validLength, words, read}
 use Rattle.rules.specs.Sound.{sound}
 use Rattle.rules.specs.Search.{before, ordered}
 use Rattle.rules.specs.Insert.{Choice, ours, Done, NoneFree, insertRecord}
@@ -23,12 +28,13 @@ use Rattle.rules.specs.Answers.{row, firstRow}
 use Rattle.rules.specs.Frames.{Ended, Complete, Cut, wordValues, nextFrame, rectIn, ofKind}
 
 -- "Refusals: 1 first, then 2 for the writer only; 8 if its buffer is short; 10 for a wrong frame, edition or count, or bytes after kind 18;
--- then 3, 4, then 11 for a record not after its predecessor; then 7"
+-- then 3, 4, then 11 for a record not after its predecessor; then 7". Req 07: "13 for another owner, .. in a file after 4"
 unfoldable pub fileNumber : FileFault → ℤ
 fileNumber BadLength = pos 1
 fileNumber NotSound = pos 2
 fileNumber BadRectangle = pos 3
 fileNumber BadNumber = pos 4
+fileNumber BadOwner = pos 13
 fileNumber NoSlot = pos 7
 fileNumber ShortBuffer = pos 8
 fileNumber BadFrame = pos 10
@@ -54,31 +60,55 @@ frameBytes kind ws = pairBytes (2 + 4 * length ws) ++ pairBytes kind ++ joined (
 
 -- ---- the file
 
--- "kind 16 first (edition 1, record count)"
-unfoldable pub headFrame : ℕ → List ℕ
-headFrame count = frameBytes 16 (pos edition ∷ pos count ∷ [])
+-- "kind 16 first (edition 1, record count)"; Req 07: "the file .. gains edition 2"
+unfoldable pub headFrame : Edition → ℕ → List ℕ
+headFrame e count = frameBytes 16 (pos (editionNumber e) ∷ pos count ∷ [])
 
--- "then kind 17 per record (number, rectangle)"
-unfoldable pub recordFrame : Record → List ℕ
-recordFrame r = frameBytes 17 (r .number .0 ∷ r .rect .lowX ∷ r .rect .lowY ∷ r .rect .highX ∷ r .rect .highY ∷ [])
+-- "then kind 17 per record (number, rectangle)"; Req 07: "kind 19 (owner, then as 17)"
+unfoldable pub recordKind : Edition → ℕ
+recordKind One = 17
+recordKind Two = 19
+
+unfoldable pub pairWords : Record → List ℤ
+pairWords r = r .number .0 ∷ r .rect .lowX ∷ r .rect .lowY ∷ r .rect .highX ∷ r .rect .highY ∷ []
+
+unfoldable pub recordWords : Edition → Record → List ℤ
+recordWords One r = pairWords r
+recordWords Two r = r .owner .0 ∷ pairWords r
+
+-- how many words those are
+abbrev pub recordSize : Edition → ℕ
+recordSize One = 5
+recordSize Two = 6
+
+unfoldable pub recordFrame : Edition → Record → List ℕ
+recordFrame e r = frameBytes (recordKind e) (recordWords e r)
 
 -- "kind 18 last with no words"
 unfoldable pub endFrame : List ℕ
 endFrame = frameBytes 18 []
 
-unfoldable pub fileBytes : List Record → List ℕ
-fileBytes rs = headFrame (length rs) ++ joined (map recordFrame rs) ++ endFrame
+unfoldable pub fileBytes : Edition → List Record → List ℕ
+fileBytes e rs = headFrame e (length rs) ++ joined (map (recordFrame e) rs) ++ endFrame
 
 -- ---- the writer
 
 -- "drops a pair held twice": each pair of the list once
-unfoldable pub distinct : List Record → List Record
+unfoldable pub distinct : List FoundRecord → List FoundRecord
 distinct [] = []
-distinct (r ∷ rs) = r ∷ those (λ x. not (samePair r x)) (distinct rs)
+distinct (r ∷ rs) = r ∷ those (λ x. not (sameFound r x)) (distinct rs)
 
--- the records that a file of the pool has, "in found order"
+-- the records of one owner that a file of the pool has, "in found order"
+unfoldable pub carriedOf : Pool → Owner → List FoundRecord
+carriedOf p o = distinct (ordered (map asFound (those (ownedBy o) (stored p))))
+
+-- Req 07: "ordered by owner first"
 unfoldable pub recordsCarried : Pool → List Record
-recordsCarried p = distinct (ordered (stored p))
+recordsCarried p = joined (map (λ o. map (ofOwner o) (carriedOf p o)) (ownersOf (p .edition)))
+
+-- the file of a pool
+unfoldable pub poolFile : Pool → List ℕ
+poolFile p = fileBytes (p .edition) (recordsCarried p)
 
 -- what a write leaves: the number that it returns, the lent buffer, and how many bytes of it are the file
 pub record WriteLeft : Type 0 where
@@ -91,7 +121,7 @@ writeFault pool buffer =
     firstRow (
     row (not (validLength pool)) BadLength
     ∷ row (not (sound pool)) NotSound
-    ∷ row (ltb (length buffer) (length (fileBytes (recordsCarried (read pool))))) ShortBuffer
+    ∷ row (ltb (length buffer) (length (poolFile (read pool)))) ShortBuffer
     ∷ [])
 
 -- "A writer fills the front of a lent buffer"; beside a refusal it writes nothing there
@@ -101,8 +131,8 @@ writeFile pool buffer =
       | some f ↦ record { number = fileNumber f; file = buffer; size = 0 }
       | none ↦ record {
         number = pos 0;
-        file = sets buffer 0 (fileBytes (recordsCarried (read pool)));
-        size = length (fileBytes (recordsCarried (read pool)));
+        file = sets buffer 0 (poolFile (read pool));
+        size = length (poolFile (read pool));
       }
     ]
 
@@ -123,23 +153,28 @@ frameDue k n bs =
     ]
 
 -- "kind 16 first (edition 1, record count)": "10 for a wrong .. edition or count", one below zero
-unfoldable pub goodHead : List ℤ → Bool
-goodHead ws = same (wordAt ws 0) (pos edition) && leZ (pos 0) (wordAt ws 1)
+unfoldable pub goodHead : Edition → List ℤ → Bool
+goodHead e ws = same (wordAt ws 0) (pos (editionNumber e)) && leZ (pos 0) (wordAt ws 1)
 
 unfoldable pub countIn : List ℤ → ℕ
 countIn ws = natural (wordAt ws 1)
 
--- "kind 17 per record (number, rectangle)"
-unfoldable pub recordIn : List ℤ → Record
-recordIn ws = record { number = number (wordAt ws 0); rect = rectIn ws 1 }
+-- "kind 17 per record (number, rectangle)"; "kind 19 (owner, then as 17)"
+unfoldable pub recordIn : Edition → List ℤ → Record
+recordIn One ws = record { owner = nobody; number = number (wordAt ws 0); rect = rectIn ws 1 }
+recordIn Two ws = record { owner = owner (wordAt ws 0); number = number (wordAt ws 1); rect = rectIn ws 2 }
+
+-- the frame of a record, where it is due
+abbrev pub recordDue : Edition → List ℕ → Option Due
+recordDue e bs = frameDue (recordKind e) (recordSize e) bs
 
 -- the records of a file whose frames are those that are due
-unfoldable pub recordsFrom : ℕ → List ℕ → List Record
-recordsFrom zero bs = []
-recordsFrom (suc n) bs = elim (frameDue 17 5 bs) [ none ↦ [] | some d ↦ recordIn (d .words) ∷ recordsFrom n (d .after) ]
+unfoldable pub recordsFrom : Edition → ℕ → List ℕ → List Record
+recordsFrom e zero bs = []
+recordsFrom e (suc n) bs = elim (recordDue e bs) [ none ↦ [] | some d ↦ recordIn e (d .words) ∷ recordsFrom e n (d .after) ]
 
-unfoldable pub fileRecords : List ℕ → List Record
-fileRecords bs = elim (frameDue 16 2 bs) [ none ↦ [] | some d ↦ recordsFrom (countIn (d .words)) (d .after) ]
+unfoldable pub fileRecords : Edition → List ℕ → List Record
+fileRecords e bs = elim (frameDue 16 2 bs) [ none ↦ [] | some d ↦ recordsFrom e (countIn (d .words)) (d .after) ]
 
 -- ---- the reader
 
@@ -148,17 +183,22 @@ pub data Load : Type 0 where
   Loaded : Pool → Load
   Fails : FileFault → Load
 
+-- "ordered by owner first", then in found order
+unfoldable pub beforeInFile : Record → Record → Bool
+beforeInFile a b = lessThen (a .owner .0) (b .owner .0) (before (asFound a) (asFound b))
+
 -- "11 for a record not after its predecessor"; the first has none
 unfoldable pub follows : Option Record → Record → Bool
 follows none r = true
-follows (some last) r = before last r
+follows (some last) r = beforeInFile last r
 
--- "then 3, 4, then 11"
-unfoldable pub recordFault : Option Record → Record → Option FileFault
-recordFault last r =
+-- "then 3, 4, then 11"; "13 for another owner, .. after 4"
+unfoldable pub recordFault : Edition → Option Record → Record → Option FileFault
+recordFault e last r =
     firstRow (
     row (not (valid (r .rect))) BadRectangle
     ∷ row (not (goodNumber (r .number))) BadNumber
+    ∷ row (not (ownerSound e (r .owner))) BadOwner
     ∷ row (not (follows last r)) NotAfter
     ∷ [])
 
@@ -167,19 +207,20 @@ unfoldable pub endOf : Pool → Option Due → Load
 endOf p none = Fails BadFrame
 endOf p (some d) = elim (d .after) [ [] ↦ Loaded p | b ∷ bs ↦ Fails BadFrame ]
 
-module _ (c : Choice) where
+-- Req 07: reading is "told the edition .. and goes by it": a file of another has a wrong head, and a record's frame is of its kind
+module _ (c : Choice) (e : Edition) where
   -- "inserts in file order"; "the first frame at fault decides": n records are due, after the one given. A count that is wrong shows where
   -- another frame comes than the one due
   unfoldable pub loadRecords : ℕ → Option Record → Pool → List ℕ → Load
   loadRecords zero last p bs = endOf p (frameDue 18 0 bs)
   loadRecords (suc n) last p bs =
-      elim (frameDue 17 5 bs) [
+      elim (recordDue e bs) [
         | none ↦ Fails BadFrame
-        | some d ↦ elim (recordFault last (recordIn (d .words))) [
+        | some d ↦ elim (recordFault e last (recordIn e (d .words))) [
           | some f ↦ Fails f
-          | none ↦ elim (insertRecord c p (recordIn (d .words))) [
+          | none ↦ elim (insertRecord c p (recordIn e (d .words))) [
             | NoneFree ↦ Fails NoSlot
-            | Done q ↦ loadRecords n (some (recordIn (d .words))) q (d .after)
+            | Done q ↦ loadRecords n (some (recordIn e (d .words))) q (d .after)
           ]
         ]
       ]
@@ -188,7 +229,7 @@ module _ (c : Choice) where
   loadFile p bs =
       elim (frameDue 16 2 bs) [
         | none ↦ Fails BadFrame
-        | some d ↦ elim (goodHead (d .words)) [
+        | some d ↦ elim (goodHead e (d .words)) [
           | true ↦ loadRecords (countIn (d .words)) none p (d .after)
           | false ↦ Fails BadFrame
         ]
@@ -206,9 +247,17 @@ afterLoad pool (Loaded p) = record { number = pos 0; pool = words p; workspace =
 afterLoad pool (Fails f) = record { number = fileNumber f; pool = pool; workspace = pool }
 
 -- "a reader blanks a pool and inserts in file order". Of the pool lent only the length is looked at
-unfoldable pub readFile : List ℤ → List ℤ → List ℕ → ReadLeft
-readFile pool work bs =
-    elim (not (validLength pool) || not (eqb (length work) (length pool))) [
+unfoldable pub readFile : Edition → List ℤ → List ℤ → List ℕ → ReadLeft
+readFile e pool work bs =
+    elim (not (validSize e (length pool)) || not (eqb (length work) (length pool))) [
       | true ↦ record { number = fileNumber BadLength; pool = pool; workspace = work }
-      | false ↦ afterLoad pool (loadFile ours (blankPool (slotCount pool - 1)) bs)
+      | false ↦ afterLoad pool (loadFile ours e (blankPool e (slotsIn e (length pool) - 1)) bs)
+    ]
+
+-- .. by the numbers of an edition and a rule; where they tell no edition the number is one that is not in the table, -1
+unfoldable pub readFileAs : ℤ → ℤ → List ℤ → List ℤ → List ℕ → ReadLeft
+readFileAs edition rule pool work bs =
+    elim (editionTold edition rule) [
+      | none ↦ record { number = negsuc 0; pool = pool; workspace = work }
+      | some e ↦ readFile e pool work bs
     ]

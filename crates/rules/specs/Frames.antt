@@ -7,10 +7,11 @@ use lib.ListN.{length, getD, take, drop, replicate}
 use lib.Dec.{leb, ltb, eqb}
 use lib.IntN.{ℤ, pos, negsuc, subℕ}
 use Rattle.rules.specs.declared.Rect.{Rect}
-use Rattle.rules.specs.declared.Record.{Record}
+use Rattle.rules.specs.declared.FoundRecord.{FoundRecord}
 use Rattle.rules.specs.declared.Request.{Request}
 use Rattle.rules.specs.declared.Answer.{Answer}
 use Rattle.rules.specs.Lists.{joined}
+use Rattle.rules.specs.Owners.{owner}
 use Rattle.rules.specs.Pool.{number, rectangle, noRecord}
 use Rattle.rules.specs.Geometry.{noRect}
 use Rattle.rules.specs.Layout.{wordAt, blankWords}
@@ -117,14 +118,14 @@ unfoldable pub answerLine : ℕ → Answer → List ℕ
 answerLine place a = line (natShown place ∷ natShown (a .number) ∷ natShown (a .found) ∷ natShown (a .opened) ∷ [])
 
 -- "after an accepted search a line per record: number, low x, low y, high x, high y"
-unfoldable pub recordLine : Record → List ℕ
+unfoldable pub recordLine : FoundRecord → List ℕ
 recordLine r =
     line (intShown (r .number .0) ∷ intShown (r .rect .lowX) ∷ intShown (r .rect .lowY) ∷ intShown (r .rect .highX) ∷ intShown (r .rect .highY) ∷ [])
 
 unfoldable pub listedOf : Answer → ℕ
 listedOf a = elim (eqb (a .number) 0) [ true ↦ a .found | false ↦ 0 ]
 
-unfoldable pub replyLines : ℕ → Answer → List Record → List ℕ
+unfoldable pub replyLines : ℕ → Answer → List FoundRecord → List ℕ
 replyLines place a found = answerLine place a ++ joined (map recordLine (take (listedOf a) found))
 
 -- "prints `bad frame`, a space and its place"
@@ -133,10 +134,11 @@ badLine place = 98 ∷ 97 ∷ 100 ∷ 32 ∷ 102 ∷ 114 ∷ 97 ∷ 109 ∷ 101 
 
 -- ---- the run
 
--- "Each frame is a batch of one with a found list of 64."
+-- "Each frame is a batch of one with a found list of 64." It is owner 1's
 unfoldable pub frameCall : List ℤ → Request → Left
 frameCall pool q =
     call (record {
+      owner = owner (pos 1);
       pool = pool;
       workspace = pool;
       requests = q ∷ [];

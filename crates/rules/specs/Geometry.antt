@@ -5,8 +5,10 @@ use lib.IntN.{ℤ, pos, _+ℤ_, _-ℤ_, _*ℤ_}
 use lib.Signed.{leZ}
 use Rattle.rules.specs.declared.Rect.{Rect}
 use Rattle.rules.specs.declared.Record.{Record}
+use Rattle.rules.specs.declared.FoundRecord.{FoundRecord}
 use Rattle.rules.specs.Lists.{same}
 use Rattle.rules.specs.Numbers.{inRange}
+use Rattle.rules.specs.Owners.{ownedBy, asFound}
 
 -- "a coordinate out of range, or low above high" makes a rectangle bad; "Low may equal high."
 unfoldable pub valid : Rect → Bool
@@ -66,11 +68,15 @@ halfEnlargement a b = halfPerimeter (cover a b) -ℤ halfPerimeter a
 unfoldable pub halfWaste : Rect → Rect → ℤ
 halfWaste a b = halfPerimeter (cover a b) -ℤ halfPerimeter a -ℤ halfPerimeter b
 
--- the same rectangle; the same pair of number and rectangle
+-- the same rectangle; the same number and rectangle
 unfoldable pub sameRect : Rect → Rect → Bool
 sameRect a b =
     same (a .lowX) (b .lowX) && same (a .lowY) (b .lowY)
     && same (a .highX) (b .highX) && same (a .highY) (b .highY)
 
+unfoldable pub sameFound : FoundRecord → FoundRecord → Bool
+sameFound a b = same (a .number .0) (b .number .0) && sameRect (a .rect) (b .rect)
+
+-- the same pair of number and rectangle, of one owner. Req 07: "a pair counts as held per owner"
 unfoldable pub samePair : Record → Record → Bool
-samePair a b = same (a .number .0) (b .number .0) && sameRect (a .rect) (b .rect)
+samePair a b = ownedBy (a .owner) b && sameFound (asFound a) (asFound b)

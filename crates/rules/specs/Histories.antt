@@ -12,7 +12,10 @@ use lib.ListN.{length, take, replicate}
 use lib.IntN.{ℤ, pos, negℤ}
 use Rattle.rules.specs.declared.Rect.{Rect}
 use Rattle.rules.specs.declared.Record.{Record}
+use Rattle.rules.specs.declared.FoundRecord.{FoundRecord}
 use Rattle.rules.specs.declared.Request.{Request}
+use Rattle.rules.specs.declared.Owner.{Owner}
+use Rattle.rules.specs.Owners.{owner, nobody, ofOwner}
 use Rattle.rules.specs.Pool.{number, rectangle, noRecord}
 use Rattle.rules.specs.Geometry.{noRect}
 use Rattle.rules.specs.Answers.{answer}
@@ -50,15 +53,22 @@ searchEnclosing window = asking 6 (pos 0) window noRect
 
 -- ---- histories
 
--- the requests in one call, with `places` places in the found list
+-- the requests of an owner in one call, with `places` places in the found list; and owner 1's
+abbrev pub historyOf : Owner → List ℤ → ℕ → List Request → Left
+historyOf o w places qs =
+    call (record { owner = o; pool = w; workspace = w; requests = qs; answers = replicate (length qs) (answer 0 0 0 0); found = replicate places noRecord })
+
 abbrev pub history : List ℤ → ℕ → List Request → Left
-history w places qs =
-    call (record { pool = w; workspace = w; requests = qs; answers = replicate (length qs) (answer 0 0 0 0); found = replicate places noRecord })
+history w places qs = historyOf (owner (pos 1)) w places qs
 
 -- ---- what a history leaves
 
-abbrev pub shown : ℕ → Rect → Record
+abbrev pub shown : ℕ → Rect → FoundRecord
 shown n r = record { number = number (pos n); rect = r }
+
+-- a record of an edition 1 pool
+abbrev pub zone : ℕ → Rect → Record
+zone n r = ofOwner nobody (shown n r)
 
 -- n words: those given, and then zeros
 abbrev pub zeroTo : ℕ → List ℕ → List ℤ

@@ -5,16 +5,20 @@ use Prim.Native.Nat.{ℕ, suc, _-_}
 use lib.ListN.{length, getD, set, replicate}
 use lib.Dec.{eqb}
 use lib.IntN.{ℤ, pos}
+use Rattle.rules.specs.declared.Edition.{Edition}
 use Rattle.rules.specs.declared.Rect.{Rect}
 use Rattle.rules.specs.declared.RecordNumber.{RecordNumber}
 use Rattle.rules.specs.declared.SlotNumber.{SlotNumber}
+use Rattle.rules.specs.declared.Owner.{Owner}
 use Rattle.rules.specs.declared.Record.{Record}
+use Rattle.rules.specs.declared.FoundRecord.{FoundRecord}
 use Rattle.rules.specs.declared.Pointer.{Pointer}
 use Rattle.rules.specs.declared.Pointer.the-variants.{Number, Child}
 use Rattle.rules.specs.declared.Entry.{Entry}
 use Rattle.rules.specs.declared.FreeSlot.{FreeSlot}
 use Rattle.rules.specs.declared.FreeSlot.the-variants.{At, Nowhere}
 use Rattle.rules.specs.Lists.{those, oneOf, joined, upFrom}
+use Rattle.rules.specs.Owners.{nobody}
 use Rattle.rules.specs.Geometry.{noRect, coverAll}
 use Rattle.rules.specs.Compare.{exactPair}
 
@@ -23,8 +27,9 @@ pub record Node : Type 0 where
   pub level : ℕ
   pub entries : List Entry
 
--- "word 1 root slot; word 2 height; word 3 number of records"; the slots are counted from 1
+-- "word 0 edition ..; word 1 root slot; word 2 height; word 3 number of records"; the slots are counted from 1
 pub record Pool : Type 0 where
+  pub edition : Edition
   pub root : SlotNumber
   pub height : ℕ
   pub records : ℕ
@@ -48,7 +53,7 @@ abbrev pub noEntry : Entry
 noEntry = entry noRect (Child (slot 0))
 
 -- a place of the found list before anything is found
-abbrev pub noRecord : Record
+abbrev pub noRecord : FoundRecord
 noRecord = record { number = number (pos 0); rect = noRect }
 
 abbrev pub node : ℕ → List Entry → Node
@@ -79,19 +84,26 @@ entryFrom es i = getD es i noEntry
 unfoldable pub entryAt : Pool → SlotNumber → ℕ → Entry
 entryAt p s i = entryFrom (entriesAt p s) i
 
--- an inner entry's child, and a leaf entry's record number (an entry of the other kind has none: slot 0, number 0)
+-- an inner entry's child, a leaf entry's record number, and its owner (an entry of the other kind has none: slot 0, number 0, nobody)
 unfoldable pub childOf : Entry → SlotNumber
-childOf e = elim (e .pointer) [ Number n ↦ slot 0 | Child s ↦ s ]
+childOf e = elim (e .pointer) [ Number n o ↦ slot 0 | Child s ↦ s ]
 
 unfoldable pub numberOf : Entry → RecordNumber
-numberOf e = elim (e .pointer) [ Number n ↦ n | Child s ↦ number (pos 0) ]
+numberOf e = elim (e .pointer) [ Number n o ↦ n | Child s ↦ number (pos 0) ]
+
+unfoldable pub ownerOf : Entry → Owner
+ownerOf e = elim (e .pointer) [ Number n o ↦ o | Child s ↦ nobody ]
 
 -- a leaf entry as the record that it holds, and back
 unfoldable pub recordOf : Entry → Record
-recordOf e = record { number = numberOf e; rect = e .rect }
+recordOf e = record { owner = ownerOf e; number = numberOf e; rect = e .rect }
 
 unfoldable pub leafEntry : Record → Entry
-leafEntry r = entry (r .rect) (Number (r .number))
+leafEntry r = entry (r .rect) (Number (r .number) (r .owner))
+
+-- "the new rectangle under the same number", and of the same owner
+abbrev pub moved : Record → Rect → Record
+moved r new = record { owner = r .owner; number = r .number; rect = new }
 
 -- the entries' rectangles, and "the smallest holding that node's entries"
 unfoldable pub rects : List Entry → List Rect
@@ -130,7 +142,7 @@ freeCount p = length (those (λ (n : Node). eqb (n .level) 0) (p .slots))
 -- ---- changed
 
 unfoldable pub putNode : Pool → SlotNumber → Node → Pool
-putNode p s n = record { root = p .root; height = p .height; records = p .records; slots = set (p .slots) (s .0 - 1) n }
+putNode p s n = record { edition = p .edition; root = p .root; height = p .height; records = p .records; slots = set (p .slots) (s .0 - 1) n }
 
 -- other entries in a node, at the level that it has
 unfoldable pub putEntries : Pool → SlotNumber → List Entry → Pool
@@ -141,10 +153,10 @@ unfoldable pub zeroSlot : Pool → SlotNumber → Pool
 zeroSlot p s = putNode p s freeNode
 
 unfoldable pub putRoot : Pool → SlotNumber → ℕ → Pool
-putRoot p s h = record { root = s; height = h; records = p .records; slots = p .slots }
+putRoot p s h = record { edition = p .edition; root = s; height = h; records = p .records; slots = p .slots }
 
 unfoldable pub putRecords : Pool → ℕ → Pool
-putRecords p n = record { root = p .root; height = p .height; records = n; slots = p .slots }
+putRecords p n = record { edition = p .edition; root = p .root; height = p .height; records = n; slots = p .slots }
 
 -- AT3 and CT4: entry i of node s gets the smallest rectangle that holds its child's entries
 unfoldable pub tighten : Pool → SlotNumber → ℕ → Pool
@@ -152,6 +164,7 @@ tighten p s i = putEntries p s (set (entriesAt p s) i (entryFor p (childOf (entr
 
 -- ---- blanking
 
--- "Blanking writes edition 1, root 1, height 1, records 0, slot 1 as an empty leaf, all else zero." n is one less than the slots
-unfoldable pub blankPool : ℕ → Pool
-blankPool n = record { root = slot 1; height = 1; records = 0; slots = node 1 [] ∷ replicate n freeNode }
+-- "Blanking writes edition 1, root 1, height 1, records 0, slot 1 as an empty leaf, all else zero." Req 07: it is "told the edition". n is one
+-- less than the slots
+unfoldable pub blankPool : Edition → ℕ → Pool
+blankPool e n = record { edition = e; root = slot 1; height = 1; records = 0; slots = node 1 [] ∷ replicate n freeNode }

@@ -5,6 +5,7 @@ use mathlib.Core.List.{List, [], _∷_, _++_, map}
 use Prim.Native.Nat.{ℕ, suc, _+_, _-_}
 use lib.ListN.{length, replicate, set}
 use lib.IntN.{ℤ, pos}
+use Rattle.rules.specs.declared.Edition.the-variants.{One}
 use Rattle.rules.specs.declared.Rect.{Rect}
 use Rattle.rules.specs.declared.Pointer.the-variants.{Child}
 use Rattle.rules.specs.declared.Entry.{Entry}
@@ -16,19 +17,19 @@ use Rattle.rules.specs.Layout.{words}
 use Rattle.rules.specs.Insert.{ours}
 use Rattle.rules.specs.Room.{slotsNeeded, insertRoom, roomNumber, roomWords}
 use Rattle.rules.specs.Computed.{document01, document02}
-use Rattle.rules.specs.Histories.{box, shown}
+use Rattle.rules.specs.Histories.{box, zone}
 
 -- ---- the run
 
 -- nodes one below the other from slot s on, each with so many entries, all of them for the next node; of the last, records
 unfoldable pub oneBelowOther : ℕ → List ℕ → List Node
 oneBelowOther s [] = []
-oneBelowOther s (n ∷ []) = node 1 (replicate n (leafEntry (shown 7 (box 0 0 9 9)))) ∷ []
+oneBelowOther s (n ∷ []) = node 1 (replicate n (leafEntry (zone 7 (box 0 0 9 9)))) ∷ []
 oneBelowOther s (n ∷ m ∷ ns) = node (2 + length ns) (replicate n (entry (box 0 0 9 9) (Child (slot (suc s))))) ∷ oneBelowOther (suc s) (m ∷ ns)
 
 -- what an insert needs that comes from the root, which is in slot 1, down to a leaf through nodes with so many entries each
 abbrev pub needs : List ℕ → ℕ
-needs counts = slotsNeeded ours 1 (record { root = slot 1; height = length counts; records = 8; slots = oneBelowOther 1 counts }) (box 3 3 4 4)
+needs counts = slotsNeeded ours 1 (record { edition = One; root = slot 1; height = length counts; records = 8; slots = oneBelowOther 1 counts }) (box 3 3 4 4)
 
 -- how many they have, from the root down, and what is needed
 pub record NeedExample : Type 0 where
@@ -66,7 +67,7 @@ needs-say = refl
 -- leaves side by side, each with so many sensors in a row from x on, ten millimetres from leaf to leaf; and the entries for them, in slots from s on
 unfoldable pub leavesFrom : ℕ → List ℕ → List Node
 leavesFrom x [] = []
-leavesFrom x (n ∷ ns) = node 1 (map (λ (i : ℕ). leafEntry (shown (suc i) (box i 0 i 0))) (upFrom x n)) ∷ leavesFrom (x + 10) ns
+leavesFrom x (n ∷ ns) = node 1 (map (λ (i : ℕ). leafEntry (zone (suc i) (box i 0 i 0))) (upFrom x n)) ∷ leavesFrom (x + 10) ns
 
 unfoldable pub entriesFrom : ℕ → ℕ → List ℕ → List Entry
 entriesFrom s x [] = []
@@ -74,11 +75,11 @@ entriesFrom s x (n ∷ ns) = entry (box x 0 (x + n - 1) 0) (Child (slot s)) ∷ 
 
 -- a leaf that is the root, and a root with leaves, in front of so many free slots
 abbrev oneLeaf : ℕ → ℕ → List ℤ
-oneLeaf n free = words (record { root = slot 1; height = 1; records = n; slots = leavesFrom 0 (n ∷ []) ++ replicate free freeNode })
+oneLeaf n free = words (record { edition = One; root = slot 1; height = 1; records = n; slots = leavesFrom 0 (n ∷ []) ++ replicate free freeNode })
 
 abbrev overLeaves : List ℕ → ℕ → List ℤ
 overLeaves ns free =
-    words (record { root = slot 1; height = 2; records = total ns; slots = node 2 (entriesFrom 2 0 ns) ∷ leavesFrom 0 ns ++ replicate free freeNode })
+    words (record { edition = One; root = slot 1; height = 2; records = total ns; slots = node 2 (entriesFrom 2 0 ns) ∷ leavesFrom 0 ns ++ replicate free freeNode })
 
 -- a pool, a rectangle, and what is told of them
 pub record RoomExample : Type 0 where
@@ -95,7 +96,7 @@ eightLeaves = 8 ∷ replicate 7 3
 
 abbrev pub roomExamples : List RoomExample
 roomExamples =
-    asks (words (blankPool 2)) (box 0 0 0 0) (Slots 0 2)
+    asks (words (blankPool One 2)) (box 0 0 0 0) (Slots 0 2)
     ∷ asks (oneLeaf 7 2) (box 3 0 3 0) (Slots 0 2)
     -- with one slot free a full root is one too few, with two it fits
     ∷ asks (oneLeaf 8 1) (box 3 0 3 0) (Slots 2 1)

@@ -4,10 +4,15 @@ use mathlib.Core.List.{List, [], _∷_, map}
 use Prim.Native.Nat.{ℕ, zero, suc}
 use Rattle.rules.specs.declared.Rect.{Rect}
 use Rattle.rules.specs.declared.SlotNumber.{SlotNumber}
+use Rattle.rules.specs.declared.Edition.{Edition}
+use Rattle.rules.specs.declared.Edition.the-variants.{One, Two}
+use Rattle.rules.specs.declared.Owner.{Owner}
 use Rattle.rules.specs.declared.Record.{Record}
+use Rattle.rules.specs.declared.FoundRecord.{FoundRecord}
 use Rattle.rules.specs.declared.Entry.{Entry}
 use Rattle.rules.specs.declared.Mode.{Mode}
 use Rattle.rules.specs.Lists.{those, joined, total, lessThen}
+use Rattle.rules.specs.Owners.{ownedBy, asFound}
 use Rattle.rules.specs.Compare.{compared, isMeeting, wanted}
 use Rattle.rules.specs.Pool.{Pool, entriesAt, childOf, recordOf}
 
@@ -33,7 +38,7 @@ openedIn p window (suc zero) s = 1
 openedIn p window (suc (suc l)) s = suc (total (map (λ (e : Entry). openedIn p window (suc l) (childOf e)) (meeting window (entriesAt p s))))
 
 -- "ordered by record number, then low x, low y, high x, high y"
-unfoldable pub before : Record → Record → Bool
+unfoldable pub before : FoundRecord → FoundRecord → Bool
 before a b =
     lessThen (a .number .0) (b .number .0)
     (lessThen (a .rect .lowX) (b .rect .lowX)
@@ -41,11 +46,11 @@ before a b =
     (lessThen (a .rect .highX) (b .rect .highX)
     (lessThen (a .rect .highY) (b .rect .highY) false))))
 
-unfoldable pub placed : Record → List Record → List Record
+unfoldable pub placed : FoundRecord → List FoundRecord → List FoundRecord
 placed r [] = r ∷ []
 placed r (x ∷ xs) = cond (before x r) (x ∷ placed r xs) (r ∷ x ∷ xs)
 
-unfoldable pub ordered : List Record → List Record
+unfoldable pub ordered : List FoundRecord → List FoundRecord
 ordered [] = []
 ordered (r ∷ rs) = placed r (ordered rs)
 
@@ -53,9 +58,18 @@ ordered (r ∷ rs) = placed r (ordered rs)
 abbrev pub foundFromRoot : Pool → Mode → Rect → List Record
 foundFromRoot p mode window = foundIn p mode window (p .height) (p .root)
 
-unfoldable pub found : Pool → Mode → Rect → List Record
-found p mode window = ordered (foundFromRoot p mode window)
+-- Req 07: a batch "sees .. that owner's records only"
+unfoldable pub found : Pool → Owner → Mode → Rect → List FoundRecord
+found p o mode window = ordered (map asFound (those (ownedBy o) (foundFromRoot p mode window)))
 
 -- "The root is always opened."
+abbrev pub openedFromRoot : Pool → Rect → ℕ
+openedFromRoot p window = openedIn p window (p .height) (p .root)
+
+-- Req 07: "Opened is reported as 0" in edition 2
+unfoldable pub reported : Edition → ℕ → ℕ
+reported One n = n
+reported Two n = 0
+
 unfoldable pub opened : Pool → Rect → ℕ
-opened p window = openedIn p window (p .height) (p .root)
+opened p window = reported (p .edition) (openedFromRoot p window)

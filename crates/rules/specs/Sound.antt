@@ -6,9 +6,11 @@ use lib.ListN.{length}
 use lib.Dec.{leb, eqb}
 use lib.IntN.{ℤ}
 use Rattle.rules.specs.declared.SlotNumber.{SlotNumber}
+use Rattle.rules.specs.declared.Record.{Record}
 use Rattle.rules.specs.declared.Entry.{Entry}
 use Rattle.rules.specs.Lists.{those, every, joined}
 use Rattle.rules.specs.Numbers.{most, least, goodNumber}
+use Rattle.rules.specs.Owners.{ownerSound}
 use Rattle.rules.specs.Geometry.{valid, sameRect}
 use Rattle.rules.specs.Pool.{Node, Pool, sameSlot, slotNumbers, nodeAt, entriesAt, childOf, numberOf, coverOf, isLeaf, stored}
 use Rattle.rules.specs.Layout.{words, read, sameWords}
@@ -102,5 +104,10 @@ soundPool p = elim (shapeSound p) [ true ↦ every (usedSound p) (slotNumbers p)
 unfoldable pub nothingElse : List ℤ → Bool
 nothingElse w = sameWords (words (read w)) w
 
+-- Req 07: "Each leaf entry gains an owner, 1 or 2, .. anything else and the pool isn't sound". (That it is zero in inner entries is
+-- `nothingElse`)
+unfoldable pub ownersSound : Pool → Bool
+ownersSound p = every (λ (r : Record). ownerSound (p .edition) (r .owner)) (stored p)
+
 unfoldable pub sound : List ℤ → Bool
-sound w = nothingElse w && soundPool (read w)
+sound w = nothingElse w && soundPool (read w) && ownersSound (read w)

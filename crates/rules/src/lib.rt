@@ -33,16 +33,32 @@ pub struct RecordNumber(pub i32);
 // The paper's child-pointer. Slots are counted from 1.
 pub struct SlotNumber(pub usize);
 
-// "A record is a record number and a rectangle." A place of the found list holds one.
-#[repr(C)]
+// Req 07: the pool's edition, "an enum that has no other".
+pub enum Edition {
+    One,
+    Two,
+}
+
+// Req 07: "an owner, 1 or 2". An entry of an edition 1 pool has none, which is 0.
+pub struct Owner(pub i32);
+
+// "A record is a record number and a rectangle." Req 07: "Each leaf entry gains an owner".
 pub struct Record {
+    pub owner: Owner,
     pub number: RecordNumber,
     pub rect: Rect,
 }
 
-// "A leaf's pointer is a record number, any other a child slot."
+// A place of the found list: what is shown of a record to its owner.
+#[repr(C)]
+pub struct FoundRecord {
+    pub number: RecordNumber,
+    pub rect: Rect,
+}
+
+// "A leaf's pointer is a record number, any other a child slot." Beside a record number stands its owner.
 pub enum Pointer {
-    Number(RecordNumber),
+    Number(RecordNumber, Owner),
     Child(SlotNumber),
 }
 
@@ -86,12 +102,13 @@ pub struct Request {
     pub second: Rect,
 }
 
-// "A request is of one of the four kinds", with the fields that its kind uses and no other. A search has its mode and its window.
+// "A request is of one of the four kinds", with the fields that its kind uses and no other. A search has its mode and its window. Each is
+// the request of an owner.
 pub enum Asked {
     Insert(Record),
     Delete(Record),
     Update(Record, Rect),
-    Search(Mode, Rect),
+    Search(Owner, Mode, Rect),
 }
 
 // The outcome of a request: a case for each row of the table of document 01 that speaks of requests.
@@ -120,6 +137,7 @@ pub struct Answer {
 pub enum Verdict {
     Served,
     BadLists,
+    BadOwner,
     BadLength,
     NotSound,
     NoRequest,
@@ -152,6 +170,7 @@ pub enum FileFault {
     NotSound,
     BadRectangle,
     BadNumber,
+    BadOwner,
     NoSlot,
     ShortBuffer,
     BadFrame,

@@ -1,7 +1,6 @@
 -- The places of the entries that meet the window, a place at a time, as the loops go through them; what search finds and opens at those places;
 -- and how many nodes can be opened: a node has at most 8 entries, so each level opens at most 9 times as many.
 use mathlib.Core.Path.{_≡_, refl, sym, ap, _∙_}
-use mathlib.Core.Logic.{_≢_}
 use mathlib.Core.Bool.{Bool, true, false, cond}
 use mathlib.Core.List.{List, [], _∷_, _++_, map, map-map}
 use Prim.Native.Nat.{ℕ, zero, suc, _+_, _-_, _^_, _≤_, _<_}
@@ -29,8 +28,8 @@ use Rattle.rules_laws.proofs.Sums.{total-most}
 use Rattle.rules_laws.proofs.Compares.{meeting-is}
 use Rattle.rules_laws.proofs.Turns.{up-more, up-none}
 use Rattle.layout_laws.proofs.Parts.{rect-entry}
-use Rattle.nodes.proofs.Slots.{same-entries, most-entries}
-use Rattle.search_laws.proofs.Clauses.{found-none, found-leaf-met, found-inner, opened-none, opened-leaf, opened-inner}
+use Rattle.nodes.proofs.Slots.{most-entries}
+use Rattle.search_laws.proofs.Clauses.{found-leaf-met, found-inner, opened-none, opened-leaf, opened-inner}
 use Rattle.search.specs.State.{meetsAt, meetingFrom, meetingPlaces, foundAt}
 use Rattle.search.proofs.Sums.{total-end, total-next, joined-end, joined-next}
 
@@ -155,27 +154,15 @@ module _ (p : Pool) (window : Rect) where
       ∙ ap suc (ap (λ (es : List Entry). total (map below es)) (meeting-entries s) ∙ ap total (map-map below (entryAt p s) (meetingPlaces p window s)))
       ∙ omega arith
 
-  -- by any slot number of its place
-  pub same-found : (level : ℕ) (s t : SlotNumber) → t .0 - 1 ≡ s .0 - 1 → foundIn p Meeting window level s ≡ foundIn p Meeting window level t
-  same-found zero s t e = found-none p window Meeting s ∙ sym (found-none p window Meeting t)
-  same-found (suc zero) s t e = rw (found-leaf-met p window s, found-leaf-met p window t, same-entries p t s e)
-  same-found (suc (suc l)) s t e = rw (found-inner p window Meeting l s, found-inner p window Meeting l t, same-entries p t s e)
+  pub node-found : (level : ℕ) (s : SlotNumber) → 2 ≤ level → foundIn p Meeting window level s ≡ foundBelow p window (level - 1) s (meetingPlaces p window s)
+  node-found zero s h = absurd (omega arith)
+  node-found (suc zero) s h = absurd (omega arith)
+  node-found (suc (suc l)) s h = rw (sub-one (suc (suc l))) (inner-found l s)
 
-  pub same-opened : (level : ℕ) (s t : SlotNumber) → t .0 - 1 ≡ s .0 - 1 → openedIn p window level s ≡ openedIn p window level t
-  same-opened zero s t e = opened-none p window s ∙ sym (opened-none p window t)
-  same-opened (suc zero) s t e = opened-leaf p window s ∙ sym (opened-leaf p window t)
-  same-opened (suc (suc l)) s t e = rw (opened-inner p window l s, opened-inner p window l t, same-entries p t s e)
-
-  pub node-found : (level : ℕ) (s : SlotNumber) → level ≢ 0 → level ≢ 1 → foundIn p Meeting window level s ≡ foundBelow p window (level - 1) s (meetingPlaces p window s)
-  node-found zero s a b = absurd (a refl)
-  node-found (suc zero) s a b = absurd (b refl)
-  node-found (suc (suc l)) s a b = rw (sub-one (suc (suc l))) (inner-found l s)
-
-  pub node-opened : (level : ℕ) (s : SlotNumber) → level ≢ 0 → level ≢ 1
-      → openedIn p window level s ≡ 1 + openedBelow p window (level - 1) s (meetingPlaces p window s)
-  node-opened zero s a b = absurd (a refl)
-  node-opened (suc zero) s a b = absurd (b refl)
-  node-opened (suc (suc l)) s a b = rw (sub-one (suc (suc l))) (inner-opened l s)
+  pub node-opened : (level : ℕ) (s : SlotNumber) → 2 ≤ level → openedIn p window level s ≡ 1 + openedBelow p window (level - 1) s (meetingPlaces p window s)
+  node-opened zero s h = absurd (omega arith)
+  node-opened (suc zero) s h = absurd (omega arith)
+  node-opened (suc (suc l)) s h = rw (sub-one (suc (suc l))) (inner-opened l s)
 
   -- ---- a child at a time
 

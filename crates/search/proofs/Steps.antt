@@ -8,22 +8,28 @@ use native.Mathlib.Omega.{arith}
 use lib.ListN.{length, drop, length-append}
 use lib.Seq.{sets, length-sets}
 use lib.IntN.{ℤ, pos}
+use borrow.Author.Tests.{eq-eqb}
 use Rattle.rules.specs.declared.Rect.{Rect}
 use Rattle.rules.specs.declared.SlotNumber.{SlotNumber}
 use Rattle.rules.specs.declared.Mode.the-variants.{Meeting}
 use Rattle.rules.specs.declared.RecordNumber.{RecordNumber}
+use Rattle.rules.specs.declared.Owner.{Owner}
 use Rattle.rules.specs.declared.Record.{Record}
-use Rattle.rules.specs.Pool.{Pool, entriesAt, entryAt, numberOf, recordOf}
-use Rattle.rules.specs.Layout.{entryPlace, validLength, rectOf, wordAt, read}
-use Rattle.rules.specs.Search.{foundIn, openedIn, opened, foundFromRoot}
+use Rattle.rules.specs.Owners.{owner}
+use Rattle.rules.specs.Pool.{Pool, nodeAt, entriesAt, entryAt, numberOf, ownerOf, recordOf}
+use Rattle.rules.specs.Layout.{entryPlace, editionOf, validLength, rectOf, ownerAt, wordAt, read}
+use Rattle.rules.specs.Search.{foundIn, openedIn, foundFromRoot, openedFromRoot}
 use Rattle.layout_laws.specs.Slots.{InPool}
-use Rattle.layout_laws.proofs.Parts.{slot-few}
+use Rattle.layout_laws.proofs.Parts.{slot-few, slot-pointer}
+use Rattle.layout_laws.proofs.Written.{pointer-number}
 use Rattle.pool.proofs.Stores.{spot-inside, spot-entry}
-use Rattle.found_items.specs.Items.{spotAt, itemsFrom, Pointing}
+use Rattle.nodes.specs.Reading.{pointedOwner}
+use Rattle.nodes.proofs.Pointers.{owner-is}
+use Rattle.found_items.specs.Items.{spotAt, itemAt, itemsFrom, Pointing}
 use Rattle.found_items.proofs.Words.{SameItems, put-before, spot-put, item-put, items-none, items-one, items-append, items-same, pointing-none, pointing-same, pointing-append}
 use Rattle.search.specs.declared.Walked.{Walked}
 use Rattle.search.specs.State.{meetsAt, foundAt}
-use Rattle.search.specs.Walk.{walked, ItemRoom, Went}
+use Rattle.search.specs.Walk.{walked, ItemRoom, Went, FindsAll}
 use Rattle.search.proofs.Meeting.{found-yes, found-no, opened-most}
 
 -- ---- what is found and opened, said otherwise
@@ -43,7 +49,7 @@ went-none pool u a rs n d e =
       next = omega arith;
       opened = omega arith;
       stay = λ i h. refl;
-      listed = items-none pool u (a .next);
+      listed = items-none (itemAt pool u) (a .next);
       pointing = pointing-none pool u (a .next);
       long = refl;
     }
@@ -70,7 +76,7 @@ went-both {pool} {u} {v} {x} {a} {b} {c} {rs} {ts} {all} {m} {n} {both} d e h k 
       stay = λ i l. k .stay i (omega (arith, h .next)) ∙ h .stay i l;
       listed =
           ap (itemsFrom pool x (a .next)) (length-append rs ts)
-          ∙ items-append pool x (a .next) (length rs) (length ts)
+          ∙ items-append (itemAt pool x) (a .next) (length rs) (length ts)
           ∙ ap₂ (λ (xs ys : List Record). xs ++ ys) (items-same pool (a .next) (length rs) first ∙ h .listed)
           (ap (λ (i : ℕ). itemsFrom pool x i (length ts)) (sym (h .next)) ∙ k .listed);
       pointing =
@@ -121,31 +127,44 @@ went-opens w = record {
 
 -- ---- an entry of a leaf: its item is written at the next place, and found where the entry meets the window
 
-record-is : (p : Pool) (s : SlotNumber) (i : ℕ) (r : Rect) → r ≡ entryAt p s i .rect → record { number = numberOf (entryAt p s i); rect = r } ≡ recordOf (entryAt p s i)
-unfolding recordOf
-record-is p s i r e = λ j. record { number = numberOf (entryAt p s i); rect = e j }
+-- a leaf's entry as a record, read from its words: there its owner is the word after its number
+leaf-owner : {w : List ℤ} {s : SlotNumber} → InPool w s → nodeAt (read w) s .level ≡ 1 → (i : ℕ) → i < length (entriesAt (read w) s)
+    → ownerOf (entryAt (read w) s i) ≡ owner (ownerAt (editionOf w) (drop (entryPlace (editionOf w) s i) w))
+leaf-owner {w} {s} p leaf i h =
+    sym (owner-is (entryAt (read w) s i))
+    ∙ ap pointedOwner (slot-pointer p i h ∙ pointer-number (nodeAt (read w) s .level) _ _ (eq-eqb (nodeAt (read w) s .level) 1 leaf))
 
-module _ {w : List ℤ} {s : SlotNumber} (u : List ℤ) (p : InPool w s) (i : ℕ) (h : i < length (entriesAt (read w) s)) (k : ℕ) (room : 2 * k + 2 ≤ length u) where
+record-is : (p : Pool) (s : SlotNumber) (i : ℕ) (o : Owner) (r : Rect) → o ≡ ownerOf (entryAt p s i) → r ≡ entryAt p s i .rect
+    → record { owner = o; number = numberOf (entryAt p s i); rect = r } ≡ recordOf (entryAt p s i)
+unfolding recordOf
+record-is p s i o r d e = λ j. record { owner = d j; number = numberOf (entryAt p s i); rect = e j }
+
+module _ {w : List ℤ} {s : SlotNumber} (u : List ℤ) (p : InPool w s) (leaf : nodeAt (read w) s .level ≡ 1)
+    (i : ℕ) (h : i < length (entriesAt (read w) s)) (k : ℕ) (room : 2 * k + 2 ≤ length u) where
   abbrev number : ℤ
   number = numberOf (entryAt (read w) s i) .0
 
+  abbrev place : ℕ
+  place = entryPlace (editionOf w) s i
+
   abbrev put : List ℤ
-  put = sets u (2 * k) (number ∷ pos (entryPlace s i) ∷ [])
+  put = sets u (2 * k) (number ∷ pos place ∷ [])
 
   one-listed : itemsFrom w put k 1 ≡ recordOf (entryAt (read w) s i) ∷ []
   one-listed =
-      items-one w put k
-      ∙ ap (λ (r : Record). r ∷ []) (item-put w u k number (entryPlace s i) room ∙ record-is (read w) s i (rectOf (drop (entryPlace s i) w)) (spot-entry p i h))
+      items-one (itemAt w put) k
+      ∙ ap (λ (r : Record). r ∷ [])
+      (item-put w u k number place room ∙ record-is (read w) s i _ (rectOf (drop place w)) (sym (leaf-owner p leaf i h)) (spot-entry p i h))
 
   one-pointing : Pointing w put k 1
   one-pointing = record {
     inside = λ j l g.
         let e : j ≡ k = omega arith in
-        omega (arith, ap (spotAt put) e, spot-put u k number (entryPlace s i) room, spot-inside p i (omega (arith, slot-few p)));
+        omega (arith, ap (spotAt put) e, spot-put u k number place room, spot-inside p i (omega (arith, slot-few p)));
   }
 
   before : (j : ℕ) → j < 2 * k → wordAt put j ≡ wordAt u j
-  before j l = put-before u k number (pos (entryPlace s i)) 0 k (omega arith) .word j (omega arith) (omega arith)
+  before j l = put-before u k number (pos place) 0 k (omega arith) .word j (omega arith) (omega arith)
 
   went-one : Went w u put (walked k 0) (walked (k + 1) 0) (recordOf (entryAt (read w) s i) ∷ []) 0
   went-one = record {
@@ -154,7 +173,7 @@ module _ {w : List ℤ} {s : SlotNumber} (u : List ℤ) (p : InPool w s) (i : �
     stay = before;
     listed = one-listed;
     pointing = one-pointing;
-    long = length-sets u (2 * k) (number ∷ pos (entryPlace s i) ∷ []);
+    long = length-sets u (2 * k) (number ∷ pos place ∷ []);
   }
 
   -- written, and not found: the next item is written over it
@@ -163,12 +182,12 @@ module _ {w : List ℤ} {s : SlotNumber} (u : List ℤ) (p : InPool w s) (i : �
     next = omega arith;
     opened = omega arith;
     stay = before;
-    listed = items-none w put k;
+    listed = items-none (itemAt w put) k;
     pointing = pointing-none w put k;
-    long = length-sets u (2 * k) (number ∷ pos (entryPlace s i) ∷ []);
+    long = length-sets u (2 * k) (number ∷ pos place ∷ []);
   }
 
-  pub went-entry : (window : Rect) (v : List ℤ) (z : RecordNumber) (at n : ℕ) → z ≡ numberOf (entryAt (read w) s i) → at ≡ entryPlace s i
+  pub went-entry : (window : Rect) (v : List ℤ) (z : RecordNumber) (at n : ℕ) → z ≡ numberOf (entryAt (read w) s i) → at ≡ entryPlace (editionOf w) s i
       → v ≡ sets u (2 * k) (z .0 ∷ pos at ∷ []) → n ≡ cond (meetsAt (read w) window s i) 1 0
       → Went w u v (walked k 0) (walked (k + n) 0) (foundAt (read w) window s i) 0
   went-entry window v z at n d e f g =
@@ -201,8 +220,7 @@ module _ (w : List ℤ) (window : Rect) (right : validLength w ≡ true) (h : �
   same-found : foundIn (read w) Meeting window h s ≡ all
   same-found = ap₂ (foundIn (read w) Meeting window) d e
 
-  same-opened : openedIn (read w) window h s ≡ opened (read w) window
-  unfolding opened
+  same-opened : openedIn (read w) window h s ≡ openedFromRoot (read w) window
   same-opened = ap₂ (openedIn (read w) window) d e
 
   pub top-room : (u : List ℤ) → 2 * length all + 2 ≤ length u → ItemRoom u (walked 0 0) (foundIn (read w) Meeting window h s) (openedIn (read w) window h s)
@@ -212,7 +230,15 @@ module _ (w : List ℤ) (window : Rect) (right : validLength w ≡ true) (h : �
   }
 
   pub top-went : {u v : List ℤ} {r : Walked} → Went w u v (walked 0 0) r (foundIn (read w) Meeting window h s) (openedIn (read w) window h s)
-      → (r .next ≡ length all) × ((r .opened ≡ opened (read w) window) × ((r .opened ≤ 43046721) × ((itemsFrom w v 0 (length all) ≡ all) × (Pointing w v 0 (length all) × (length v ≡ length u)))))
-  top-went {r = r} g =
+      → FindsAll w Meeting window u v r
+  top-went {v = v} {r = r} g =
       let k = went-same same-found same-opened g in
-      (omega (arith, k .next), (omega (arith, k .opened), (omega (arith, g .opened, opened-most w right window h s (omega arith)), (k .listed, (k .pointing, k .long)))))
+      let many : r .next ≡ length all = omega (arith, k .next) in
+      record {
+        found = many;
+        opened = omega (arith, k .opened);
+        most = omega (arith, g .opened, opened-most w right window h s (omega arith));
+        listed = ap (itemsFrom w v 0) many ∙ k .listed;
+        pointing = subst (Pointing w v 0) (sym many) (k .pointing);
+        long = k .long;
+      }

@@ -1,6 +1,5 @@
 -- What a call of the walk needs and does, from what the calls before it did: `Meeting` and `Steps` over the values that the code holds.
 use mathlib.Core.Path.{_≡_, refl, sym, ap, subst, _∙_}
-use mathlib.Core.Logic.{_≢_}
 use mathlib.Core.Bool.{cond}
 use mathlib.Core.List.{List, _++_, append-nil}
 use Prim.Native.Nat.{ℕ, _+_, _-_, _*_, _≤_, _<_}
@@ -14,13 +13,13 @@ use Rattle.rules.specs.declared.Mode.the-variants.{Meeting}
 use Rattle.rules.specs.Pool.{Pool, entriesAt, entryAt, childOf}
 use Rattle.rules.specs.Layout.{read}
 use Rattle.rules.specs.Search.{foundIn, openedIn}
-use Rattle.search_laws.proofs.Clauses.{found-none, opened-none, opened-leaf}
+use Rattle.search_laws.proofs.Clauses.{opened-leaf}
 use Rattle.search.specs.declared.Walked.{Walked}
 use Rattle.search.specs.State.{meetsAt, meetingFrom, meetingPlaces, foundAt}
 use Rattle.search.specs.Walk.{walked, ItemRoom, Went}
-use Rattle.search.proofs.Meeting.{leafRecords, openedBelow, foundBelow, gathers, meeting-end, meeting-inside, records-end, records-next, leaf-found, same-found}
-use Rattle.search.proofs.Meeting.{same-opened, node-found, node-opened, opened-end, found-end, opened-next, found-next}
-use Rattle.search.proofs.Steps.{Underway, sets-out, arrives, next-room, goes-on, room-same, went-same, went-none, room-opens, went-opens, went-beside}
+use Rattle.search.proofs.Meeting.{leafRecords, openedBelow, foundBelow, gathers, meeting-end, meeting-inside, records-end, records-next, leaf-found}
+use Rattle.search.proofs.Meeting.{node-found, node-opened, opened-end, found-end, opened-next, found-next}
+use Rattle.search.proofs.Steps.{Underway, sets-out, arrives, next-room, goes-on, room-same, went-same, room-opens, went-opens, went-beside}
 
 -- ---- the places gathered: those of the entries before place i stand first, and those from i on are to come
 
@@ -69,47 +68,38 @@ module _ (w : List ℤ) (window : Rect) where
       pub leaf-ends : length (entriesAt p s) ≤ i → Went w u v a (walked next (a .opened + 1)) (foundIn p Meeting window 1 s) 1
       leaf-ends h = went-opens (arrives g (records-end p window s i h) refl)
 
-  -- ---- a node of no level
+  -- ---- a node, of the level given
 
-  pub none-went : (level : ℕ) (s : SlotNumber) → level ≡ 0 → (u : List ℤ) (a : Walked) → Went w u u a a (foundIn p Meeting window level s) (openedIn p window level s)
-  none-went level s z u a =
-      went-none w u a (foundIn p Meeting window level s) (openedIn p window level s)
-      (ap (λ (k : ℕ). foundIn p Meeting window k s) z ∙ found-none p window Meeting s) (ap (λ (k : ℕ). openedIn p window k s) z ∙ opened-none p window s)
-
-  -- ---- a node; t is the slot that is read for s
-
-  module _ (level : ℕ) (s t : SlotNumber) (same : t .0 - 1 ≡ s .0 - 1) where
+  module _ (level : ℕ) (s : SlotNumber) where
     module _ (leaf : level ≡ 1) where
-      found-leaf : foundIn p Meeting window level s ≡ foundIn p Meeting window 1 t
-      found-leaf = ap (λ (k : ℕ). foundIn p Meeting window k s) leaf ∙ same-found p window 1 s t same
+      found-leaf : foundIn p Meeting window level s ≡ foundIn p Meeting window 1 s
+      found-leaf = ap (λ (k : ℕ). foundIn p Meeting window k s) leaf
 
       opened-one : openedIn p window level s ≡ 1
       opened-one = ap (λ (k : ℕ). openedIn p window k s) leaf ∙ opened-leaf p window s
 
-      pub leaf-room : {u : List ℤ} {a : Walked} → ItemRoom u a (foundIn p Meeting window level s) (openedIn p window level s) → ItemRoom u a (foundIn p Meeting window 1 t) 1
+      pub leaf-room : {u : List ℤ} {a : Walked} → ItemRoom u a (foundIn p Meeting window level s) (openedIn p window level s) → ItemRoom u a (foundIn p Meeting window 1 s) 1
       leaf-room r = room-same found-leaf opened-one r
 
-      pub leaf-went : {u v : List ℤ} {a z : Walked} → Went w u v a z (foundIn p Meeting window 1 t) 1 → Went w u v a z (foundIn p Meeting window level s) (openedIn p window level s)
+      pub leaf-went : {u v : List ℤ} {a z : Walked} → Went w u v a z (foundIn p Meeting window 1 s) 1 → Went w u v a z (foundIn p Meeting window level s) (openedIn p window level s)
       leaf-went g = went-same (sym found-leaf) (sym opened-one) g
 
     -- the first n of the array are the places of the children to open
-    module _ (some : level ≢ 0) (inner : level ≢ 1) (array : List ℕ) (n : ℕ) (are : take n array ≡ meetingPlaces p window t) where
+    module _ (inner : 2 ≤ level) (array : List ℕ) (n : ℕ) (are : take n array ≡ meetingPlaces p window s) where
       abbrev places : List ℕ
       places = take n array
 
-      found-are : foundIn p Meeting window level s ≡ foundBelow p window (level - 1) t places
-      found-are = same-found p window level s t same ∙ node-found p window level t some inner ∙ ap (foundBelow p window (level - 1) t) (sym are)
+      found-are : foundIn p Meeting window level s ≡ foundBelow p window (level - 1) s places
+      found-are = node-found p window level s inner ∙ ap (foundBelow p window (level - 1) s) (sym are)
 
-      opened-are : openedIn p window level s ≡ 1 + openedBelow p window (level - 1) t places
-      opened-are =
-          same-opened p window level s t same ∙ node-opened p window level t some inner
-          ∙ ap (λ (is : List ℕ). 1 + openedBelow p window (level - 1) t is) (sym are)
+      opened-are : openedIn p window level s ≡ 1 + openedBelow p window (level - 1) s places
+      opened-are = node-opened p window level s inner ∙ ap (λ (is : List ℕ). 1 + openedBelow p window (level - 1) s is) (sym are)
 
       pub node-room : {u : List ℤ} {a : Walked} → ItemRoom u a (foundIn p Meeting window level s) (openedIn p window level s)
-          → ItemRoom u a (foundBelow p window (level - 1) t places) (openedBelow p window (level - 1) t places)
+          → ItemRoom u a (foundBelow p window (level - 1) s places) (openedBelow p window (level - 1) s places)
       node-room r = room-opens (room-same found-are opened-are r)
 
-      pub node-went : {u v : List ℤ} {a z : Walked} → Went w u v a z (foundBelow p window (level - 1) t places) (openedBelow p window (level - 1) t places)
+      pub node-went : {u v : List ℤ} {a z : Walked} → Went w u v a z (foundBelow p window (level - 1) s places) (openedBelow p window (level - 1) s places)
           → Went w u v a (walked (z .next) (z .opened + 1)) (foundIn p Meeting window level s) (openedIn p window level s)
       node-went g = went-same (sym found-are) (sym opened-are) (went-opens g)
 

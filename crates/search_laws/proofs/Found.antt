@@ -1,29 +1,33 @@
 -- The pruned walk finds what a look at every leaf finds, in the same order. In a tree the cover of a node's entries holds every record
 -- below the node: so below an entry that the walk leaves out, no record meets the window, and none is wanted in any mode.
-use mathlib.Core.Path.{_≡_, refl, sym, ap, subst}
+use mathlib.Core.Path.{_≡_, refl, sym, ap, subst, _∙_}
 use mathlib.Core.Bool.{Bool, true, false, cond, _&&_}
 use mathlib.Core.List.{List, [], map, Memᴰ·of-map}
 use Prim.Native.Nat.{ℕ, zero, suc}
 use Rattle.rules.specs.declared.Rect.{Rect}
 use Rattle.rules.specs.declared.SlotNumber.{SlotNumber}
+use Rattle.rules.specs.declared.Owner.{Owner}
 use Rattle.rules.specs.declared.Record.{Record}
 use Rattle.rules.specs.declared.Entry.{Entry}
 use Rattle.rules.specs.declared.Mode.{Mode}
 use Rattle.rules.specs.Lists.{those, joined}
 use Rattle.rules.specs.Numbers.{goodNumber}
+use Rattle.rules.specs.Owners.{ownedBy}
 use Rattle.rules.specs.Geometry.{valid, meets}
 use Rattle.rules.specs.Compare.{compared, wanted}
 use Rattle.rules.specs.Pool.{Pool, entriesAt, childOf, recordOf, coverOf, stored}
 use Rattle.rules.specs.Search.{foundIn, foundFromRoot}
+use Rattle.rules_laws.proofs.Bools.{and-both, both-and, same-test}
 use Rattle.rules_laws.proofs.Places.{Among, map-same}
-use Rattle.rules_laws.proofs.Parts.{those-map, those-nothing, those-and}
+use Rattle.rules_laws.proofs.Parts.{those-map, those-nothing, those-same, those-and}
 use Rattle.rules_laws.proofs.Joins.{among-joined, joined-those, those-joined}
 use Rattle.sound_laws.specs.Tree.{recordsIn, treeRecords, Tree, Whole}
 use Rattle.sound_laws.proofs.Walk.{records-leaf, records-inner, no-tree, leaf-of, inner-of}
 use Rattle.sound_laws.proofs.Whole.{stored-in}
 use Rattle.rules_laws.proofs.Compares.{HoldsRect, holds-on, holds-misses, wanted-misses}
-use Rattle.search_laws.specs.Window.{recordWanted, nodeMeets}
+use Rattle.search_laws.specs.Window.{recordWanted, ownWanted, nodeMeets}
 use Rattle.search_laws.specs.Order.{Alike}
+use Rattle.search_laws.proofs.Order.{alike-those}
 use Rattle.search_laws.proofs.Covers.{cover-of-holds}
 use Rattle.search_laws.proofs.Clauses.{found-leaf, found-inner}
 
@@ -98,3 +102,17 @@ module _ (p : Pool) where
           rw (found-in (p .height) (p .root) (w .tree), ← those-and (recordWanted mode window) q (treeRecords p), ← those-and (recordWanted mode window) q (stored p))
           (sym (stored-in p w (λ r. recordWanted mode window r && q r)));
     }
+
+    -- .. and of those that an owner has
+    pub own-alike : Whole p → (o : Owner) → Alike (those (ownedBy o) (foundFromRoot p mode window)) (those (ownWanted o mode window) (stored p))
+    own-alike w o = rw (← own-those) (alike-those (ownedBy o) (found-alike w))
+      where
+        either-first : (a b : Bool) → (a && b) ≡ (b && a)
+        either-first a b =
+            same-test (a && b) (b && a) (λ h. both-and b a (and-both a b h .1) (and-both a b h .0)) (λ h. both-and a b (and-both b a h .1) (and-both b a h .0))
+
+        own-those : those (ownedBy o) (those (recordWanted mode window) (stored p)) ≡ those (ownWanted o mode window) (stored p)
+        own-those =
+            sym (those-and (recordWanted mode window) (ownedBy o) (stored p))
+            ∙ those-same (λ r. recordWanted mode window r && ownedBy o r) (ownWanted o mode window) (stored p)
+            (λ r m. either-first (recordWanted mode window r) (ownedBy o r))

@@ -14,7 +14,7 @@ use Rattle.rules.specs.Lists.{those, joined, total}
 use Rattle.rules.specs.Geometry.{meets}
 use Rattle.rules.specs.Pool.{Pool, entriesAt, childOf, coverOf}
 use Rattle.rules.specs.Sound.{isRoot}
-use Rattle.rules.specs.Search.{openedIn, opened}
+use Rattle.rules.specs.Search.{openedIn, openedFromRoot}
 use Rattle.rules_laws.proofs.Places.{Among, nothing, map-same}
 use Rattle.rules_laws.proofs.Parts.{those-yes, those-none, those-parted, count-cons, those-nothing}
 use Rattle.rules_laws.proofs.Joins.{count-joined}
@@ -100,8 +100,7 @@ module _ (p : Pool) where
         part e c tight ih false h = rw h (sym (ap length (none-opened (suc l) (childOf e) c (rw tight at h))))
 
     -- "The root is always opened."
-    pub opened-tree : Whole p → opened p window ≡ suc (length (those (nodeMeets p window) (those (λ s. not (isRoot p s)) (treeSlots p))))
-    unfolding opened
+    pub opened-tree : Whole p → openedFromRoot p window ≡ suc (length (those (nodeMeets p window) (those (λ s. not (isRoot p s)) (treeSlots p))))
     opened-tree w = omega (
       arith,
       opened-in (p .height) (p .root) (w .tree),

@@ -1,23 +1,27 @@
 -- Over a window that holds every record stored, a search of mode inside finds what one of mode meeting finds: each record then lies in the
 -- window, and so meets it too. The whole site is such a window, since every record stored has a valid rectangle.
-use mathlib.Core.Path.{_≡_, sym, ap, _∙_}
-use mathlib.Core.Bool.{true, _&&_}
+use mathlib.Core.Path.{_≡_, refl, sym, ap, _∙_}
+use mathlib.Core.Bool.{Bool, true, false, _&&_}
+use mathlib.Core.List.{List, map}
 use lib.IntN.{ℤ, pos, negsuc}
 use lib.Signed.{leZ}
 use Rattle.rules.specs.declared.Rect.{Rect}
+use Rattle.rules.specs.declared.Owner.{Owner}
 use Rattle.rules.specs.declared.Record.{Record}
 use Rattle.rules.specs.declared.Mode.the-variants.{Meeting, OnlyInside}
+use Rattle.rules.specs.Lists.{those}
 use Rattle.rules.specs.Numbers.{inRange, goodNumber}
+use Rattle.rules.specs.Owners.{ownedBy, asFound}
 use Rattle.rules.specs.Geometry.{valid}
 use Rattle.rules.specs.Pool.{Pool, stored}
 use Rattle.rules.specs.Search.{ordered, found}
 use Rattle.rules_laws.proofs.Bools.{and-both}
 use Rattle.rules_laws.proofs.Places.{Among}
-use Rattle.rules_laws.proofs.Parts.{those-every, those-same}
+use Rattle.rules_laws.proofs.Parts.{those-same}
 use Rattle.rules_laws.proofs.Compares.{HoldsRect, valid-meets, held-meets, meets-is, wanted-inside, wanted-meeting}
 use Rattle.sound_laws.specs.Tree.{treeRecords, Whole}
 use Rattle.sound_laws.proofs.Whole.{stored-in}
-use Rattle.search_laws.specs.Window.{recordWanted, wholeSite}
+use Rattle.search_laws.specs.Window.{recordWanted, ownWanted, wholeSite}
 use Rattle.search_laws.specs.Order.{Alike}
 use Rattle.search_laws.proofs.Order.{alike-among}
 use Rattle.search_laws.proofs.Found.{record-good}
@@ -62,13 +66,13 @@ site-holds r v =
       highY = between (r .highY) (i .highY) .1;
     }
 
-module _ (p : Pool) (w : Whole p) where
+module _ (p : Pool) (w : Whole p) (o : Owner) where
   pub inside-all : (window : Rect) → ((r : Record) → Among r (stored p) → HoldsRect window (r .rect))
-      → found p OnlyInside window ≡ found p Meeting window
+      → found p o OnlyInside window ≡ found p o Meeting window
   inside-all window h =
-      search-exact p w OnlyInside window
-      ∙ ap ordered (those-same (recordWanted OnlyInside window) (recordWanted Meeting window) (stored p) same)
-      ∙ sym (search-exact p w Meeting window)
+      search-exact p w o OnlyInside window
+      ∙ ap (λ (rs : List Record). ordered (map asFound rs)) (those-same (ownWanted o OnlyInside window) (ownWanted o Meeting window) (stored p) own)
+      ∙ sym (search-exact p w o Meeting window)
     where
       same : (r : Record) → Among r (stored p) → recordWanted OnlyInside window r ≡ recordWanted Meeting window r
       same r m =
@@ -76,16 +80,28 @@ module _ (p : Pool) (w : Whole p) where
           wanted-inside (r .rect) window v .1 (h r m)
           ∙ sym (wanted-meeting (r .rect) window v .1 (meets-is (r .rect) window .0 (held-meets (r .rect) window (valid-meets (r .rect) v) (h r m))))
 
+      own : (r : Record) → Among r (stored p) → ownWanted o OnlyInside window r ≡ ownWanted o Meeting window r
+      own r m = ap (λ (b : Bool). ownedBy o r && b) (same r m)
+
   -- for planners: over the whole site, inside is meeting
-  pub whole-site : found p OnlyInside wholeSite ≡ found p Meeting wholeSite
+  pub whole-site : found p o OnlyInside wholeSite ≡ found p o Meeting wholeSite
   whole-site = inside-all wholeSite (λ r m. site-holds (r .rect) (stored-good p w r m .0))
 
-  -- .. and a search that meets it finds every record
-  pub all-found : found p Meeting wholeSite ≡ ordered (stored p)
-  all-found = search-exact p w Meeting wholeSite ∙ ap ordered (those-every (recordWanted Meeting wholeSite) (stored p) all)
+  -- .. and a search that meets it finds every record of its owner
+  pub all-found : found p o Meeting wholeSite ≡ ordered (map asFound (those (ownedBy o) (stored p)))
+  all-found =
+      search-exact p w o Meeting wholeSite
+      ∙ ap (λ (rs : List Record). ordered (map asFound rs)) (those-same (ownWanted o Meeting wholeSite) (ownedBy o) (stored p) own)
     where
       all : (r : Record) → Among r (stored p) → recordWanted Meeting wholeSite r ≡ true
       all r m =
           let v = stored-good p w r m .0 in
           wanted-meeting (r .rect) wholeSite v .1
           (meets-is (r .rect) wholeSite .0 (held-meets (r .rect) wholeSite (valid-meets (r .rect) v) (site-holds (r .rect) v)))
+
+      both : (a : Bool) → (a && true) ≡ a
+      both true = refl
+      both false = refl
+
+      own : (r : Record) → Among r (stored p) → ownWanted o Meeting wholeSite r ≡ ownedBy o r
+      own r m = rw (all r m) (both (ownedBy o r))

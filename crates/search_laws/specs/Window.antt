@@ -3,8 +3,10 @@ use mathlib.Core.Bool.{Bool, not, _&&_}
 use lib.IntN.{pos, negsuc}
 use Rattle.rules.specs.declared.Rect.{Rect}
 use Rattle.rules.specs.declared.SlotNumber.{SlotNumber}
+use Rattle.rules.specs.declared.Owner.{Owner}
 use Rattle.rules.specs.declared.Record.{Record}
 use Rattle.rules.specs.declared.Mode.{Mode}
+use Rattle.rules.specs.Owners.{ownedBy}
 use Rattle.rules.specs.Geometry.{meets}
 use Rattle.rules.specs.Compare.{compared, wanted}
 use Rattle.rules.specs.Pool.{Pool, rectangle, nodeAt, entriesAt, coverOf}
@@ -13,6 +15,10 @@ use Rattle.rules.specs.Sound.{inUse, isRoot}
 -- a record, by what its rectangle is to the window
 abbrev pub recordWanted : Mode → Rect → Record → Bool
 recordWanted mode window r = wanted mode (compared (r .rect) window)
+
+-- .. and one of an owner. Req 07: a batch "sees .. that owner's records only"
+abbrev pub ownWanted : Owner → Mode → Rect → Record → Bool
+ownWanted o mode window r = ownedBy o r && recordWanted mode window r
 
 -- the whole site: "Coordinates: -1,000,000,000 to 1,000,000,000."
 abbrev pub wholeSite : Rect

@@ -1,6 +1,6 @@
 -- `every`, one after the other, as a loop or a recursion goes through a list.
-use mathlib.Core.Path.{_≡_, ap, _∙_}
-use mathlib.Core.Bool.{Bool, true, false, _&&_}
+use mathlib.Core.Path.{_≡_, sym, ap, _∙_}
+use mathlib.Core.Bool.{Bool, true, false, _&&_, and-assoc, and-true}
 use mathlib.Core.List.{List}
 use Prim.Native.Nat.{ℕ, suc, _+_, _≤_, _<_}
 use native.Mathlib.Numerals.{add-one}
@@ -26,6 +26,20 @@ module _ {A : Type 0} (p : A → Bool) where
 
     pub every-goes : (d : A) → i < length xs → p (getD xs i d) ≡ true → every p (drop i xs) ≡ every p (drop (i + 1) xs)
     every-goes d h e = rw (every-more d h, e)
+
+  -- what was asked so far, with those from place i on
+  module _ (xs : List A) (i : ℕ) (so-far : Bool) where
+    pub asked-more : (d : A) → i < length xs → (good next : Bool) → good ≡ p (getD xs i d) → next ≡ (so-far && good)
+        → (so-far && every p (drop i xs)) ≡ every p xs
+        → (next && every p (drop (i + 1) xs)) ≡ every p xs
+    asked-more d h good next e f rest =
+        ap (λ (b : Bool). b && every p (drop (i + 1) xs)) (f ∙ ap (λ (b : Bool). so-far && b) e)
+        ∙ and-assoc so-far (p (getD xs i d)) (every p (drop (i + 1) xs))
+        ∙ ap (λ (b : Bool). so-far && b) (sym (every-more xs i d h))
+        ∙ rest
+
+    pub asked-end : length xs ≤ i → (so-far && every p (drop i xs)) ≡ every p xs → so-far ≡ every p xs
+    asked-end h rest = sym (and-true so-far) ∙ ap (λ (b : Bool). so-far && b) (sym (every-none xs i h)) ∙ rest
 
 -- the i-th slot
 pub slots-at : (p : Pool) (i : ℕ) → i < length (p .slots) → getD (slotNumbers p) i (slot 0) ≡ slot (i + 1)

@@ -4,4 +4,5 @@ pub mod Records
 pub mod Looks
 pub mod Marks
 pub mod Nodes
+pub mod Owners
 pub mod Tops

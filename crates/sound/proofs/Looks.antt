@@ -1,9 +1,9 @@
 -- One look at a node's entries. Where low is not above high, an entry lies in range where the cover of all does: so all rectangles are
 -- valid where each is upright and the cover is valid. In a leaf, such entries with pointers of 1 or more are the sound ones.
 use mathlib.Core.Path.{_≡_, refl, sym, ap, ap₂, subst, _∙_}
-use mathlib.Core.Bool.{Bool, true, false, cond, _&&_, and-assoc, and-true}
+use mathlib.Core.Bool.{Bool, true, false, cond, _&&_}
 use mathlib.Core.List.{List, [], _∷_, foldl, List·Memᴰ·head, List·Memᴰ·tail}
-use Prim.Native.Nat.{ℕ, _+_, _≤_, _<_}
+use Prim.Native.Nat.{ℕ, _≤_}
 use native.Mathlib.Omega.{arith}
 use lib.ListN.{length, getD, drop}
 use lib.IntN.{ℤ, pos, negsuc}
@@ -16,10 +16,11 @@ use Rattle.rules.specs.declared.Pointer.the-variants.{Number, Child}
 use Rattle.rules.specs.declared.Entry.{Entry}
 use Rattle.rules.specs.Lists.{every}
 use Rattle.rules.specs.Numbers.{inRange, goodNumber}
+use Rattle.rules.specs.Owners.{owner}
 use Rattle.rules.specs.Geometry.{valid, smaller, larger, cover, coverAll}
 use Rattle.rules.specs.Choose.{rectFrom}
 use Rattle.rules.specs.Pool.{Pool, number, noEntry, nodeAt, entriesAt, entryAt, entryFrom, rects, coverOf}
-use Rattle.rules.specs.Layout.{pointerWord, pointerPlace, wordAt, read}
+use Rattle.rules.specs.Layout.{entryPlace, pointerPlace, editionOf, pointerWord, wordAt, ownerAt, read}
 use Rattle.rules_laws.proofs.Bools.{and-both, both-and, same-test}
 use Rattle.rules_laws.proofs.Orders.{never-both, at-most-on}
 use Rattle.rules_laws.proofs.Everies.{every-is}
@@ -35,7 +36,6 @@ use Rattle.rules_laws.proofs.Compares.{HoldsRect}
 use Rattle.search_laws.proofs.Covers.{cover-of-holds}
 use Rattle.sound_laws.specs.Tree.{LeafEntry}
 use Rattle.sound.specs.Walked.{upright, plainEntry}
-use Rattle.sound.proofs.Everies.{every-more, every-none}
 
 -- ---- rectangles
 
@@ -131,19 +131,6 @@ module _ (p : Pool) (s : SlotNumber) (i : ℕ) where
   unfolding uprightEntry entryAt entryFrom
   upright-at r e a b good f g h = h ∙ ap₂ _&&_ (f ∙ ap upright (e ∙ rect-entry (entriesAt p s) i)) g
 
-module _ (es : List Entry) (i : ℕ) (plain : Bool) where
-  pub plain-step : (good next : Bool) → i < length es → good ≡ uprightEntry (getD es i noEntry) → next ≡ (plain && good)
-      → (plain && every uprightEntry (drop i es)) ≡ every uprightEntry es
-      → (next && every uprightEntry (drop (i + 1) es)) ≡ every uprightEntry es
-  plain-step good next h e f rest =
-      ap (λ (b : Bool). b && every uprightEntry (drop (i + 1) es)) (f ∙ ap (λ (b : Bool). plain && b) e)
-      ∙ and-assoc plain (uprightEntry (getD es i noEntry)) (every uprightEntry (drop (i + 1) es))
-      ∙ ap (λ (b : Bool). plain && b) (sym (every-more uprightEntry es i noEntry h))
-      ∙ rest
-
-  pub plain-end : length es ≤ i → (plain && every uprightEntry (drop i es)) ≡ every uprightEntry es → plain ≡ every uprightEntry es
-  plain-end h rest = sym (and-true plain) ∙ ap (λ (b : Bool). plain && b) (sym (every-none uprightEntry es i h)) ∙ rest
-
 -- ---- the cover, with the first rectangle taken twice
 
 cover-self : (r : Rect) → cover r r ≡ r
@@ -169,12 +156,12 @@ twice es h =
 
 one-number : (p : Pointer) → goodNumber (pointedNumber p) ≡ true → leZ (pos 1) (pointerWord p) ≡ true
 unfolding goodNumber pointerWord
-one-number (Number n) h = h
+one-number (Number n o) h = h
 one-number (Child s) h = never-both h refl
 
-number-one : (p : Pointer) (z : ℤ) → p ≡ Number (number z) → leZ (pos 1) (pointerWord p) ≡ true → goodNumber (pointedNumber p) ≡ true
+number-one : (p : Pointer) (z o : ℤ) → p ≡ Number (number z) (owner o) → leZ (pos 1) (pointerWord p) ≡ true → goodNumber (pointedNumber p) ≡ true
 unfolding goodNumber pointerWord
-number-one p z e = subst (λ (q : Pointer). leZ (pos 1) (pointerWord q) ≡ true → goodNumber (pointedNumber q) ≡ true) (sym e) (λ h. h)
+number-one p z o e = subst (λ (q : Pointer). leZ (pos 1) (pointerWord q) ≡ true → goodNumber (pointedNumber q) ≡ true) (sym e) (λ h. h)
 
 pub leaf-plain : (e : Entry) → LeafEntry e → plainEntry e ≡ true
 leaf-plain e h = is-plain e (h .rect) (one-number (e .pointer) (ap goodNumber (number-is e) ∙ h .number))
@@ -184,9 +171,10 @@ pub plain-leaf : {w : List ℤ} {s : SlotNumber} → InPool w s → nodeAt (read
 unfolding entryAt entryFrom
 plain-leaf {w} {s} k l e m h =
     let q = place-of m in
-    let z = wordAt w (pointerPlace s (q .0)) in
-    let number-of : e .pointer ≡ Number (number z) =
+    let z = wordAt w (pointerPlace (editionOf w) s (q .0)) in
+    let o = ownerAt (editionOf w) (drop (entryPlace (editionOf w) s (q .0)) w) in
+    let number-of : e .pointer ≡ Number (number z) (owner o) =
     ap (λ (f : Entry). f .pointer) (sym (q .2 noEntry)) ∙ slot-pointer k (q .0) (q .1)
-    ∙ pointer-number (nodeAt (read w) s .level) z (eq-eqb (nodeAt (read w) s .level) 1 l) in
+    ∙ pointer-number (nodeAt (read w) s .level) z o (eq-eqb (nodeAt (read w) s .level) 1 l) in
     let p = plain-is e h in
-    record { rect = p .0; number = ap goodNumber (sym (number-is e)) ∙ number-one (e .pointer) z number-of (p .1) }
+    record { rect = p .0; number = ap goodNumber (sym (number-is e)) ∙ number-one (e .pointer) z o number-of (p .1) }

@@ -18,7 +18,7 @@ use Rattle.rules.specs.Lists.{every}
 use Rattle.rules.specs.Pool.{Node, Pool, noEntry, nodeAt, entriesAt, entryAt, entryFrom, childOf, rects, coverOf, isLeaf}
 use Rattle.rules.specs.Numbers.{least, mostSlots}
 use Rattle.rules.specs.Geometry.{sameRect}
-use Rattle.rules.specs.Layout.{slotStart, nodeWords, read}
+use Rattle.rules.specs.Layout.{slotStart, editionOf, nodeWords, read}
 use Rattle.rules.specs.Choose.{rectFrom}
 use Rattle.rules.specs.Sound.{isSlot}
 use Rattle.rules_laws.proofs.Orders.{never-both}
@@ -156,7 +156,7 @@ module _ {w : List ℤ} {s : SlotNumber} (k : InPool w s) where
   other-level l n = refused (λ f u. n (f .level))
 
   pub met-now : (l : ℕ) (a : List ℕ) (r : Bool) → length a ≡ mostSlots → markOf a s ≡ 0 → nodeAt (read w) s .level ≡ l
-      → r ≡ stand (nodeWords (nodeAt (read w) s)) w (slotStart s) → Answers (Fitting w l s) (s ∷ []) a (set a (s .0 - 1) 1) r
+      → r ≡ stand (nodeWords (editionOf w) (nodeAt (read w) s)) w (slotStart (editionOf w) s) → Answers (Fitting w l s) (s ∷ []) a (set a (s .0 - 1) 1) r
   met-now l a r long none level tidy = record {
     yes = λ e. record { level = level; tidy = sym tidy ∙ e };
     unmet = λ e. one-unmet s (k .low) a none;

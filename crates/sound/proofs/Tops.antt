@@ -1,5 +1,6 @@
--- A pool is sound just where the head is, the walk from the root says yes, every slot that it did not mark is all zero, and the records are
--- counted. A marked slot is one of the tree, once; a slot in use is not all zero, so it is marked; and a slot of the tree is in use.
+-- A pool is sound just where the head is, the walk from the root says yes, every slot that it did not mark is all zero, the records are
+-- counted, and their owners are sound. A marked slot is one of the tree, once; a slot in use is not all zero, so it is marked; and a slot of
+-- the tree is in use.
 use mathlib.Core.Path.{_≡_, refl, sym, ap, subst, _∙_}
 use mathlib.Core.Bool.{Bool, true, false, not, _&&_, _||_}
 use mathlib.Core.List.{List}
@@ -13,8 +14,8 @@ use borrow.Author.Tests.{leb-true, le-leb, eqb-true, eq-eqb}
 use Rattle.rules.specs.declared.SlotNumber.{SlotNumber}
 use Rattle.rules.specs.Lists.{every}
 use Rattle.rules.specs.Pool.{Node, Pool, slot, freeNode, slotNumbers, nodeAt, stored}
-use Rattle.rules.specs.Layout.{slotStart, validLength, nodeWords, headWords, read}
-use Rattle.rules.specs.Sound.{isSlot, recordsSound, soundPool, nothingElse, sound}
+use Rattle.rules.specs.Layout.{slotStart, editionOf, validLength, nodeWords, headWords, read}
+use Rattle.rules.specs.Sound.{isSlot, recordsSound, soundPool, nothingElse, ownersSound, sound}
 use Rattle.rules_laws.proofs.Bools.{and-both, both-and, same-test}
 use Rattle.rules_laws.proofs.Orders.{never-both}
 use Rattle.rules_laws.proofs.Everies.{every-is}
@@ -62,30 +63,30 @@ parts-head w h low high root = rw (h, le-leb 1 (read w .height) low, le-leb (rea
 
 -- the words of the slot are all zero
 abbrev Zero : List ℤ → SlotNumber → Type 0
-Zero w s = stand (nodeWords freeNode) w (slotStart s) ≡ true
+Zero w s = stand (nodeWords (editionOf w) freeNode) w (slotStart (editionOf w) s) ≡ true
 
 met-is : (w : List ℤ) (seen : List ℕ) (s : SlotNumber) → metOrZero w seen s ≡ true → markOf seen s ≡ 0 → Zero w s
 unfolding metOrZero
 met-is w seen s h e =
-    or-is (not (eqb (markOf seen s) 0)) (stand (nodeWords freeNode) w (slotStart s)) .0 h (ap not (eq-eqb (markOf seen s) 0 e))
+    or-is (not (eqb (markOf seen s) 0)) (stand (nodeWords (editionOf w) freeNode) w (slotStart (editionOf w) s)) .0 h (ap not (eq-eqb (markOf seen s) 0 e))
 
 is-met : (w : List ℤ) (seen : List ℕ) (s : SlotNumber) → (markOf seen s ≡ 0 → Zero w s) → metOrZero w seen s ≡ true
 unfolding metOrZero
 is-met w seen s f = go (eqb (markOf seen s) 0) refl
   where
-    go : (b : Bool) → eqb (markOf seen s) 0 ≡ b → (not b || stand (nodeWords freeNode) w (slotStart s)) ≡ true
+    go : (b : Bool) → eqb (markOf seen s) 0 ≡ b → (not b || stand (nodeWords (editionOf w) freeNode) w (slotStart (editionOf w) s)) ≡ true
     go true e = f (eqb-true (markOf seen s) 0 e)
     go false e = refl
 
 -- .. of the i-th slot
 pub met-at : (w : List ℤ) (seen : List ℕ) (i : ℕ) → i < length (read w .slots) → (r : Bool)
-    → r ≡ (not (eqb (getD seen i 0) 0) || stand (nodeWords freeNode) w (slotStart (slot (i + 1))))
+    → r ≡ (not (eqb (getD seen i 0) 0) || stand (nodeWords (editionOf w) freeNode) w (slotStart (editionOf w) (slot (i + 1))))
     → metOrZero w seen (getD (slotNumbers (read w)) i (slot 0)) ≡ r
 unfolding metOrZero
 met-at w seen i h r e =
     let k : i + 1 - 1 ≡ i = omega arith in
     ap (metOrZero w seen) (slots-at (read w) i h)
-    ∙ ap (λ (j : ℕ). not (eqb (getD seen j 0) 0) || stand (nodeWords freeNode) w (slotStart (slot (i + 1)))) k
+    ∙ ap (λ (j : ℕ). not (eqb (getD seen j 0) 0) || stand (nodeWords (editionOf w) freeNode) w (slotStart (editionOf w) (slot (i + 1)))) k
     ∙ sym e
 
 records-are : (w : List ℤ) → (recordsSound (read w) ≡ true → read w .records ≡ length (stored (read w)))
@@ -152,19 +153,23 @@ module _ (w : List ℤ) (right : validLength w ≡ true) where
       counted = records-are w .0 records;
     }
 
-    yes-sound : recordsSound p ≡ true → sound w ≡ true
+    yes-sound : recordsSound p ≡ true → ownersSound p ≡ true → sound w ≡ true
     unfolding sound
-    yes-sound records =
-        both-and (nothingElse w) (soundPool p)
+    yes-sound records owners =
+        both-and (nothingElse w && soundPool p) (ownersSound p)
+        (both-and (nothingElse w) (soundPool p)
         (nothing-each w right .1 (head-parts w head .0, λ s k. tidy-at (pool-slot k) (decLe 1 (times s (treeSlots p)))))
-        (sound-is-whole p .1 (whole records))
+        (sound-is-whole p .1 (whole records))) owners
 
   -- ---- what is sound is said yes to
 
   module _ (h : sound w ≡ true) where
-    parts : (nothingElse w ≡ true) × (soundPool (read w) ≡ true)
+    parts : (nothingElse w ≡ true) × (soundPool (read w) ≡ true) × (ownersSound (read w) ≡ true)
     unfolding sound
-    parts = and-both (nothingElse w) (soundPool (read w)) h
+    parts =
+        let a = and-both (nothingElse w && soundPool (read w)) (ownersSound (read w)) h in
+        let b = and-both (nothingElse w) (soundPool (read w)) (a .0) in
+        (b .0, b .1, a .1)
 
     is-whole : Whole (read w)
     is-whole = sound-is-whole (read w) .0 (parts .1)
@@ -214,7 +219,10 @@ module _ (w : List ℤ) (right : validLength w ≡ true) where
       → every (metOrZero w after) (slotNumbers (read w)) ≡ false → false ≡ sound w
   rest-refused walk t e = unsound (λ h. never-both (sound-rest h (walk .marked t)) e)
 
-  pub records-last : {after : List ℕ} {r : Bool} → headSound w ≡ true → TopAnswer w after r → r ≡ true
-      → every (metOrZero w after) (slotNumbers (read w)) ≡ true → recordsSound (read w) ≡ sound w
-  records-last {after} head walk t rest =
-      same-test (recordsSound (read w)) (sound w) (yes-sound head (subst (TopAnswer w after) t walk) rest) sound-records
+  pub records-refused : recordsSound (read w) ≡ false → false ≡ sound w
+  records-refused e = unsound (λ h. never-both (sound-records h) e)
+
+  pub owners-last : {after : List ℕ} {r : Bool} → headSound w ≡ true → TopAnswer w after r → r ≡ true
+      → every (metOrZero w after) (slotNumbers (read w)) ≡ true → recordsSound (read w) ≡ true → ownersSound (read w) ≡ sound w
+  owners-last {after} head walk t rest records =
+      same-test (ownersSound (read w)) (sound w) (yes-sound head (subst (TopAnswer w after) t walk) rest records) (λ h. parts h .2)

@@ -10,11 +10,11 @@ use lib.Signed.{leZ}
 use Rattle.rules.specs.declared.Rect.{Rect}
 use Rattle.rules.specs.declared.SlotNumber.{SlotNumber}
 use Rattle.rules.specs.declared.Entry.{Entry}
-use Rattle.rules.specs.Lists.{those, joined}
-use Rattle.rules.specs.Numbers.{least}
+use Rattle.rules.specs.Lists.{those, every, joined}
+use Rattle.rules.specs.Numbers.{least, goodOwner}
 use Rattle.rules.specs.Geometry.{valid}
-use Rattle.rules.specs.Pool.{Node, Pool, freeNode, nodeAt, entriesAt, childOf, coverOf, isLeaf}
-use Rattle.rules.specs.Layout.{slotStart, pointerWord, nodeWords, headWords, read}
+use Rattle.rules.specs.Pool.{Node, Pool, freeNode, nodeAt, entriesAt, childOf, ownerOf, coverOf, isLeaf}
+use Rattle.rules.specs.Layout.{slotStart, editionOf, pointerWord, nodeWords, headWords, read}
 use Rattle.rules.specs.Sound.{isSlot}
 use Rattle.rules_laws.proofs.Places.{Among}
 use Rattle.pool.specs.Standing.{stand}
@@ -60,7 +60,7 @@ pub record Answers (Asked : Type 0) (ss : List SlotNumber) (seen after : List �
 
 -- a slot's words are those of the node that is read from them
 abbrev pub TidySlot : List ℤ → SlotNumber → Type 0
-TidySlot w s = stand (nodeWords (nodeAt (read w) s)) w (slotStart s) ≡ true
+TidySlot w s = stand (nodeWords (editionOf w) (nodeAt (read w) s)) w (slotStart (editionOf w) s) ≡ true
 
 -- .. and the node is of the level
 pub record Fitting (w : List ℤ) (l : ℕ) (s : SlotNumber) : Type 0 where
@@ -100,7 +100,7 @@ RootAnswer w l s seen after r = Answers (SoundRoot w l s) (slotsIn (read w) l s)
 
 -- "free slots are all zero": the slot was met, or its words are
 unfoldable pub metOrZero : List ℤ → List ℕ → SlotNumber → Bool
-metOrZero w seen s = not (eqb (markOf seen s) 0) || stand (nodeWords freeNode) w (slotStart s)
+metOrZero w seen s = not (eqb (markOf seen s) 0) || stand (nodeWords (editionOf w) freeNode) w (slotStart (editionOf w) s)
 
 -- the head's words are those of the pool that is read; the root is a slot, and the height one that a sound tree may have
 unfoldable pub headSound : List ℤ → Bool
@@ -112,3 +112,10 @@ recordCount n = cond (isLeaf n) (length (n .entries)) 0
 
 unfoldable pub recordCounts : List Node → ℕ
 recordCounts ns = length (joined (map (λ (n : Node). n .entries) (those isLeaf ns)))
+
+-- Req 07, "an owner, 1 or 2": each entry of a leaf has one; what a node above the leaves has is no record
+unfoldable pub ownedEntry : Entry → Bool
+ownedEntry e = goodOwner (ownerOf e)
+
+unfoldable pub ownedNode : Node → Bool
+ownedNode n = cond (isLeaf n) (every ownedEntry (n .entries)) true

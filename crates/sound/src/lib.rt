@@ -14,10 +14,12 @@ ghost use Rattle.rules.specs.Pool as P;
 ghost use Rattle.rules.specs.Sound as S;
 ghost use Rattle.layout_laws.specs.Slots.{InPool};
 ghost use Rattle.pool.specs.Standing.{stand};
-ghost use Rattle.sound.specs.Walked.{Answers, EntriesAnswer, Fitting, NodeAnswer, RootAnswer, headSound, metOrZero, plainEntry, recordCount, recordCounts, upright};
+ghost use Rattle.sound.specs.Walked.{Answers, EntriesAnswer, Fitting, NodeAnswer, RootAnswer, headSound, metOrZero, ownedNode, plainEntry, recordCount, recordCounts, upright};
+use rules::Edition;
 use rules::LEAST;
 use rules::MOST_HEIGHT;
 use rules::MOST_SLOTS;
+use rules::Owner;
 use rules::Rect;
 use rules::SlotNumber;
 
@@ -183,7 +185,7 @@ fn root_leaf_sound(pool: &[i32], s: SlotNumber, n: usize) -> bool
 // "free slots are all zero": the slot was met, or its words are.
 fn met_or_zero(pool: &[i32], s: SlotNumber, mark: u32) -> bool
     requires { ⌜ InPool (now pool) s ⌝ }
-    ensures { λ r. ⌜ r ≡ (not (eqb mark 0) || stand (L.nodeWords P.freeNode) (now (pool .entry)) (L.slotStart s)) ⌝ }
+    ensures { λ r. ⌜ r ≡ (not (eqb mark 0) || stand (L.nodeWords (L.editionOf (now (pool .entry))) P.freeNode) (now (pool .entry)) (L.slotStart (L.editionOf (now (pool .entry))) s)) ⌝ }
 {
     if mark != 0 {
         return true;
@@ -207,7 +209,7 @@ fn rest_zero(pool: &[i32], seen: &[u32; MOST_SLOTS]) -> bool
     true
 }
 
-// ---- the head and the leaves
+// ---- the records
 
 // A leaf's entries are records.
 fn records_in(pool: &[i32], s: SlotNumber) -> usize
@@ -243,6 +245,56 @@ fn records_sound(pool: &[i32]) -> bool
     leaf_records(pool) == pool::records_of(pool)
 }
 
+// ---- the owners
+
+// Req 07: "Each leaf entry gains an owner, 1 or 2". A slot that is no leaf has no record, and so none whose owner is asked. The loop over
+// the entries has no branch, as that of `look`.
+fn leaf_owners_sound(pool: &[i32], s: SlotNumber) -> bool
+    requires { ⌜ InPool (now pool) s ⌝ }
+    ensures { λ r. ⌜ r ≡ ownedNode (P.nodeAt (L.read (now (pool .entry))) s) ⌝ }
+{
+    if pool::level_of(pool, s) != 1 {
+        return true;
+    }
+    let n = pool::count_of(pool, s);
+    let mut all = true;
+    let mut i: usize = 0;
+    while i < n {
+        let owner = pool::owner_at(pool, pool::spot(pool, s, i));
+        all = geometry::and(all, pool::good_owner(Owner(owner)));
+        i += 1;
+    }
+    all
+}
+
+fn leaves_owners_sound(pool: &[i32]) -> bool
+    requires { ⌜ L.validLength (now pool) ≡ true ⌝ }
+    ensures { λ r. ⌜ r ≡ every ownedNode (L.read (now (pool .entry)) .slots) ⌝ }
+{
+    let n = pool::slot_count(pool);
+    let mut s: usize = 1;
+    while s <= n {
+        if !leaf_owners_sound(pool, SlotNumber(s)) {
+            return false;
+        }
+        s += 1;
+    }
+    true
+}
+
+// "anything else and the pool isn't sound". An entry of edition 1 has no word for an owner: there is nothing to look at.
+fn owners_sound(pool: &[i32]) -> bool
+    requires { ⌜ L.validLength (now pool) ≡ true ⌝ }
+    ensures { λ r. ⌜ r ≡ S.ownersSound (L.read (now (pool .entry))) ⌝ }
+{
+    match pool::edition_of(pool) {
+        Edition::One => true,
+        Edition::Two => leaves_owners_sound(pool),
+    }
+}
+
+// ---- all of it
+
 // "height is 1 or more". A sound tree is at most 8 high, so a higher one is refused before the walk, which then goes no deeper than that,
 // whatever the words are.
 fn height_sound(height: usize) -> bool
@@ -262,7 +314,7 @@ fn head_sound(pool: &[i32]) -> bool
     geometry::and(geometry::and(words, height), root)
 }
 
-// "A pool is sound when ..": the head, the tree from the root down, the slots outside it, and the records.
+// "A pool is sound when ..": the head, the tree from the root down, the slots outside it, the records, and whose they are.
 pub fn sound(pool: &[i32]) -> bool
     requires { ⌜ L.validLength (now pool) ≡ true ⌝ }
     ensures { λ r. ⌜ r ≡ S.sound (now (pool .entry)) ⌝ }
@@ -277,5 +329,8 @@ pub fn sound(pool: &[i32]) -> bool
     if !rest_zero(pool, &seen) {
         return false;
     }
-    records_sound(pool)
+    if !records_sound(pool) {
+        return false;
+    }
+    owners_sound(pool)
 }

@@ -10,12 +10,14 @@ use lib.IntN.{pos}
 use Rattle.rules.specs.declared.Rect.{Rect}
 use Rattle.rules.specs.declared.RecordNumber.{RecordNumber}
 use Rattle.rules.specs.declared.SlotNumber.{SlotNumber}
+use Rattle.rules.specs.declared.Owner.{Owner}
 use Rattle.rules.specs.declared.Pointer.{Pointer}
 use Rattle.rules.specs.declared.Pointer.the-variants.{Number, Child}
 use Rattle.rules.specs.declared.Entry.{Entry}
 use Rattle.rules.specs.Numbers.{goodNumber}
+use Rattle.rules.specs.Owners.{nobody}
 use Rattle.rules.specs.Geometry.{valid, cover, coverAll}
-use Rattle.rules.specs.Pool.{Pool, slot, number, entriesAt, childOf, numberOf, recordOf, leafEntry, rects, coverOf, entryFor}
+use Rattle.rules.specs.Pool.{Pool, slot, number, entriesAt, childOf, numberOf, ownerOf, recordOf, leafEntry, rects, coverOf, entryFor}
 use Rattle.rules_laws.proofs.Orders.{never-both}
 use Rattle.rules_laws.proofs.Places.{Among}
 use Rattle.rules_laws.proofs.Measures.{cover-valid}
@@ -50,14 +52,17 @@ tree-valid p (suc (suc l)) s d e m =
 
 -- a leaf entry is that of its record
 pub leaf-entry-of : (e : Entry) → LeafEntry e → leafEntry (recordOf e) ≡ e
-unfolding leafEntry recordOf numberOf goodNumber
+unfolding leafEntry recordOf numberOf ownerOf goodNumber
 leaf-entry-of e h = λ i. record { rect = e .rect; pointer = kind (e .pointer) (h .number) i }
   where
     named : Pointer → RecordNumber
-    named x = elim x [ Number n ↦ n | Child s ↦ number (pos 0) ]
+    named x = elim x [ Number n o ↦ n | Child s ↦ number (pos 0) ]
 
-    kind : (x : Pointer) → goodNumber (named x) ≡ true → Number (named x) ≡ x
-    kind (Number n) g = refl
+    whose : Pointer → Owner
+    whose x = elim x [ Number n o ↦ o | Child s ↦ nobody ]
+
+    kind : (x : Pointer) → goodNumber (named x) ≡ true → Number (named x) (whose x) ≡ x
+    kind (Number n o) g = refl
     kind (Child s) g = never-both g refl
 
 -- an inner entry is the one that a parent has for its child
@@ -67,8 +72,8 @@ inner-entry-for p l e h =
     λ i. record { rect = sym (h .tight) i; pointer = kind (e .pointer) (tree-node p l (childOf e) (h .child) .slot .low) i }
   where
     led : Pointer → SlotNumber
-    led x = elim x [ Number n ↦ slot 0 | Child s ↦ s ]
+    led x = elim x [ Number n o ↦ slot 0 | Child s ↦ s ]
 
     kind : (x : Pointer) → 1 ≤ led x .0 → Child (led x) ≡ x
-    kind (Number n) g = absurd (omega arith)
+    kind (Number n o) g = absurd (omega arith)
     kind (Child s) g = refl

@@ -1,13 +1,39 @@
 //! Small helpers for the tests.
 #![allow(dead_code)]
 
-use second::{blank, call, Answer, Found, Rect, Request};
+use second::{blank, blank_as, call, call_as, Answer, Found, Rect, Request};
 
 /// A blank pool of so many slots.
 pub fn blank_pool(slots: usize) -> Vec<i32> {
     let mut pool = vec![0; 8 + 42 * slots];
     assert_eq!(blank(&mut pool), 0);
     pool
+}
+
+/// A blank pool of so many slots, of edition 2.
+pub fn shared_blank(slots: usize) -> Vec<i32> {
+    let mut pool = vec![-3; 8 + 50 * slots];
+    assert_eq!(blank_as(&mut pool, 2, 0), 0);
+    pool
+}
+
+/// Does a batch of an owner with a found list of so many places; the call has to be accepted.
+pub fn batch_as(
+    pool: &mut [i32],
+    owner: i32,
+    requests: &[Request],
+    places: usize,
+) -> (Vec<Answer>, Vec<Found>) {
+    let (mut work, mut answers) = (vec![-3; pool.len()], vec![Answer::default(); requests.len()]);
+    let mut found = vec![Found { number: -7, ..Found::default() }; places];
+    assert_eq!(call_as(pool, &mut work, requests, &mut answers, &mut found, owner), 0);
+    assert_eq!(work, pool);
+    (answers, found)
+}
+
+/// Does one request of an owner and gives its answer's number.
+pub fn number_as(pool: &mut [i32], owner: i32, request: Request) -> i32 {
+    batch_as(pool, owner, &[request], 64).0[0].number
 }
 
 /// Does a batch with a found list of 64; the call has to be accepted.

@@ -52,11 +52,13 @@ use Rattle.walk_laws.proofs.Slices.{ref, counted, Own, OwnShr, Opened, opens, c
 use Rattle.walk_laws.proofs.Values.{told, spelt, has, has-usize, takes}
 use Rattle.walk_laws.proofs.Calls.{promised, calls, one-fact, more-facts, says-all}
 use denote.Struct.Laws as LL
-use Rattle.rules.specs.declared.Record.{Record}
-use Rattle.rules.proofs.Record as F
-use Rattle.rules.proofs.Record.Laws as F′
+use Rattle.rules.specs.declared.FoundRecord.{FoundRecord}
+use Rattle.rules.proofs.FoundRecord as F
+use Rattle.rules.proofs.FoundRecord.Laws as F′
 use lib.Seq.{sets}
-use Rattle.found_items.specs.Items.{itemAt, itemsFrom, spotAt, Pointing}
+use Rattle.rules.specs.Layout.{rectSize}
+use Rattle.found_items.specs.Items.{shownAt, shownFrom, spotAt, Pointing}
+use Rattle.found_items.proofs.Words.{pointing-rect}
 use Rattle.batch.proofs.Carries.{Upto, ≺, wf, start, next, less, stored, stored-long, stored-none, stored-more}
 use Rattle.found_items.proofs.item as item
 use Rattle.found_items.proofs.item.Symbol as item-def
@@ -90,7 +92,7 @@ stayed = (
 abbrev ItemC : {M : Type 1} (𝓤 : URA M) (H : Heap 𝓤) (A : Atoms 𝓤) (mem : Memory → SProp 𝓤) (run : Routine → Fun 𝓤) → Contract 𝓤
 ItemC 𝓤 H A mem run = promised 𝓤 H A item.ended (item.clauses 𝓤 H A mem run)
 
-abbrev f-val : Record → Val
+abbrev f-val : FoundRecord → Val
 f-val = LL.val F.the-type F′.the-laws
 
 abbrev word : Ty
@@ -107,7 +109,7 @@ ty-f = sliceTy (tyRef (named 2) mut (pointee (F.the-row .written)))
 
 module _ {M : Type 1} (𝓤 : URA M) (H : Heap 𝓤) (A : Atoms 𝓤) (W : Given 𝓤 H A) (mem : Memory → SProp 𝓤) (run : Routine → Fun 𝓤)
     (κp κw κf : Lft) (πp πw πf : Share)
-    (bp op : ℕ) (γp : GName) (ps : List ℤ) (bw ow : ℕ) (γw : GName) (ws : List ℤ) (n : ℕ) (bf of : ℕ) (γf : GName) (fs : List Record) (at : ℕ)
+    (bp op : ℕ) (γp : GName) (ps : List ℤ) (bw ow : ℕ) (γw : GName) (ws : List ℤ) (n : ℕ) (bf of : ℕ) (γf : GName) (fs : List FoundRecord) (at : ℕ)
     (room-p : Room i32 (length ps)) (room-w : Room i32 (length ws)) (n-fits : n < 2 ^ 64) (room-f : Room F.the-row (length fs))
     (at-fits : at < 2 ^ 64) (pre : (2 * n ≤ length ws) × Pointing ps ws 0 n × (at + n ≤ length fs)) where
   abbrev sp : Val
@@ -120,7 +122,7 @@ module _ {M : Type 1} (𝓤 : URA M) (H : Heap 𝓤) (A : Atoms 𝓤) (W : Given
   sf = sliceVal (bf, of) (length fs)
 
   -- the arguments, and their machine values
-  abbrev passed : (RefT (List ℤ)) × ((RefT (List ℤ)) × (ℕ × ((RefT (List Record)) × (ℕ × (Unit {0})))))
+  abbrev passed : (RefT (List ℤ)) × ((RefT (List ℤ)) × (ℕ × ((RefT (List FoundRecord)) × (ℕ × (Unit {0})))))
   passed = (ref bp op γp ps, (ref bw ow γw ws, (n, (ref bf of γf fs, (at, tt)))))
 
   abbrev vals : (List Val) × ((List Val) × ((List Val) × ((List Val) × ((List Val) × (Unit {0})))))
@@ -140,18 +142,18 @@ module _ {M : Type 1} (𝓤 : URA M) (H : Heap 𝓤) (A : Atoms 𝓤) (W : Given
   abbrev the-work : List (Item 𝓤)
   the-work = ‵ (OwnShr i32 (named 1) κw bw ow γw ws) ∷ ‵ (flft κw πw) ∷ []
 
-  abbrev the-found : List Record → List (Item 𝓤)
+  abbrev the-found : List FoundRecord → List (Item 𝓤)
   the-found xs = ‵ (Own F.the-row (named 2) κf bf of γf xs) ∷ ‵ (flft κf πf) ∷ []
 
-  abbrev opened-found : List Record → List (Item 𝓤)
+  abbrev opened-found : List FoundRecord → List (Item 𝓤)
   opened-found xs = Opened F.the-row κf πf bf of γf fs xs
 
   -- all of them, whatever they hold now
-  abbrev lists : List Record → List (Item 𝓤)
+  abbrev lists : List FoundRecord → List (Item 𝓤)
   lists nf = the-pool ++ the-work ++ the-found nf
 
   -- the lists at the end are what is had at exit
-  exits : (nf : List Record) → length nf ≡ length fs → nf ≡ sets fs at (itemsFrom ps ws 0 n) → ent 𝓤 (⋆ 𝓤 H A (lists nf)) (Post vunit)
+  exits : (nf : List FoundRecord) → length nf ≡ length fs → nf ≡ sets fs at (shownFrom ps ws 0 n) → ent 𝓤 (⋆ 𝓤 H A (lists nf)) (Post vunit)
   exits nf lf kept =
       qed W (lists nf) ∵
       suffices ! _ (ends-at 𝓤 H A carry′.ended stayed (carry′.clauses 𝓤 H A mem run) W bound vunit tt (tt, (tt, (tt, (nf, (tt, tt)))))
@@ -163,11 +165,11 @@ module _ {M : Type 1} (𝓤 : URA M) (H : Heap 𝓤) (A : Atoms 𝓤) (W : Given
       has-usize ! at at-fits $ fjoin ! $ move ! (3 ∷ 0 ∷ []) $ fjoin ! $ has-usize ! n n-fits $ fjoin ! $ move ! (2 ∷ 0 ∷ []) $ fjoin ! $
       move ! (1 ∷ 0 ∷ []) $ fjoin ! $ feqI ! (List Val) (vunit ∷ []) (vunit ∷ []) refl $ move ! (1 ∷ 0 ∷ []) $ done !
 
-  f-typed : (x : Record) → Is F.the-row x (f-val x ∷ []) → Typed (F.the-row .mir) (f-val x ∷ [])
+  f-typed : (x : FoundRecord) → Is F.the-row x (f-val x ∷ []) → Typed (F.the-row .mir) (f-val x ∷ [])
   f-typed x is = LL.lawful F.the-type F′.the-laws 𝓤 H A W .typed x _ is
 
   -- the found list once k records are stored
-  abbrev now-at : Upto n → List Record
+  abbrev now-at : Upto n → List FoundRecord
   now-at s = stored ps ws fs at (s .k)
 
   module _ (𝓣 : Tables 𝓤 H)
@@ -218,7 +220,7 @@ module _ {M : Type 1} (𝓤 : URA M) (H : Heap 𝓤) (A : Atoms 𝓤) (W : Given
           nothing ! $ has-usize ! (s .k) k-fits $ fjoin ! $ move ! (2 ∷ 0 ∷ []) $ fjoin ! $ move ! (1 ∷ 0 ∷ []) $ fjoin ! $ done !)
           (and-then ! (held ! 9 refl) (and-then ! (held ! 11 refl) (and-then ! (held ! 19 refl) (no-more !)))) (λ v r zs.
           move ! (4 ∷ []) $
-          heard ! (r ≡ itemAt ps ws (s .k)) (λ e.
+          heard ! (r ≡ shownAt ps ws (s .k)) (λ e.
           move ! (3 ∷ []) $ fsplit ! $ drop ! $ fsplit ! $ drop ! $ fsplit ! $ drop ! $ drop ! $ move ! (2 ∷ []) $
           peeks ! F.the-row (Is F.the-row) (shows 𝓤 H A F.the-row) r (v ∷ []) (λ is.
           land ! (from ! (stop !)) (init ! 23 refl (LL.lawful F.the-type F′.the-laws 𝓤 H A W .typed r _ is .0)) $
@@ -237,8 +239,8 @@ module _ {M : Type 1} (𝓤 : URA M) (H : Heap 𝓤) (A : Atoms 𝓤) (W : Given
           has ! F.the-type F′.the-plain r _ (spelt F.the-type F′.the-laws r v is) $
           move ! (1 ∷ 0 ∷ 2 ∷ []) $
           elem-put ! F.the-row fullShare (now-at s) (at + s .k) r (f-val r ∷ []) bf of in-f $
-          rewrite ! 0 (λ (x : Record). ‵ (row F.the-row fullShare (set (now-at s) (at + s .k) x) bf of)) e refl $
-          rewrite ! 0 (λ (l : List Record). ‵ (row F.the-row fullShare l bf of)) (stored-more ps ws fs at (s .k)) refl $
+          rewrite ! 0 (λ (x : FoundRecord). ‵ (row F.the-row fullShare (set (now-at s) (at + s .k) x) bf of)) e refl $
+          rewrite ! 0 (λ (l : List FoundRecord). ‵ (row F.the-row fullShare l bf of)) (stored-more ps ws fs at (s .k)) refl $
           -- k += 1;
           puts-last ! (bin ! (held ! 20 refl) (lit ! tt) (record { fits = next-fits })) (store ! 20 refl (tt, record { fits = next-fits })) $
           rewrite ! 20 (λ (m : ℕ). cell word l₆ (vint w64 m)) (add-one (s .k)) refl $
@@ -254,8 +256,8 @@ module _ {M : Type 1} (𝓤 : URA M) (H : Heap 𝓤) (A : Atoms 𝓤) (W : Given
           in-w : 2 * s .k + 2 ≤ length ws
           in-w = omega (arith, lt, pre .0)
 
-          in-p : spotAt ws (s .k) + 4 ≤ length ps
-          in-p = pre .1 .inside (s .k) (omega arith) (omega (arith, lt))
+          in-p : spotAt ws (s .k) + rectSize ≤ length ps
+          in-p = pointing-rect (pre .1) (s .k) (omega arith) (omega (arith, lt))
 
           sum-fits : at + s .k < 2 ^ 64
           sum-fits = omega (arith, lt, pre .2, room-f .0)
@@ -299,7 +301,7 @@ module _ {M : Type 1} (𝓤 : URA M) (H : Heap 𝓤) (A : Atoms 𝓤) (W : Given
       opened =
           move ! (4 ∷ 5 ∷ []) $
           opens ! tt F.the-row (named 2) bf of γf fs $
-          rewrite ! 0 (λ (l : List Record). ‵ (row F.the-row fullShare l bf of)) (stored-none ps ws fs at) refl $
+          rewrite ! 0 (λ (l : List FoundRecord). ‵ (row F.the-row fullShare l bf of)) (stored-none ps ws fs at) refl $
           move ! (4 ∷ 5 ∷ 6 ∷ 7 ∷ []) $
           looped (start n)
 

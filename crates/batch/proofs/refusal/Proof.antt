@@ -1,9 +1,10 @@
 use mathlib.Core.Path.{sym, _∙_}
+use mir.Facts.{toZ-ofZ}
 use lib.Dec.{eqb}
 use lib.ListN.{length}
 use Rattle.rules.specs.Layout.{validLength}
 use Rattle.rules_laws.proofs.Bools.{not-true, not-false}
-use Rattle.batch.proofs.Refusals.{bad-lists, bad-length, right-first, not-sound, no-request, none-refuses}
+use Rattle.batch.proofs.Refusals.{bad-lists, bad-owner, bad-length, right-first, not-sound, no-request, none-refuses}
 use borrow.Author.Needs.{needs}
 use Rattle.batch.proofs.refusal.Statement.{statement}
 use Rattle.batch.proofs.refusal.Tie as tie
@@ -11,61 +12,91 @@ use Rattle.batch.proofs.refusal.Tie as tie
 -- the lists do not fit
 returns : tie.Need-returns
 returns c =
-    let lists = c .before .before in
+    let lengths = c .before in
+    let known = lengths .before in
+    let lists = known .before in
     let given = lists .before .args in
-    sym (bad-lists (given .pool .now) (given .workspace) (given .requests) (given .answers) (given .asked)
+    sym (bad-lists (given .pool .now) (given .owner) (given .workspace) (given .requests) (given .answers) (given .asked)
     (sym (lists .lists-fit .ensures) ∙ c .if1 .taken))
 
--- the lengths do not
+-- the owner is none
 returns-2 : tie.Need-returns-2
 returns-2 c =
-    let lengths = c .before .before in
-    let lists = lengths .before in
+    let one = c .before in
+    let lengths = one .before in
+    let known = lengths .before in
+    let lists = known .before in
     let given = lists .before .args in
-    sym (bad-length (given .pool .now) (given .workspace) (given .requests) (given .answers) (given .asked)
-    (sym (lists .lists-fit .ensures) ∙ c .before .if1 .left) (sym (lengths .lengths-fit .ensures) ∙ c .if2 .taken))
+    sym (bad-owner (given .pool .now) (given .owner) (given .workspace) (given .requests) (given .answers) (given .asked)
+    (sym (lists .lists-fit .ensures) ∙ one .if1 .left)
+    (sym (rw (toZ-ofZ (lists .before .fits .owner)) at (known .good-owner .ensures)) ∙ not-true _ (c .if2 .taken)))
+
+-- the lengths do not fit
+returns-3 : tie.Need-returns-3
+returns-3 c =
+    let two = c .before in
+    let one = two .before in
+    let lengths = one .before in
+    let known = lengths .before in
+    let lists = known .before in
+    let given = lists .before .args in
+    sym (bad-length (given .pool .now) (given .owner) (given .workspace) (given .requests) (given .answers) (given .asked)
+    (sym (lists .lists-fit .ensures) ∙ one .if1 .left)
+    (sym (rw (toZ-ofZ (lists .before .fits .owner)) at (known .good-owner .ensures)) ∙ not-false _ (two .if2 .left)) (sym (lengths .lengths-fit .ensures) ∙ c .if3 .taken))
 
 sound-requires : tie.Need-sound-requires
 sound-requires c κs =
-    let start = c .before .before .before .before in
-    let lengths-fit = c .before .before .lengths-fit in
-    right-first (validLength (start .args .pool .now)) (eqb (start .args .workspace) (length (start .args .pool .now)))
-    (sym (lengths-fit .ensures) ∙ c .if2 .left)
+    let lengths = c .before .before .before in
+    let given = lengths .before .before .before .args in
+    right-first (validLength (given .pool .now)) (eqb (given .workspace) (length (given .pool .now)))
+    (sym (lengths .lengths-fit .ensures) ∙ c .if3 .left)
 
 -- the pool is not sound
-returns-3 : tie.Need-returns-3
-returns-3 c =
-    let fit = c .before .before in
-    let lengths = fit .before .before in
-    let lists = lengths .before in
-    let given = lists .before .args in
-    sym (not-sound (given .pool .now) (given .workspace) (given .requests) (given .answers) (given .asked)
-    (sym (lists .lists-fit .ensures) ∙ fit .before .if1 .left) (sym (lengths .lengths-fit .ensures) ∙ fit .if2 .left)
-    (sym (c .before .sound .ensures) ∙ not-true _ (c .if3 .taken)))
-
--- something that is asked is no request
 returns-4 : tie.Need-returns-4
 returns-4 c =
-    let is-sound = c .before in
-    let fit = is-sound .before .before in
-    let lengths = fit .before .before in
-    let lists = lengths .before in
+    let three = c .before .before in
+    let two = three .before in
+    let one = two .before in
+    let lengths = one .before in
+    let known = lengths .before in
+    let lists = known .before in
     let given = lists .before .args in
-    sym (no-request (given .pool .now) (given .workspace) (given .requests) (given .answers) (given .asked)
-    (sym (lists .lists-fit .ensures) ∙ fit .before .if1 .left) (sym (lengths .lengths-fit .ensures) ∙ fit .if2 .left)
-    (sym (is-sound .before .sound .ensures) ∙ not-false _ (is-sound .if3 .left)) (not-true _ (c .if4 .taken)))
+    sym (not-sound (given .pool .now) (given .owner) (given .workspace) (given .requests) (given .answers) (given .asked)
+    (sym (lists .lists-fit .ensures) ∙ one .if1 .left)
+    (sym (rw (toZ-ofZ (lists .before .fits .owner)) at (known .good-owner .ensures)) ∙ not-false _ (two .if2 .left)) (sym (lengths .lengths-fit .ensures) ∙ three .if3 .left)
+    (sym (c .before .sound .ensures) ∙ not-true _ (c .if4 .taken)))
 
--- nothing refuses
+-- something that is asked is no request
 returns-5 : tie.Need-returns-5
 returns-5 c =
-    let is-sound = c .before in
-    let fit = is-sound .before .before in
-    let lengths = fit .before .before in
-    let lists = lengths .before in
+    let four = c .before in
+    let three = four .before .before in
+    let two = three .before in
+    let one = two .before in
+    let lengths = one .before in
+    let known = lengths .before in
+    let lists = known .before in
     let given = lists .before .args in
-    sym (none-refuses (given .pool .now) (given .workspace) (given .requests) (given .answers) (given .asked)
-    (sym (lists .lists-fit .ensures) ∙ fit .before .if1 .left) (sym (lengths .lengths-fit .ensures) ∙ fit .if2 .left)
-    (sym (is-sound .before .sound .ensures) ∙ not-false _ (is-sound .if3 .left)) (not-false _ (c .if4 .left)))
+    sym (no-request (given .pool .now) (given .owner) (given .workspace) (given .requests) (given .answers) (given .asked)
+    (sym (lists .lists-fit .ensures) ∙ one .if1 .left)
+    (sym (rw (toZ-ofZ (lists .before .fits .owner)) at (known .good-owner .ensures)) ∙ not-false _ (two .if2 .left)) (sym (lengths .lengths-fit .ensures) ∙ three .if3 .left)
+    (sym (four .before .sound .ensures) ∙ not-false _ (four .if4 .left)) (not-true _ (c .if5 .taken)))
+
+-- nothing refuses
+returns-6 : tie.Need-returns-6
+returns-6 c =
+    let four = c .before in
+    let three = four .before .before in
+    let two = three .before in
+    let one = two .before in
+    let lengths = one .before in
+    let known = lengths .before in
+    let lists = known .before in
+    let given = lists .before .args in
+    sym (none-refuses (given .pool .now) (given .owner) (given .workspace) (given .requests) (given .answers) (given .asked)
+    (sym (lists .lists-fit .ensures) ∙ one .if1 .left)
+    (sym (rw (toZ-ofZ (lists .before .fits .owner)) at (known .good-owner .ensures)) ∙ not-false _ (two .if2 .left)) (sym (lengths .lengths-fit .ensures) ∙ three .if3 .left)
+    (sym (four .before .sound .ensures) ∙ not-false _ (four .if4 .left)) (not-false _ (c .if5 .left)))
 
 pub refusal-spec : {M : Type 1} → statement M
 refusal-spec =
@@ -73,9 +104,11 @@ refusal-spec =
     (tie.spec
     (λ c κs. search needs)
     (λ c κs. search needs)
+    (λ c κs. search needs)
     returns
     returns-2
-    sound-requires
     returns-3
+    sound-requires
     returns-4
-    returns-5)
+    returns-5
+    returns-6)

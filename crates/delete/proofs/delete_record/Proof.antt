@@ -7,7 +7,7 @@ use lib.IntN.{ℤ}
 use Rattle.rules.specs.Pool.{putRecords}
 use Rattle.rules.specs.Layout.{read}
 use Rattle.rules_laws.proofs.Bools.{not-true}
-use Rattle.delete.proofs.Deleted.{ToDelete, CountedOff, counted-off, some-record, records-small, down-way, down-known, back-waits}
+use Rattle.delete.proofs.Deleted.{ToDelete, CountedOff, counted-off, some-record, records-small, down-way, down-known, back-waits, back-owned}
 use Rattle.delete.proofs.Deleted.{leaf-in, way-keeps, kept-made}
 use Rattle.delete.proofs.Deleted.{asides-few, back-high, back-known, deleted-refused, made-fit, made-stands, made-known, deleted-made}
 use borrow.Author.Needs.{needs}
@@ -15,7 +15,7 @@ use Rattle.delete.proofs.delete_record.Statement.{statement}
 use Rattle.delete.proofs.delete_record.Tie as tie
 
 asked : (s : tie.Start) → ToDelete (s .args .pool .now) (s .args .r) (s .args .way)
-asked s = record { fit = s .pre .0; whole = s .pre .1 .0; found = s .pre .1 .1 .1 .0; shows = s .pre .1 .1 .1 .1 }
+asked s = record { fit = s .pre .0; whole = s .pre .1 .0 .0; owned = s .pre .1 .0 .1; found = s .pre .1 .1 .1 .0; shows = s .pre .1 .1 .1 .1 }
 
 off : (s : tie.Start) (n : ℕ) → n ≡ read (s .args .pool .now) .records → (h : ℕ) → h ≡ read (s .args .pool .now) .height → (w : List ℤ)
     → read w ≡ putRecords (read (s .args .pool .now)) (n - 1) → CountedOff (s .args .pool .now) h w
@@ -94,7 +94,7 @@ reinsert-requires c κs =
     let d = c .before .before .condense .ensures in (
       d .pool .fit,
       (
-        back-waits (asked (at-place)) u d,
+        (back-waits (asked (at-place)) u d, back-owned (asked (at-place)) u d),
         (back-known (asked (at-place)) u d, (d .roomy, (asides-few (asked (at-place)) u d, back-high (asked (at-place)) u d))),
       ),
     )

@@ -1,7 +1,7 @@
 -- `delete::reinsert` meets its contract: each turn puts the next entry back; what is left gives what the whole gives.
 use borrow.Author.Needs.{needs}
 use native.Mathlib.Omega.{arith}
-use Rattle.delete.proofs.Backs.{Returning, next-upright, next-level, next-fits, returning-next, returning-refused, returning-last, returning-first}
+use Rattle.delete.proofs.Backs.{Returning, next-upright, next-level, next-goes, returning-next, returning-refused, returning-last, returning-first}
 use Rattle.delete.proofs.reinsert.Statement.{statement}
 use Rattle.delete.proofs.reinsert.Tie as tie
 
@@ -16,7 +16,7 @@ loop-holds c =
     let start = c .before .before .before in
     returning-first (start .args .pool .now) (start .args .asides .entries) (start .args .asides .levels) (start .args .asides .count)
     (start .args .asides .free) (start .pre .1 .1 .1 .1 .0) (start .pre .1 .1 .1 .0 .entries) (start .pre .1 .1 .1 .0 .levels)
-    (start .pre .0) (start .pre .1 .1 .0) (start .pre .1 .0) (start .pre .1 .1 .1 .1 .1)
+    (start .pre .0) (start .pre .1 .1 .0) (start .pre .1 .0 .0) (start .pre .1 .0 .1) (start .pre .1 .1 .1 .1 .1)
 
 sub-k : tie.Need-sub-k Inv-loop μ-loop
 sub-k c = omega (arith, c .loop-test .taken, c .before .loop .inv .few, c .before .loop .inv .most)
@@ -35,7 +35,7 @@ array-copy-out-insert-at c = omega (arith, c .before .loop-test .taken, c .befor
 
 insert-at-requires : tie.Need-insert-at-requires Inv-loop μ-loop
 insert-at-requires c κs = let t = c .before .before .before .loop .inv in let h = c .before .before .loop-test .taken in
-    (t .fit, (next-upright t h, ((next-level t h, omega (arith, t .high, t .few, h)), (next-fits t h _, t .known))))
+    (t .fit, (next-upright t h, ((next-level t h, omega (arith, t .high, t .few, h)), (next-goes t h _, t .known))))
 
 returns : tie.Need-returns Inv-loop μ-loop
 returns c =

@@ -37,7 +37,7 @@ put-entry-of-requires c κs =
     let g = start .pre .1 in
     let stored = child-stored (nodeAt (read (start .args .pool .now)) (start .args .s) .level) (start .args .t) (g .inner)
     (omega (arith, g .slot .high, few-read f)) in
-    (f, (in-pool f (g .parent .slot), (g .there, (stored .small, stored .kind))))
+    (f, (in-pool f (g .parent .slot), (g .there, (stored .small, stored .kind _))))
 
 returns-2 : tie.Need-returns-2
 returns-2 c =

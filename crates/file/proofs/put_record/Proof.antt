@@ -1,151 +1,68 @@
-use mathlib.Core.Path.{_∙_}
-use mathlib.Core.List.{_++_}
+use mathlib.Core.Path.{ap₂, _∙_}
+use mathlib.Core.List.{_++_, map}
+use Prim.Native.Nat.{ℕ}
 use native.Mathlib.Omega.{arith}
-use Rattle.rules.specs.File.{wordBytes}
+use Rattle.rules.specs.Lists.{joined}
+use Rattle.rules.specs.File.{wordBytes, pairWords}
 use Rattle.frames.proofs.Texts.{wrote-then, wrote-as}
-use Rattle.frames.proofs.Words.{word-kept}
-use Rattle.file.proofs.Sizes.{word-next}
+use Rattle.file.specs.Filling.{ownerBytes}
+use Rattle.file.proofs.Sizes.{owner-long}
 use Rattle.file.proofs.Frames.{start, start-next, record-text}
 use borrow.Author.Needs.{needs}
 use Rattle.file.proofs.put_record.Statement.{statement}
 use Rattle.file.proofs.put_record.Tie as tie
 
-put-word-requires : tie.Need-put-word-requires
-put-word-requires c κs =
+put-owner-requires : tie.Need-put-owner-requires
+put-owner-requires c κs =
     let start = c .before .before .before .before .before .before .before .before .before in
-    let put-start = c .before .before .before .before .put-start in
-    omega (arith, start .pre, start-next _ _ (put-start .ensures), put-start .kept .0)
+    let put-start = c .before .before .before .put-start in
+    omega (
+      arith,
+      start .pre,
+      start-next _ _ (put-start .ensures),
+      put-start .kept .0,
+      owner-long (start .args .edition) (start .args .r .owner),
+    )
 
-put-word-requires-2 : tie.Need-put-word-requires-2
-put-word-requires-2 c κs =
-    let at-put-start = c .before .before .before .before .before .before .before .before .before in
-    let start = at-put-start .before .before .before .before .before in
+put-pair-words-requires : tie.Need-put-pair-words-requires
+put-pair-words-requires c κs =
+    let at-put-start = c .before .before .before .before .before .before .before in
+    let start = at-put-start .before .before .before .before .before .before in
     let put-start = at-put-start .put-start in
-    let put-word = c .before .before .before .before .put-word in
+    let put-owner = c .before .before .before .put-owner in
     omega (
       arith,
       start .pre,
       start-next _ _ (put-start .ensures),
       put-start .kept .0,
-      word-next _ (put-word .ensures),
-      put-word .kept .0,
+      owner-long (start .args .edition) (start .args .r .owner),
+      put-owner .ensures .place,
+      put-owner .kept .0,
     )
-
-put-word-requires-3 : tie.Need-put-word-requires-3
-put-word-requires-3 c κs =
-    let at-put-word = c .before .before .before .before .before .before .before .before .before in
-    let start = at-put-word .before .before .before .before .before .before .before .before .before .before in
-    let put-start = at-put-word .before .before .before .before .before .put-start in
-    let put-word = at-put-word .put-word in
-    let put-word2 = c .before .before .before .before .put-word2 in
-    omega (
-      arith,
-      start .pre,
-      start-next _ _ (put-start .ensures),
-      put-start .kept .0,
-      word-next _ (put-word .ensures),
-      put-word .kept .0,
-      word-next _ (put-word2 .ensures),
-      put-word2 .kept .0,
-    )
-
-put-word-requires-4 : tie.Need-put-word-requires-4
-put-word-requires-4 c κs =
-    let at-put-word = c .before .before .before .before .before .before .before .before .before .before .before .before .before .before in
-    let start = at-put-word .before .before .before .before .before .before .before .before .before .before in
-    let put-start = at-put-word .before .before .before .before .before .put-start in
-    let put-word = at-put-word .put-word in
-    let put-word2 = c .before .before .before .before .before .before .before .before .before .put-word2 in
-    let put-word3 = c .before .before .before .before .put-word3 in
-    omega (
-      arith,
-      start .pre,
-      start-next _ _ (put-start .ensures),
-      put-start .kept .0,
-      word-next _ (put-word .ensures),
-      put-word .kept .0,
-      word-next _ (put-word2 .ensures),
-      put-word2 .kept .0,
-      word-next _ (put-word3 .ensures),
-      put-word3 .kept .0,
-    )
-
-put-word-requires-5 : tie.Need-put-word-requires-5
-put-word-requires-5 c κs =
-    let at-put-word2 = c .before .before .before .before .before .before .before .before .before .before .before .before .before .before in
-    let start = at-put-word2 .before .before .before .before .before .before .before .before .before .before .before .before .before .before .before in
-    let put-start = at-put-word2 .before .before .before .before .before .before .before .before .before .before .put-start in
-    let put-word = at-put-word2 .before .before .before .before .before .put-word in
-    let put-word2 = at-put-word2 .put-word2 in
-    let put-word3 = c .before .before .before .before .before .before .before .before .before .put-word3 in
-    let put-word4 = c .before .before .before .before .put-word4 in
-    omega (
-      arith,
-      start .pre,
-      start-next _ _ (put-start .ensures),
-      put-start .kept .0,
-      word-next _ (put-word .ensures),
-      put-word .kept .0,
-      word-next _ (put-word2 .ensures),
-      put-word2 .kept .0,
-      word-next _ (put-word3 .ensures),
-      put-word3 .kept .0,
-      word-next _ (put-word4 .ensures),
-      put-word4 .kept .0,
-    )
-
-same-length : tie.Need-same-length
-same-length c =
-    let at-put-word3 = c .before .before .before .before .before .before .before .before .before .before .before .before in
-    let put-start = at-put-word3 .before .before .before .before .before .before .before .before .before .before .before .before .before .before .before .put-start in
-    let put-word = at-put-word3 .before .before .before .before .before .before .before .before .before .before .put-word in
-    let put-word2 = at-put-word3 .before .before .before .before .before .put-word2 in
-    let put-word3 = at-put-word3 .put-word3 in
-    let put-word4 = c .before .before .before .before .before .before .before .put-word4 in
-    let put-word5 = c .before .before .put-word5 in
-    omega (arith, put-word5 .kept .0, put-word4 .kept .0, put-word3 .kept .0, put-word2 .kept .0, put-word .kept .0, put-start .kept .0)
 
 returns : tie.Need-returns
 returns c =
-    let at-put-word2 = c .before .before .before .before .before .before .before .before .before .before .before .before .before .before .before .before .before in
-    let start-call = at-put-word2 .before .before .before .before .before .before .before .before .before .before .before .before .before .before .before in
-    let put-start = at-put-word2 .before .before .before .before .before .before .before .before .before .before .put-start in
-    let struct-told = at-put-word2 .before .before .before .before .before .before .struct-told in
-    let put-word = at-put-word2 .before .before .before .before .before .put-word in
-    let struct-told2 = at-put-word2 .before .struct-told2 in
-    let put-word2 = at-put-word2 .put-word2 in
-    let struct-told3 = c .before .before .before .before .before .before .before .before .before .before .before .before .before .struct-told3 in
-    let put-word3 = c .before .before .before .before .before .before .before .before .before .before .before .before .put-word3 in
-    let struct-told4 = c .before .before .before .before .before .before .before .before .struct-told4 in
-    let put-word4 = c .before .before .before .before .before .before .before .put-word4 in
-    let struct-told5 = c .before .before .before .struct-told5 in
-    let put-word5 = c .before .before .put-word5 in
+    let at-put-owner = c .before .before .before .before .before .before in
+    let start-call = at-put-owner .before .before .before .before .before .before .before .before .before .before in
+    let record-kind = at-put-owner .before .before .before .before .before .before .record-kind in
+    let record-words = at-put-owner .before .before .before .before .before .record-words in
+    let put-start = at-put-owner .before .before .before .before .put-start in
+    let put-owner = at-put-owner .put-owner in
+    let put-pair-words = c .before .before .put-pair-words in
+    let ed = start-call .args .edition in
     let r = start-call .args .r in
-    let number = word-kept {z = r .number .0} (struct-told .given .0 .1) in
-    let lowX = word-kept {z = r .rect .lowX} (struct-told2 .given .0 .1) in
-    let lowY = word-kept {z = r .rect .lowY} (struct-told3 .given .1 .0 .1) in
-    let highX = word-kept {z = r .rect .highX} (struct-told4 .given .1 .1 .0 .1) in
-    let highY = word-kept {z = r .rect .highY} (struct-told5 .given .1 .1 .1 .0 .1) in
-    wrote-as ((λ i. start 17 5
-    ++ wordBytes (number i)
-    ++ wordBytes (lowX i)
-    ++ wordBytes (lowY i)
-    ++ wordBytes (highX i)
-    ++ wordBytes (highY i))
-    ∙ record-text r)
-    (wrote-then (wrote-then
-    (wrote-then (wrote-then (wrote-then (put-start .ensures) (put-word .ensures)) (put-word2 .ensures)) (put-word3 .ensures))
-    (put-word4 .ensures)) (put-word5 .ensures))
+    wrote-as (ap₂ (λ (k n : ℕ). start k n ++ ownerBytes ed (r .owner) ++ joined (map wordBytes (pairWords r))) (record-kind .ensures)
+    (record-words .ensures .0)
+    ∙ record-text ed r) (wrote-then (wrote-then (put-start .ensures) (put-owner .ensures)) (put-pair-words .ensures))
 
 pub put-record-spec : {M : Type 1} → statement M
 put-record-spec =
     tie.close
     (tie.spec
     (λ c κs. search needs)
-    put-word-requires
-    put-word-requires-2
-    put-word-requires-3
-    put-word-requires-4
-    put-word-requires-5
-    same-length
+    (λ c κs. search needs)
+    (λ c κs. search needs)
+    put-owner-requires
+    put-pair-words-requires
+    (λ c. search needs)
     returns)

@@ -1,20 +1,22 @@
 use Prim.Native.Nat.{_-_}
 use native.Mathlib.Omega.{arith}
+use Rattle.rules.specs.Layout.{editionOf}
 use Rattle.frames.proofs.Texts.{wrote-length}
 use Rattle.file.proofs.News.{Putting, put-first, put-room, put-next, put-all}
 use Rattle.file.proofs.put_records.Statement.{statement}
 use Rattle.file.proofs.put_records.Tie as tie
 
 abbrev Inv-loop : tie.InvT-loop
-Inv-loop pool items n file₀ at next₀ k₀ file next k = Putting pool items n file₀ at file next k
+Inv-loop pool items n owner file₀ at next₀ k₀ file next k = Putting (editionOf pool) owner pool items n file₀ at file next k
 
 abbrev μ-loop : tie.MeasureT-loop
-μ-loop pool items n file₀ at next₀ k₀ file next k = n - k
+μ-loop pool items n owner file₀ at next₀ k₀ file next k = n - k
 
 loop-holds : tie.Need-loop-holds Inv-loop μ-loop
 loop-holds c =
     let start = c .before in
-    put-first (start .args .pool .now) (start .args .items .now) (start .args .n) (start .args .file .now) (start .args .at)
+    put-first (editionOf (start .args .pool .now)) (start .args .owner) (start .args .pool .now) (start .args .items .now) (start .args .n)
+    (start .args .file .now) (start .args .at)
 
 put-new-requires : tie.Need-put-new-requires Inv-loop μ-loop
 put-new-requires c κs =

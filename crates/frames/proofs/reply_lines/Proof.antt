@@ -5,7 +5,7 @@ use mathlib.Core.List.{List}
 use native.Mathlib.Nat.{min-le-right}
 use lib.ListN.{length}
 use borrow.Author.Needs.{needs}
-use Rattle.rules.specs.declared.Record.{Record}
+use Rattle.rules.specs.declared.FoundRecord.{FoundRecord}
 use Rattle.rules.specs.Frames.{listedOf}
 use Rattle.frames.proofs.Lines.{Listed, lines-none, lines-more, lines-all}
 use native.Mathlib.Omega.{arith}
@@ -13,7 +13,7 @@ use Rattle.frames.proofs.reply_lines.Statement.{statement}
 use Rattle.frames.proofs.reply_lines.Tie as tie
 
 -- the lines of i records are written
-record Turn (found : List Record) (listed : ℕ) (out₀ : List ℕ) (next₀ : ℕ) (out : List ℕ) (next i : ℕ) : Type 0 where
+record Turn (found : List FoundRecord) (listed : ℕ) (out₀ : List ℕ) (next₀ : ℕ) (out : List ℕ) (next i : ℕ) : Type 0 where
   most : i ≤ listed
   few : listed ≤ 64
   places : length found ≡ 64

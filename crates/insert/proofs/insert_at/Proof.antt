@@ -16,7 +16,7 @@ returns c =
     let u = start .pre .1 .0 in
     let low = start .pre .1 .1 .0 .0 in
     let high = start .pre .1 .1 .0 .1 in
-    let f = start .pre .1 .1 .1 .0 in
+    let f = start .pre .1 .1 .1 .0 .fits in
     let known = start .pre .1 .1 .1 .1 in
     at-refused p (start .args .level) (start .args .e) u low high f w known (too-few .result) (too-few .ensures) (c .if1 .taken)
 
@@ -30,12 +30,12 @@ insert-below-requires c κs =
     let u = start .pre .1 .0 in
     let low = start .pre .1 .1 .0 .0 in
     let high = start .pre .1 .1 .0 .1 in
-    let f = start .pre .1 .1 .1 .0 in
+    let f = start .pre .1 .1 .1 .0 .fits in
     let known = start .pre .1 .1 .1 .1 in
     let n = height-of .result - start .args .level in
     let levels : n ≡ p .height - start .args .level = ap (λ (k : ℕ). k - start .args .level) (height-of .ensures) in (
       record { fit = start .pre .0; known = known },
-      root-goes p (start .args .level) (start .args .e) u low high f n levels (root-of .result) (root-of .ensures),
+      root-goes p (start .args .level) (start .args .e) u low high f (start .pre .1 .1 .1 .0 .kind) n levels (root-of .result) (root-of .ensures),
     )
 
 grow-tree-requires : tie.Need-grow-tree-requires
@@ -50,7 +50,7 @@ grow-tree-requires c κs =
     let u = start .pre .1 .0 in
     let low = start .pre .1 .1 .0 .0 in
     let high = start .pre .1 .1 .0 .1 in
-    let f = start .pre .1 .1 .1 .0 in
+    let f = start .pre .1 .1 .1 .0 .fits in
     let known = start .pre .1 .1 .1 .1 in
     let n = height-of .result - start .args .level in
     let levels : n ≡ p .height - start .args .level = ap (λ (k : ℕ). k - start .args .level) (height-of .ensures) in
@@ -72,7 +72,7 @@ returns-2 c =
     let u = start .pre .1 .0 in
     let low = start .pre .1 .1 .0 .0 in
     let high = start .pre .1 .1 .0 .1 in
-    let f = start .pre .1 .1 .1 .0 in
+    let f = start .pre .1 .1 .1 .0 .fits in
     let known = start .pre .1 .1 .1 .1 in
     let n = height-of .result - start .args .level in
     let levels : n ≡ p .height - start .args .level = ap (λ (k : ℕ). k - start .args .level) (height-of .ensures) in

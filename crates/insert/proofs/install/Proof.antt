@@ -6,8 +6,9 @@ use native.Mathlib.Omega.{arith}
 use Rattle.rules.specs.Layout.{read}
 use Rattle.sound_laws.proofs.Free.{at-some, lowest-slot}
 use Rattle.nodes.proofs.Slots.{most-slots}
+use Rattle.layout_laws.proofs.Written.{edition-is}
 use Rattle.insert.proofs.Fitted.{slot-in}
-use Rattle.insert.proofs.Divided.{here-node, here-stored, room-grows, split-grows, none-grows}
+use Rattle.insert.proofs.Divided.{here-node, here-small, here-kind, room-grows, split-grows, none-grows}
 use Rattle.insert.proofs.install.Statement.{statement}
 use Rattle.insert.proofs.install.Tie as tie
 
@@ -26,11 +27,11 @@ add-entry-requires c κs =
     let w = start .args .pool .now in
     let h = start .pre .1 in
     let r = start .pre .0 in
-    let st = here-stored h (most-slots w (r .fit .right)) in (
+    let few = most-slots w (r .fit .right) in (
       r .fit,
       (
         slot-in w (start .args .s) (r .fit .right) (here-node h .slot),
-        (omega (arith, c .before .if1 .taken, count-of .ensures .0), (st .small, st .kind)),
+        (omega (arith, c .before .if1 .taken, count-of .ensures .0), (here-small h few, here-kind h few _ (edition-is w))),
       ),
     )
 

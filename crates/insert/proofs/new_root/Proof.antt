@@ -47,7 +47,7 @@ put-node-requires c κs =
             omega arith,
             (
               two-small _ _ _ (height-of .result + 1) (search needs) (search needs),
-              two-kind _ _ _ (height-of .result + 1) (search needs) (search needs),
+              two-kind _ _ _ (height-of .result + 1) (search needs) (search needs) _,
             ),
           ),
         ),

@@ -27,7 +27,7 @@ put-node-requires c κs =
                   (start .pre .1 .1 .1 .1 .1 .1 .0),
               group-kind (start .args .es) (group-of .result) (start .args .places) (start .args .n)
                   (omega (arith, start .pre .1 .1 .1 .1 .1 .0 .nine, start .pre .1 .1 .1 .0)) (group-of .ensures) (start .pre .1 .1 .1 .1 .1 .0)
-                  (start .args .level) (start .pre .1 .1 .1 .1 .1 .1 .1),
+                  _ (start .args .level) (start .pre .1 .1 .1 .1 .1 .1 .1),
             ),
           ),
         ),

@@ -5,6 +5,10 @@ use native.Mathlib.Omega.{arith}
 use Rattle.rules.specs.Layout.{read}
 use Rattle.sound_laws.proofs.Free.{lowest-slot}
 use Rattle.nodes.proofs.Slots.{most-slots}
+use mathlib.Core.Path.{subst⁻¹}
+use Rattle.rules.specs.declared.Edition.{Edition}
+use Rattle.layout_laws.specs.Slots.{KindAll}
+use Rattle.layout_laws.proofs.Written.{edition-is, fine-at, edition-put}
 use Rattle.insert.proofs.Fitted.{slot-in}
 use Rattle.insert.proofs.Divided.{here-node, here-level, nine-length, nine-small, nine-kind, nine-valid, slot-kept, Parts, split-made}
 use Rattle.insert.proofs.split_node.Statement.{statement}
@@ -54,6 +58,8 @@ put-group-requires c κs =
     let full = start .pre .1 .1 .0 in
     let es = nine-entries .result in
     let is = nine-entries .ensures in
+    let kinds =
+    nine-kind h few full es is _ (edition-is w) (fine-at (slot-in w (start .args .s) r (here-node h .slot))) (level-of .result) (level-of .ensures) in
     let g = c .before .before .before .before .split-nine .ensures .1 .1 in (
       start .pre .0,
       (
@@ -64,7 +70,7 @@ put-group-requires c κs =
             omega (arith, g .all, g .ones, g .twos),
             (
               nine-length h few full es is,
-              (search needs, (nine-small h few full es is, nine-kind h few full es is (level-of .result) (level-of .ensures))),
+              (search needs, (nine-small h few full es is, kinds)),
             ),
           ),
         ),
@@ -85,6 +91,9 @@ put-group-requires-2 c κs =
     let low = start .pre .1 .1 .1 in
     let es = nine-entries .result in
     let is = nine-entries .ensures in
+    let kinds =
+    nine-kind h few full es is _ (edition-is w) (fine-at (slot-in w (start .args .s) r (here-node h .slot))) (level-of .result) (level-of .ensures) in
+    let same-edition = edition-put w (put-group .last .0) (start .args .s) _ (put-group .ensures .0) in
     let g = c .before .before .before .before .before .before .before .split-nine .ensures .1 .1 in (
       put-group .ensures .1,
       (
@@ -96,7 +105,7 @@ put-group-requires-2 c κs =
             omega (arith, g .all, g .ones, g .twos),
             (
               nine-length h few full es is,
-              (search needs, (nine-small h few full es is, nine-kind h few full es is (level-of .result) (level-of .ensures))),
+              (search needs, (nine-small h few full es is, subst⁻¹ (λ (e : Edition). KindAll e (level-of .result) es 9) same-edition kinds)),
             ),
           ),
         ),

@@ -36,7 +36,7 @@ put-entry-of-requires c κs =
     let h = s .pre .1 in
     let high = subst⁻¹ (λ (d : SlotNumber). d .0 ≤ length (read w .slots)) (child .ensures) (h .childHigh) in
     let stored = child-stored (nodeAt (read w) (s .args .s) .level) (child .result) (h .inner) (omega (arith, high, most-slots w (f .right))) in
-    (f, (within w (s .args .s) (f .right) (h .low) (h .high), (h .there, (stored .small, stored .kind))))
+    (f, (within w (s .args .s) (f .right) (h .low) (h .high), (h .there, (stored .small, stored .kind _))))
 
 returns : tie.Need-returns
 returns c =

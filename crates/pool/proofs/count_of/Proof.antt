@@ -1,10 +1,10 @@
 use native.Mathlib.Omega.{arith}
-use Rattle.layout_laws.proofs.Parts.{few, room, slot-count}
+use Rattle.layout_laws.proofs.Parts.{room, slot-count}
 use Rattle.pool.proofs.count_of.Statement.{statement}
 use Rattle.pool.proofs.count_of.Tie as tie
 
 count-place-requires : tie.Need-count-place-requires
-count-place-requires c κs = let i = c .pre in (i .low, few i)
+count-place-requires c κs = c .pre
 
 number-at-requires : tie.Need-number-at-requires
 number-at-requires c κs = omega (arith, room (c .before .pre), c .count-place .ensures)

@@ -1,11 +1,11 @@
 use mathlib.Core.Path.{sym}
 use native.Mathlib.Omega.{arith}
-use Rattle.layout_laws.proofs.Parts.{few, room, slot-level}
+use Rattle.layout_laws.proofs.Parts.{room, slot-level}
 use Rattle.pool.proofs.level_of.Statement.{statement}
 use Rattle.pool.proofs.level_of.Tie as tie
 
 slot-start-requires : tie.Need-slot-start-requires
-slot-start-requires c κs = let i = c .pre in (i .low, few i)
+slot-start-requires c κs = c .pre
 
 number-at-requires : tie.Need-number-at-requires
 number-at-requires c κs = omega (arith, room (c .before .pre), c .slot-start .ensures)

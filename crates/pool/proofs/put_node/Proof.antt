@@ -13,7 +13,7 @@ returns c =
     let s = c .before .before .before in
     let f = s .pre .0 in
     let i = s .pre .1 .0 in
-    let g = fine-node (s .args .level) (s .args .es) (s .args .n) (s .pre .1 .1 .1 .0) (s .pre .1 .1 .1 .1 .1) in
+    let g = fine-node _ (s .args .level) (s .args .es) (s .args .n) (s .pre .1 .1 .1 .0) (s .pre .1 .1 .1 .1 .1) in
     let e = c .before .write-slot .ensures in
     (rw e (put-read f i g), rw e (put-fit f i g))
 

@@ -3,13 +3,13 @@ use mathlib.Core.Path.{ap, _∙_}
 use Prim.Native.Nat.{ℕ}
 use lib.ListN.{drop}
 use Rattle.rules.specs.Layout.{rectOf}
-use Rattle.layout_laws.proofs.Parts.{few, slot-few}
+use Rattle.layout_laws.proofs.Parts.{slot-few}
 use Rattle.pool.proofs.Stores.{spot-inside, spot-rect}
 use Rattle.pool.proofs.rect_of.Statement.{statement}
 use Rattle.pool.proofs.rect_of.Tie as tie
 
 spot-requires : tie.Need-spot-requires
-spot-requires c κs = let i = c .pre .0 in ((i .low, few i), omega (arith, slot-few i, c .pre .1))
+spot-requires c κs = let i = c .pre .0 in (i, omega (arith, slot-few i, c .pre .1))
 
 rect-at-requires : tie.Need-rect-at-requires
 rect-at-requires c κs =

@@ -1,6 +1,10 @@
 -- `answer`: the request does the call of the frame (Calls), and its lines are written after those that wait.
 use native.Mathlib.Omega.{arith}
-use mathlib.Core.Path.{sym, _∙_}
+use mathlib.Core.Path.{refl, sym, _∙_}
+use lib.IntN.{pos}
+use Rattle.rules.specs.Numbers.{goodOwner}
+use Rattle.rules.specs.Owners.{owner, ownerIn}
+use Rattle.rules.specs.Layout.{editionOf}
 use Rattle.program.proofs.Calls.{replies-by}
 use borrow.Author.Needs.{needs}
 use Rattle.program.proofs.answer.Statement.{statement}
@@ -8,15 +12,16 @@ use Rattle.program.proofs.answer.Tie as tie
 use Rattle.in_force_laws.proofs.Asks.{asks-something}
 
 one-request-requires : tie.Need-one-request-requires
+unfolding goodOwner
 one-request-requires c κs =
     let start = c .before .before .before in
-    (start .pre .0, (start .pre .1 .1 .0 ∙ sym (start .pre .1 .0), (start .pre .1 .1 .1 .0, omega arith)))
+    (start .pre .0, (start .pre .1 .1 .0 ∙ sym (start .pre .1 .0), (start .pre .1 .1 .1 .0, (refl, omega arith))))
 
 found-list-requires : tie.Need-found-list-requires
 found-list-requires c κs =
     let start = c .before .before .before .before .before .before .before .before .before .before in
     let one-request = c .before .before .before .before .before .before .one-request in
-    let x = asks-something (start .args .q) (start .pre .1 .1 .1 .0) in
+    let x = asks-something (ownerIn (editionOf (start .args .pool .now)) (owner (pos 1))) (start .args .q) (start .pre .1 .1 .1 .0) in
     let v = one-request .ensures (x .0) (x .1) in
     (v .same ∙ start .pre .1 .0, (v .work ∙ start .pre .1 .0, v .pointing))
 
@@ -27,7 +32,7 @@ returns c =
     let one-request = at-found-list .before .before .before .before .before .before .before .one-request in
     let found-list = at-found-list .found-list in
     let reply-lines = c .before .before .reply-lines in
-    let x = asks-something (start .args .q) (start .pre .1 .1 .1 .0) in
+    let x = asks-something (ownerIn (editionOf (start .args .pool .now)) (owner (pos 1))) (start .args .q) (start .pre .1 .1 .1 .0) in
     let v = one-request .ensures (x .0) (x .1) in
     replies-by (start .args .pool .now) (start .args .q) (x .0) (start .args .before) (start .args .at) (start .args .out .now)
     (reply-lines .last .0) (one-request .last .0) (one-request .last .1 .0) (one-request .result) (reply-lines .result) (found-list .result)

@@ -7,8 +7,9 @@ use lib.ListN.{length, replicate, length-set}
 use lib.Seq.{sets}
 use lib.IntN.{ℤ}
 use borrow.Author.Needs.{needs}
-use Rattle.rules.specs.declared.Record.{Record}
-use Rattle.found_items.specs.Items.{itemsFrom}
+use Rattle.rules.specs.declared.FoundRecord.{FoundRecord}
+use Rattle.found_items.specs.Items.{shownFrom}
+use Rattle.found_items.proofs.Words.{pointing-rect}
 use Rattle.rules.specs.Pool.{noRecord}
 use Rattle.program.proofs.Calls.{empties-none, empties-more}
 use native.Mathlib.Omega.{arith}
@@ -16,11 +17,11 @@ use Rattle.program.proofs.found_list.Statement.{statement}
 use Rattle.program.proofs.found_list.Tie as tie
 
 -- k places are filled
-record Turn (pool work : List ℤ) (listed shown : ℕ) (found : List Record) (k : ℕ) : Type 0 where
+record Turn (pool work : List ℤ) (listed shown : ℕ) (found : List FoundRecord) (k : ℕ) : Type 0 where
   most : k ≤ shown
   few : shown ≡ min listed 64
   size : length found ≡ 64
-  filled : found ≡ sets (replicate 64 noRecord) 0 (itemsFrom pool work 0 k)
+  filled : found ≡ sets (replicate 64 noRecord) 0 (shownFrom pool work 0 k)
 
 abbrev Inv-loop : tie.InvT-loop
 Inv-loop pool work listed shown found₀ k₀ found k = Turn pool work listed shown found k
@@ -45,7 +46,7 @@ item-requires c κs =
     let m = min-le-left (start .args .listed) 64 in
     let n = min-le-right (start .args .listed) 64 in
     let t = loop .inv in
-    (omega arith, start .pre .1 .1 .inside (loop .k) (omega arith) (omega arith))
+    (omega arith, pointing-rect (start .pre .1 .1) (loop .k) (omega arith) (omega arith))
 
 mul-found : tie.Need-mul-found Inv-loop μ-loop
 mul-found c =
@@ -86,7 +87,7 @@ returns c =
     let loop = c .before .loop in
     let t = loop .inv in
     let e : loop .k ≡ min (start .args .listed) 64 = omega arith in
-    t .filled ∙ ap (λ (k : ℕ). sets (replicate 64 noRecord) 0 (itemsFrom (start .args .pool .now) (start .args .work .now) 0 k)) e
+    t .filled ∙ ap (λ (k : ℕ). sets (replicate 64 noRecord) 0 (shownFrom (start .args .pool .now) (start .args .work .now) 0 k)) e
 
 pub found-list-spec : {M : Type 1} → statement M
 found-list-spec =

@@ -14,7 +14,7 @@ returns : tie.Need-returns
 returns c =
     let start = c .before .before .before .before .before .before in
     let struct-told = c .before .before .before .before .before .struct-told in
-    asks-insert (start .args .q)
+    asks-insert (start .args .owner) (start .args .q)
     (sym (rw (toZ-ofZ {w = w32} {z = start .args .q .kind} (sfits-of (struct-told .given .0 .1))) at (c .before .same .ensures))
     ∙ c .if1 .taken)
 
@@ -24,7 +24,7 @@ returns-2 c =
     let struct-told = c .before .before .before .before .before .before .before .struct-told in
     let same = c .before .before .before .same in
     let if1 = c .before .before .if1 in
-    asks-delete (start .args .q)
+    asks-delete (start .args .owner) (start .args .q)
     (sym (rw (toZ-ofZ {w = w32} {z = start .args .q .kind} (sfits-of (struct-told .given .0 .1))) at (same .ensures)) ∙ if1 .left)
     (sym (rw (toZ-ofZ {w = w32} {z = start .args .q .kind} (sfits-of (struct-told .given .0 .1))) at (c .before .same2 .ensures))
     ∙ c .if2 .taken)
@@ -37,7 +37,7 @@ returns-3 c =
     let if1 = c .before .before .before .before .if1 in
     let same2 = c .before .before .before .same2 in
     let if2 = c .before .before .if2 in
-    asks-update (start .args .q)
+    asks-update (start .args .owner) (start .args .q)
     (sym (rw (toZ-ofZ {w = w32} {z = start .args .q .kind} (sfits-of (struct-told .given .0 .1))) at (same .ensures)) ∙ if1 .left)
     (sym (rw (toZ-ofZ {w = w32} {z = start .args .q .kind} (sfits-of (struct-told .given .0 .1))) at (same2 .ensures)) ∙ if2 .left)
     (sym (rw (toZ-ofZ {w = w32} {z = start .args .q .kind} (sfits-of (struct-told .given .0 .1))) at (c .before .same3 .ensures))
@@ -52,11 +52,11 @@ returns-4 c =
     let if1 = c .before .before .before .before .before .if1 in
     let same2 = c .before .before .before .before .same2 in
     let if2 = c .before .before .before .if2 in
-    asks-search (start .args .q)
+    asks-search (start .args .owner) (start .args .q)
     (sym (rw word at (same .ensures)) ∙ if1 .left)
     (sym (rw word at (same2 .ensures)) ∙ if2 .left)
     (sym (rw word at (c .before .before .same3 .ensures)) ∙ c .before .if3 .left) (start .pre)
-    ∙ ap (λ (m : Mode). some (Search m (start .args .q .first))) (sym (rw word at (c .mode-of .ensures)))
+    ∙ ap (λ (m : Mode). some (Search (start .args .owner) m (start .args .q .first))) (sym (rw word at (c .mode-of .ensures)))
 
 pub asked-spec : {M : Type 1} → statement M
 asked-spec =

@@ -5,7 +5,7 @@ use Rattle.rules.specs.declared.Asked.the-variants.{Delete}
 use Rattle.rules.specs.declared.Reply.the-variants.{BadRectangle, BadNumber, NotHeld}
 use Rattle.find_leaf.proofs.Held.{shows-held}
 use Rattle.delete.proofs.Deleted.{whole-way}
-use Rattle.request.proofs.Turns.{ready-fit, ready-whole, row-applies, to-delete, delete-changes}
+use Rattle.request.proofs.Turns.{ready-fit, ready-whole, ready-owners, row-applies, to-delete, delete-changes}
 use Rattle.request.proofs.Rows.{delete-3, delete-4, delete-5}
 use borrow.Author.Needs.{needs}
 use Rattle.request.proofs.delete.Statement.{statement}
@@ -85,7 +85,10 @@ delete-record-requires c κs =
     let if3 = c .before .before .before .before .before .before .if3 in (
       ready-fit (start .args .pool .now) (start .args .free) (start .pre .0),
       (
-        ready-whole (start .args .pool .now) (start .args .free) (start .pre .0),
+        (
+          ready-whole (start .args .pool .now) (start .args .free) (start .pre .0),
+          ready-owners (start .args .pool .now) (start .args .free) (start .pre .0),
+        ),
         ((start .pre .0) .known, (not-false _ (if3 .left), find-leaf .ensures)),
       ),
     )

@@ -13,7 +13,7 @@ returns c =
     let start = c .before .before .before .before .before in
     let valid = c .before .before .valid in
     rw (c .told .ensures)
-    (row-applies (start .args .pool .now) (start .args .free) (start .pre) (Insert (start .args .r)) BadRectangle
+    (row-applies (start .args .pool .now) (start .args .free) (start .pre .0) (Insert (start .args .r)) BadRectangle
     (λ filled room. insert-3 _ filled room (start .args .r) (sym (valid .ensures) ∙ not-true _ (c .before .if1 .taken))))
 
 returns-2 : tie.Need-returns-2
@@ -23,14 +23,14 @@ returns-2 c =
     let if1 = c .before .before .before .if1 in
     let good-number = c .before .before .good-number in
     rw (c .told2 .ensures)
-    (row-applies (start .args .pool .now) (start .args .free) (start .pre) (Insert (start .args .r)) BadNumber
+    (row-applies (start .args .pool .now) (start .args .free) (start .pre .0) (Insert (start .args .r)) BadNumber
     (λ filled room. insert-4 _ filled room (start .args .r) (sym (valid .ensures) ∙ not-false _ (if1 .left))
     (sym (good-number .ensures) ∙ not-true _ (c .before .if2 .taken))))
 
 holds-requires : tie.Need-holds-requires
 holds-requires c κs =
     let start = c .before .before .before .before .before .before .before in
-    (start .pre .right, ready-whole (start .args .pool .now) (start .args .free) (start .pre))
+    (start .pre .0 .right, ready-whole (start .args .pool .now) (start .args .free) (start .pre .0))
 
 returns-3 : tie.Need-returns-3
 returns-3 c =
@@ -41,7 +41,7 @@ returns-3 c =
     let if2 = c .before .before .before .before .if2 in
     let holds = c .before .before .holds in
     rw (c .told3 .ensures)
-    (row-applies (start .args .pool .now) (start .args .free) (start .pre) (Insert (start .args .r)) Held
+    (row-applies (start .args .pool .now) (start .args .free) (start .pre .0) (Insert (start .args .r)) Held
     (λ filled room. insert-6 _ filled room (start .args .r) (sym (valid .ensures) ∙ not-false _ (if1 .left))
     (sym (good-number .ensures) ∙ not-false _ (if2 .left)) (sym (holds .ensures) ∙ c .before .if3 .taken)))
 
@@ -52,10 +52,10 @@ insert-record-requires c κs =
     let if1 = c .before .before .before .before .before .before .if1 in
     let good-number = c .before .before .before .before .before .good-number in
     let if2 = c .before .before .before .before .if2 in (
-      ready-fit (start .args .pool .now) (start .args .free) (start .pre),
+      ready-fit (start .args .pool .now) (start .args .free) (start .pre .0),
       (
-        ready-whole (start .args .pool .now) (start .args .free) (start .pre),
-        (((sym (valid .ensures) ∙ not-false _ (if1 .left)), (sym (good-number .ensures) ∙ not-false _ (if2 .left))), start .pre .known),
+        ready-whole (start .args .pool .now) (start .args .free) (start .pre .0),
+        (((sym (valid .ensures) ∙ not-false _ (if1 .left)), (sym (good-number .ensures) ∙ not-false _ (if2 .left)), start .pre .1), start .pre .0 .known),
       ),
     )
 
@@ -71,9 +71,9 @@ returns-4 c =
     let if3 = c .before .before .before .before .if3 in
     let insert-record = c .before .before .insert-record in
     rw (c .came-to .ensures)
-    (insert-changes (start .args .pool .now) (start .args .free) (start .pre) (start .args .r)
+    (insert-changes (start .args .pool .now) (start .args .free) (start .pre .0) (start .args .r)
     (sym (valid .ensures) ∙ not-false _ (if1 .left)) (sym (good-number .ensures) ∙ not-false _ (if2 .left))
-    (sym (holds .ensures) ∙ if3 .left) _ _ (search needs) (insert-record .ensures))
+    (start .pre .1) (sym (holds .ensures) ∙ if3 .left) _ _ (search needs) (insert-record .ensures))
 
 pub insert-spec : {M : Type 1} → statement M
 insert-spec =

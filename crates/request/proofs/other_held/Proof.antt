@@ -9,10 +9,11 @@ returns c = other-same _ _ _ (sym (rw (c .before .before .compare .ensures) at (
 
 returns-2 : tie.Need-returns-2
 returns-2 c =
-    let compare = c .before .before .before .before .compare in
-    let is-equal = c .before .before .before .is-equal in
-    let if1 = c .before .before .if1 in
-    c .holds .ensures ∙ other-new _ _ _ (sym (rw (compare .ensures) at (is-equal .ensures)) ∙ if1 .left)
+    let moved = c .before in
+    let equal = moved .before .before in
+    rw (moved .moved .ensures) at (c .holds .ensures)
+    ∙ other-new _ _ _ (sym (rw (equal .before .compare .ensures) at (equal .is-equal .ensures)) ∙ moved .before .if1 .left)
 
 pub other-held-spec : {M : Type 1} → statement M
-other-held-spec = tie.close (tie.spec (λ c κs. search needs) (λ c κs. search needs) returns (λ c κs. search needs) returns-2)
+other-held-spec =
+    tie.close (tie.spec (λ c κs. search needs) (λ c κs. search needs) returns (λ c κs. search needs) (λ c κs. search needs) returns-2)

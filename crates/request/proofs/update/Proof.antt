@@ -5,7 +5,7 @@ use Rattle.rules.specs.declared.Asked.the-variants.{Update}
 use Rattle.rules.specs.declared.Reply.the-variants.{BadRectangle, BadNumber, NotHeld, Held}
 use Rattle.find_leaf.proofs.Held.{shows-held}
 use Rattle.delete.proofs.Deleted.{whole-way}
-use Rattle.request.proofs.Turns.{ready-fit, ready-whole, row-applies, to-delete, update-changes}
+use Rattle.request.proofs.Turns.{ready-fit, ready-whole, ready-owners, ready-owner, row-applies, to-delete, update-changes}
 use Rattle.request.proofs.Rows.{update-old, update-new, update-4, update-5, update-6}
 use borrow.Author.Needs.{needs}
 use Rattle.request.proofs.update.Statement.{statement}
@@ -137,14 +137,24 @@ replace-requires c κs =
     let if4 = at-if4 .if4 in (
       ready-fit (start .args .pool .now) (start .args .free) (start .pre .0),
       (
-        ready-whole (start .args .pool .now) (start .args .free) (start .pre .0),
+        (
+          ready-whole (start .args .pool .now) (start .args .free) (start .pre .0),
+          ready-owners (start .args .pool .now) (start .args .free) (start .pre .0),
+        ),
         (
           (start .pre .0) .known,
           (
             not-false _ (if4 .left),
             (
               find-leaf .ensures,
-              ((sym (valid2 .ensures) ∙ not-false _ (if2 .left)), (sym (good-number .ensures) ∙ not-false _ (if3 .left))),
+              (
+                sym (valid2 .ensures) ∙ not-false _ (if2 .left),
+                sym (good-number .ensures) ∙ not-false _ (if3 .left),
+                ready-owner (start .args .pool .now) (start .args .free) (start .pre .0) (start .args .old)
+                    (sym (shows-held _ (start .args .old) (find-leaf .result) (ready-whole (start .args .pool .now) (start .args .free) (start .pre .0))
+                    (find-leaf .ensures))
+                    ∙ not-false _ (if4 .left)),
+              ),
             ),
           ),
         ),

@@ -5,7 +5,6 @@ use Rattle.rules.specs.Pool.{entriesAt}
 use Rattle.rules.specs.Layout.{read}
 use mathlib.Core.Path.{refl}
 use native.Mathlib.Omega.{arith}
-use Rattle.nodes.proofs.Slots.{some-within}
 use Rattle.search.proofs.Turns.{Gathered, gather-turn, gather-ends}
 use Rattle.search.proofs.gather.Statement.{statement}
 use Rattle.search.proofs.gather.Tie as tie
@@ -16,58 +15,58 @@ Inv-loop pool window s places₀ n count₀ i₀ places count i = Gathered pool 
 abbrev μ-loop : tie.MeasureT-loop
 μ-loop pool window s places₀ n count₀ i₀ places count i = n - i
 
-count-at-requires : tie.Need-count-at-requires Inv-loop μ-loop
-count-at-requires c κs = c .pre .0
+count-of-requires : tie.Need-count-of-requires Inv-loop μ-loop
+count-of-requires c κs = c .pre .0
 
 loop-holds : tie.Need-loop-holds Inv-loop μ-loop
-loop-holds c = record { few = omega arith; most = omega arith; long = c .before .pre .1 .1; are = refl }
+loop-holds c = record { few = omega arith; most = omega arith; long = c .before .pre .1; are = refl }
 
 mul-places : tie.Need-mul-places Inv-loop μ-loop
 mul-places c =
-    let count-at = c .before .before .count-at in
+    let count-of = c .before .before .count-of in
     let loop = c .before .loop in
-    record { fits = omega (arith, loop .inv .few, loop .inv .most, count-at .ensures .0, count-at .ensures .1) }
+    record { fits = omega (arith, loop .inv .few, loop .inv .most, count-of .ensures .0, count-of .ensures .1) }
 
 element-write-places : tie.Need-element-write-places Inv-loop μ-loop
 element-write-places c =
-    let count-at = c .before .before .count-at in
+    let count-of = c .before .before .count-of in
     let loop = c .before .loop in
-    omega (arith, loop .inv .few, loop .inv .long, c .loop-test .taken, count-at .ensures .1)
+    omega (arith, loop .inv .few, loop .inv .long, c .loop-test .taken, count-of .ensures .1)
 
 met-requires : tie.Need-met-requires Inv-loop μ-loop
 met-requires c κs =
     let start = c .before .before .before in
-    let count-at = c .before .before .count-at in
+    let count-of = c .before .before .count-of in
     let loop = c .before .loop in
     let there : loop .i < length (entriesAt (read (start .args .pool .now)) (start .args .s)) =
-    omega (arith, c .loop-test .taken, count-at .ensures .0) in
-    (some-within (start .args .pool .now) (start .args .s) (loop .i) (start .pre .0) (start .pre .1 .0) there, there)
+    omega (arith, c .loop-test .taken, count-of .ensures .0) in
+    (start .pre .0, there)
 
 add-count : tie.Need-add-count Inv-loop μ-loop
 add-count c =
-    let count-at = c .before .before .before .count-at in
+    let count-of = c .before .before .before .count-of in
     let loop = c .before .before .loop in
-    record { fits = omega (arith, loop .inv .few, c .before .loop-test .taken, count-at .ensures .1, c .met .ensures .1) }
+    record { fits = omega (arith, loop .inv .few, c .before .loop-test .taken, count-of .ensures .1, c .met .ensures .1) }
 
 add-i : tie.Need-add-i Inv-loop μ-loop
-add-i c = record { fits = omega (arith, c .before .loop-test .taken, c .before .before .before .count-at .ensures .1) }
+add-i c = record { fits = omega (arith, c .before .loop-test .taken, c .before .before .before .count-of .ensures .1) }
 
 loop-less : tie.Need-loop-less Inv-loop μ-loop
 loop-less c = omega (arith, c .before .loop-test .taken)
 
 loop-again : tie.Need-loop-again Inv-loop μ-loop
 loop-again c =
-    let count-at = c .before .before .before .count-at in
+    let count-of = c .before .before .before .count-of in
     let loop = c .before .before .loop in
-    gather-turn (loop .inv) (c .met .result) (omega (arith, c .before .loop-test .taken, count-at .ensures .0))
-    (omega (arith, count-at .ensures .0, count-at .ensures .1)) (c .met .ensures .0) (c .met .ensures .1)
+    gather-turn (loop .inv) (c .met .result) (omega (arith, c .before .loop-test .taken, count-of .ensures .0))
+    (omega (arith, count-of .ensures .0, count-of .ensures .1)) (c .met .ensures .0) (c .met .ensures .1)
 
 returns : tie.Need-returns Inv-loop μ-loop
 returns c =
-    let count-at = c .before .before .count-at in
+    let count-of = c .before .before .count-of in
     let loop = c .before .loop in (
-      gather-ends (loop .inv) (omega (arith, c .loop-test .left, count-at .ensures .0)),
-      (omega (arith, loop .inv .few, loop .inv .most, count-at .ensures .0, count-at .ensures .1), loop .inv .long),
+      gather-ends (loop .inv) (omega (arith, c .loop-test .left, count-of .ensures .0)),
+      (omega (arith, loop .inv .few, loop .inv .most, count-of .ensures .0, count-of .ensures .1), loop .inv .long),
     )
 
 pub gather-spec : {M : Type 1} → statement M
@@ -76,7 +75,7 @@ gather-spec =
     (tie.spec
     Inv-loop
     μ-loop
-    count-at-requires
+    count-of-requires
     loop-holds
     mul-places
     element-write-places

@@ -4,7 +4,6 @@ use lib.ListN.{length}
 use Rattle.rules.specs.Pool.{entriesAt}
 use Rattle.rules.specs.Layout.{read}
 use native.Mathlib.Omega.{arith}
-use Rattle.nodes.proofs.Slots.{some-within}
 use Rattle.search.proofs.Turns.{LeafWalk, leaf-begins, item-room, leaf-turn, leaf-ends}
 use Rattle.search.proofs.list_leaf.Statement.{statement}
 use Rattle.search.proofs.list_leaf.Tie as tie
@@ -15,8 +14,8 @@ Inv-loop pool window s items₀ done n next₀ i₀ items next i = LeafWalk pool
 abbrev μ-loop : tie.MeasureT-loop
 μ-loop pool window s items₀ done n next₀ i₀ items next i = n - i
 
-count-at-requires : tie.Need-count-at-requires Inv-loop μ-loop
-count-at-requires c κs = c .pre .0
+count-of-requires : tie.Need-count-of-requires Inv-loop μ-loop
+count-of-requires c κs = c .pre .0
 
 loop-holds : tie.Need-loop-holds Inv-loop μ-loop
 loop-holds c = leaf-begins (c .before .args .pool .now) (c .before .args .window) (c .before .args .s) (c .before .pre .1 .1)
@@ -24,19 +23,19 @@ loop-holds c = leaf-begins (c .before .args .pool .now) (c .before .args .window
 list-entry-requires : tie.Need-list-entry-requires Inv-loop μ-loop
 list-entry-requires c κs =
     let start = c .before .before .before .before in
-    let count-at = c .before .before .before .count-at in
+    let count-of = c .before .before .before .count-of in
     let loop = c .before .before .loop in
     let there : loop .i < length (entriesAt (read (start .args .pool .now)) (start .args .s)) =
-    omega (arith, c .before .loop-test .taken, count-at .ensures .0) in (
-      some-within (start .args .pool .now) (start .args .s) (loop .i) (start .pre .0) (start .pre .1 .0) there,
-      (there, item-room (start .args .pool .now) (start .args .window) (start .args .s) (loop .i) (loop .inv)),
+    omega (arith, c .before .loop-test .taken, count-of .ensures .0) in (
+      start .pre .0,
+      (start .pre .1 .0, (there, item-room (start .args .pool .now) (start .args .window) (start .args .s) (loop .i) (loop .inv))),
     )
 
 add-i : tie.Need-add-i Inv-loop μ-loop
 add-i c =
-    let count-at = c .before .before .before .before .before .count-at in
+    let count-of = c .before .before .before .before .before .count-of in
     let loop-test = c .before .before .before .loop-test in
-    record { fits = omega (arith, loop-test .taken, count-at .ensures .1) }
+    record { fits = omega (arith, loop-test .taken, count-of .ensures .1) }
 
 loop-less : tie.Need-loop-less Inv-loop μ-loop
 loop-less c = omega (arith, c .before .before .before .loop-test .taken)
@@ -44,11 +43,11 @@ loop-less c = omega (arith, c .before .before .before .loop-test .taken)
 loop-again : tie.Need-loop-again Inv-loop μ-loop
 loop-again c =
     let start = c .before .before .before .before .before .before in
-    let count-at = c .before .before .before .before .before .count-at in
+    let count-of = c .before .before .before .before .before .count-of in
     let loop = c .before .before .before .before .loop in
     let loop-test = c .before .before .before .loop-test in
     leaf-turn (start .args .pool .now) (start .args .window) (start .args .s) (loop .i) (loop .inv)
-    (omega (arith, loop-test .taken, count-at .ensures .0)) (c .before .list-entry .ensures)
+    (omega (arith, loop-test .taken, count-of .ensures .0)) (c .before .list-entry .ensures)
 
 add-opened : tie.Need-add-opened Inv-loop μ-loop
 add-opened c =
@@ -61,10 +60,10 @@ same-length c = c .before .before .loop .inv .long
 returns : tie.Need-returns Inv-loop μ-loop
 returns c =
     let start = c .before .before .before .before in
-    let count-at = c .before .before .before .count-at in
+    let count-of = c .before .before .before .count-of in
     let loop = c .before .before .loop in
     leaf-ends (start .args .pool .now) (start .args .window) (start .args .s) (loop .i) (loop .inv)
-    (omega (arith, c .before .loop-test .left, count-at .ensures .0))
+    (omega (arith, c .before .loop-test .left, count-of .ensures .0))
 
 pub list-leaf-spec : {M : Type 1} → statement M
 list-leaf-spec =
@@ -72,7 +71,7 @@ list-leaf-spec =
     (tie.spec
     Inv-loop
     μ-loop
-    count-at-requires
+    count-of-requires
     loop-holds
     list-entry-requires
     add-i

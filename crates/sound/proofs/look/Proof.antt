@@ -10,10 +10,11 @@ use Rattle.rules.specs.declared.Rect.{Rect}
 use Rattle.rules.specs.declared.Entry.{Entry}
 use Rattle.rules.specs.Lists.{every}
 use Rattle.rules.specs.Geometry.{valid}
-use Rattle.rules.specs.Pool.{entriesAt, coverOf}
+use Rattle.rules.specs.Pool.{noEntry, entriesAt, coverOf}
 use Rattle.rules.specs.Layout.{read}
 use Rattle.nodes.proofs.Covers.{ahead, step, last}
-use Rattle.sound.proofs.Looks.{uprightEntry, upright-at, plain-step, plain-end, plain-all, twice}
+use Rattle.sound.proofs.Everies.{asked-more, asked-end}
+use Rattle.sound.proofs.Looks.{uprightEntry, upright-at, plain-all, twice}
 use Rattle.sound.proofs.look.Statement.{statement}
 use Rattle.sound.proofs.look.Tie as tie
 
@@ -71,7 +72,8 @@ loop-again c =
     record {
       size = loop .inv .size;
       rest = rw (cover .ensures, rect-of2 .ensures) (sym next ∙ loop .inv .rest);
-      asked = plain-step es (loop .i) (loop .plain) (and .result) (c .and2 .result) here good (c .and2 .ensures) (loop .inv .asked);
+      asked = asked-more uprightEntry es (loop .i) (loop .plain) noEntry here (and .result) (c .and2 .result) good (c .and2 .ensures)
+          (loop .inv .asked);
     }
 
 returns : tie.Need-returns Inv-loop μ-loop
@@ -83,7 +85,7 @@ returns c =
     let es = entriesAt p (start .args .s) in
     let done : length es ≤ loop .i = omega (arith, loop-test .left, loop .inv .size) in
     let cover-is = sym (last es (loop .cover) (loop .i) done) ∙ loop .inv .rest in
-    let plain-is = plain-end es (loop .i) (loop .plain) done (loop .inv .asked) in
+    let plain-is = asked-end uprightEntry es (loop .i) (loop .plain) done (loop .inv .asked) in
     (cover-is, c .and3 .ensures ∙ ap₂ _&&_ plain-is (c .before .valid .ensures ∙ ap valid cover-is) ∙ plain-all es (start .pre .1))
 
 pub look-spec : {M : Type 1} → statement M

@@ -4,7 +4,7 @@ use Prim.Native.Nat.{ℕ}
 use lib.ListN.{length-replicate}
 use Rattle.rules.specs.Numbers.{mostSlots}
 use Rattle.rules_laws.proofs.Bools.{not-true, not-false}
-use Rattle.sound.proofs.Tops.{head-asks, head-refused, root-refused, rest-refused, records-last}
+use Rattle.sound.proofs.Tops.{head-asks, head-refused, root-refused, rest-refused, records-refused, owners-last}
 use borrow.Author.Needs.{needs}
 use Rattle.sound.proofs.sound.Statement.{statement}
 use Rattle.sound.proofs.sound.Tie as tie
@@ -48,18 +48,26 @@ returns-3 c =
 
 returns-4 : tie.Need-returns-4
 returns-4 c =
-    let start = c .before .before .before .before .before .before .before .before .before .before .before in
-    let head-sound = c .before .before .before .before .before .before .before .before .before .before .head-sound in
-    let if1 = c .before .before .before .before .before .before .before .before .before .if1 in
-    let height-of = c .before .before .before .before .before .before .before .height-of in
-    let root-of = c .before .before .before .before .before .before .root-of in
-    let root-sound = c .before .before .before .before .before .root-sound in
-    let if2 = c .before .before .before .before .if2 in
-    let rest-zero = c .before .before .rest-zero in
-    c .records-sound .ensures
-    ∙ records-last (start .args .pool .now) (start .pre) (sym (head-sound .ensures) ∙ not-false _ (if1 .left))
+    let start = c .before .before .before .before .before .before .before .before .before .before .before .before in
+    records-refused (start .args .pool .now) (start .pre) (sym (c .before .records-sound .ensures) ∙ not-true _ (c .if4 .taken))
+
+returns-5 : tie.Need-returns-5
+returns-5 c =
+    let start = c .before .before .before .before .before .before .before .before .before .before .before .before .before in
+    let head-sound = c .before .before .before .before .before .before .before .before .before .before .before .before .head-sound in
+    let if1 = c .before .before .before .before .before .before .before .before .before .before .before .if1 in
+    let height-of = c .before .before .before .before .before .before .before .before .before .height-of in
+    let root-of = c .before .before .before .before .before .before .before .before .root-of in
+    let root-sound = c .before .before .before .before .before .before .before .root-sound in
+    let if2 = c .before .before .before .before .before .before .if2 in
+    let rest-zero = c .before .before .before .before .rest-zero in
+    let if3 = c .before .before .before .if3 in
+    let records-sound = c .before .before .records-sound in
+    c .owners-sound .ensures
+    ∙ owners-last (start .args .pool .now) (start .pre) (sym (head-sound .ensures) ∙ not-false _ (if1 .left))
     (rw (height-of .ensures, root-of .ensures) at (root-sound .ensures)) (not-false _ (if2 .left))
-    (sym (rest-zero .ensures) ∙ not-false _ (c .before .if3 .left))
+    (sym (rest-zero .ensures) ∙ not-false _ (if3 .left))
+    (sym (records-sound .ensures) ∙ not-false _ (c .before .if4 .left))
 
 pub sound-spec : {M : Type 1} → statement M
 sound-spec =
@@ -74,4 +82,6 @@ sound-spec =
     rest-zero-requires
     returns-3
     (λ c κs. search needs)
-    returns-4)
+    returns-4
+    (λ c κs. search needs)
+    returns-5)

@@ -1,4 +1,4 @@
--- A leaf's pointers may be any words. Of an inner node each turn asks the next pointer, and what was asked so far goes on.
+-- A leaf's pointers may be any words. Of an inner node each turn asks the next entry, and what was asked so far goes on.
 use mathlib.Core.Path.{_≡_, sym, ap, _∙_}
 use mathlib.Core.Bool.{Bool, false, _&&_, and-assoc, and-true}
 use native.Mathlib.Omega.{arith}
@@ -11,14 +11,14 @@ use lib.ListN.{length, drop}
 use lib.IntN.{ℤ, pos}
 use lib.Signed.{leZ}
 use Rattle.rules.specs.declared.SlotNumber.{SlotNumber}
-use Rattle.rules.specs.Lists.{joined}
+use Rattle.rules.specs.Lists.{joined, same}
 use Rattle.rules.specs.Pool.{noEntry, nodeAt, entriesAt}
-use Rattle.rules.specs.Layout.{entrySize, slotHead, slotStart, entryPlace, pointerPlace, entryWords, wordAt, read}
-use Rattle.layout_laws.proofs.Parts.{few, room, slot-few}
+use Rattle.rules.specs.Layout.{editionOf, entrySize, slotHead, slotStart, entryPlace, pointerPlace, entryWords, wordAt, read}
+use Rattle.layout_laws.proofs.Parts.{slot-few}
 use Rattle.pool.specs.Standing.{stand}
 use Rattle.pool.proofs.Stand.{parts-end}
 use Rattle.layout_laws.proofs.Written.{entry-size}
-use Rattle.pool.proofs.Tidied.{leaf-entries, child-entries}
+use Rattle.pool.proofs.Tidied.{owned, leaf-entries, child-entries}
 use Rattle.pool.proofs.tidy.tidy_entries.Statement.{statement}
 use Rattle.pool.proofs.tidy.tidy_entries.Tie as tie
 
@@ -26,8 +26,8 @@ use Rattle.pool.proofs.tidy.tidy_entries.Tie as tie
 record Turn (w : List ℤ) (s : SlotNumber) (n : ℕ) (all : Bool) (i : ℕ) : Type 0 where
   size : n ≡ length (entriesAt (read w) s)
   inner : eqb (nodeAt (read w) s .level) 1 ≡ false
-  rest : (all && stand (joined (map entryWords (drop i (entriesAt (read w) s)))) w (entryPlace s i))
-      ≡ stand (joined (map entryWords (entriesAt (read w) s))) w (slotStart s + slotHead)
+  rest : (all && stand (joined (map (entryWords (editionOf w)) (drop i (entriesAt (read w) s)))) w (entryPlace (editionOf w) s i))
+      ≡ stand (joined (map (entryWords (editionOf w)) (entriesAt (read w) s))) w (slotStart (editionOf w) s + slotHead)
 
 abbrev Inv-loop : tie.InvT-loop
 Inv-loop pool s n all₀ i₀ all i = Turn pool s n all i
@@ -56,36 +56,29 @@ loop-holds c =
     record {
       size = c .count-of .ensures .0;
       inner = ne-eqb (nodeAt (read w) (s .args .s) .level) 1 (λ e. c .before .if1 .left (level ∙ e));
-      rest = ap (stand (joined (map entryWords es)) w) (omega arith);
+      rest = ap (stand (joined (map (entryWords (editionOf w)) es)) w) (omega arith);
     }
 
-pointer-place-requires : tie.Need-pointer-place-requires Inv-loop μ-loop
-pointer-place-requires c κs =
+tidy-inner-requires : tie.Need-tidy-inner-requires Inv-loop μ-loop
+tidy-inner-requires c κs =
     let i = c .before .before .before .before .before .pre in
-    ((i .low, few i), omega (arith, slot-few i, c .loop-test .taken, c .before .loop .inv .size))
-
-at-least-requires : tie.Need-at-least-requires Inv-loop μ-loop
-at-least-requires c κs =
-    let i = c .before .before .before .before .before .before .pre in
-    let l = c .before .before .loop in
-    omega (arith, room i, c .pointer-place .ensures, slot-few i, c .before .loop-test .taken, l .inv .size)
+    (i, omega (arith, slot-few i, c .loop-test .taken, c .before .loop .inv .size))
 
 loop-again : tie.Need-loop-again Inv-loop μ-loop
 loop-again c =
-    let start = c .before .before .before .before .before .before .before .before in
-    let loop = c .before .before .before .before .loop in
-    let loop-test = c .before .before .before .loop-test in
-    let pointer-place = c .before .before .pointer-place in
+    let loop-test = c .before .before in
+    let loop = loop-test .before .loop in
+    let start = loop-test .before .before .before .before .before in
     let w = start .args .pool .now in
     let s = start .args .s in
-    let here : loop .i < length (entriesAt (read w) s) = omega (arith, loop-test .taken, loop .inv .size) in
-    let rest = stand (joined (map entryWords (drop (loop .i + 1) (entriesAt (read w) s)))) w (entryPlace s (loop .i + 1)) in
-    let asked = rw (pointer-place .ensures) at (c .before .at-least .ensures) in
+    let here : loop .i < length (entriesAt (read w) s) = omega (arith, loop-test .loop-test .taken, loop .inv .size) in
+    let rest = stand (joined (map (entryWords (editionOf w)) (drop (loop .i + 1) (entriesAt (read w) s)))) w (entryPlace (editionOf w) s (loop .i + 1)) in
+    let inner = leZ (pos 0) (wordAt w (pointerPlace (editionOf w) s (loop .i))) && same (pos 0) (owned (start .pre) (loop .i)) in
     record {
       size = loop .inv .size;
       inner = loop .inv .inner;
-      rest = ap (λ (b : Bool). b && rest) (c .and .ensures ∙ ap (λ (b : Bool). loop .all && b) asked)
-          ∙ and-assoc (loop .all) (leZ (pos 0) (wordAt w (pointerPlace s (loop .i)))) rest
+      rest = ap (λ (b : Bool). b && rest) (c .and .ensures ∙ ap (λ (b : Bool). loop .all && b) (c .before .tidy-inner .ensures))
+          ∙ and-assoc (loop .all) inner rest
           ∙ ap (λ (b : Bool). loop .all && b) (sym (child-entries (start .pre) (loop .i) here (loop .inv .inner)))
           ∙ loop .inv .rest;
     }
@@ -98,7 +91,7 @@ returns-2 c =
     let s = start .args .s in
     sym (and-true (loop .all))
     ∙ ap (λ (b : Bool). loop .all && b)
-    (sym (parts-end entrySize entryWords entry-size w (slotStart s + slotHead) noEntry (entriesAt (read w) s) (loop .i)
+    (sym (parts-end (entrySize (editionOf w)) (entryWords (editionOf w)) (entry-size (editionOf w)) w (slotStart (editionOf w) s + slotHead) noEntry (entriesAt (read w) s) (loop .i)
     (omega (arith, c .loop-test .left, loop .inv .size))))
     ∙ loop .inv .rest
 
@@ -112,8 +105,7 @@ tidy-entries-spec =
     returns
     count-of-requires
     loop-holds
-    pointer-place-requires
-    at-least-requires
+    tidy-inner-requires
     (λ c κs. search needs)
     (λ c. search needs)
     (λ c. search needs)

@@ -1,20 +1,20 @@
 use mathlib.Core.Path.{ap₂, _∙_}
 use mathlib.Core.Bool.{_&&_}
 use native.Mathlib.Omega.{arith}
-use Rattle.layout_laws.proofs.Parts.{few, room}
+use Rattle.layout_laws.proofs.Parts.{room}
 use Rattle.pool.proofs.Tidied.{slot-stands}
 use borrow.Author.Needs.{needs}
 use Rattle.pool.proofs.tidy.tidy_slot.Statement.{statement}
 use Rattle.pool.proofs.tidy.tidy_slot.Tie as tie
 
 slot-start-requires : tie.Need-slot-start-requires
-slot-start-requires c κs = (c .pre .low, few (c .pre))
+slot-start-requires c κs = c .pre
 
 at-least-requires : tie.Need-at-least-requires
 at-least-requires c κs = omega (arith, room (c .before .pre), c .slot-start .ensures)
 
 count-place-requires : tie.Need-count-place-requires
-count-place-requires c κs = let i = c .before .before .pre in (i .low, few i)
+count-place-requires c κs = c .before .before .pre
 
 tidy-count-requires : tie.Need-tidy-count-requires
 tidy-count-requires c κs =

@@ -1,0 +1,54 @@
+-- The items of the owner, an item at a time.
+use Prim.Native.Nat.{_-_}
+use native.Mathlib.Omega.{arith}
+use Rattle.rules.specs.Owners.{ownedBy}
+use Rattle.search.proofs.Keeping.{Keeping, keeping-first, next-movable, keeping-next, kept-all}
+use Rattle.search.proofs.keep_owned.Statement.{statement}
+use Rattle.search.proofs.keep_owned.Tie as tie
+
+abbrev Inv-loop : tie.InvT-loop
+Inv-loop pool owner items₀ n count₀ at₀ items count at = Keeping pool (ownedBy owner) items₀ items n count at
+
+abbrev μ-loop : tie.MeasureT-loop
+μ-loop pool owner items₀ n count₀ at₀ items count at = n - at
+
+loop-holds : tie.Need-loop-holds Inv-loop μ-loop
+loop-holds c = keeping-first (c .args .pool .now) (ownedBy (c .args .owner)) (c .args .items .now) (c .args .n)
+
+keep-own-item-requires : tie.Need-keep-own-item-requires Inv-loop μ-loop
+keep-own-item-requires c κs =
+    let start = c .before .before .before in
+    let loop = c .before .before .loop in
+    (start .pre .0, next-movable (loop .inv) (c .before .loop-test .taken) (start .pre .1 .1) (start .pre .1 .0))
+
+add-at : tie.Need-add-at Inv-loop μ-loop
+add-at c = record { fits = omega (arith, c .before .before .before .loop-test .taken, c .before .before .before .before .before .pre .1 .0) }
+
+loop-less : tie.Need-loop-less Inv-loop μ-loop
+loop-less c = omega (arith, c .before .before .before .loop-test .taken)
+
+loop-again : tie.Need-loop-again Inv-loop μ-loop
+loop-again c =
+    let start = c .before .before .before .before .before in
+    let loop = c .before .before .before .before .loop in
+    keeping-next (loop .inv) (c .before .before .before .loop-test .taken) (start .pre .1 .1) (c .before .keep-own-item .ensures)
+
+same-length : tie.Need-same-length Inv-loop μ-loop
+same-length c = c .before .loop .inv .long
+
+returns : tie.Need-returns Inv-loop μ-loop
+returns c = kept-all (c .before .loop .inv) (c .loop-test .left)
+
+pub keep-owned-spec : {M : Type 1} → statement M
+keep-owned-spec =
+    tie.close
+    (tie.spec
+    Inv-loop
+    μ-loop
+    loop-holds
+    keep-own-item-requires
+    add-at
+    loop-less
+    loop-again
+    same-length
+    returns)
