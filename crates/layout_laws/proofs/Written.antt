@@ -11,12 +11,13 @@ use lib.Dec.{eqb}
 use lib.IntN.{ℤ, pos}
 use Rattle.rules.specs.declared.Edition.{Edition}
 use Rattle.rules.specs.declared.Edition.the-variants.{One, Two}
+use Rattle.rules.specs.declared.RecordNumber.{RecordNumber}
 use Rattle.rules.specs.declared.SlotNumber.{SlotNumber}
 use Rattle.rules.specs.declared.Pointer.{Pointer}
 use Rattle.rules.specs.declared.Pointer.the-variants.{Number, Child}
 use Rattle.rules.specs.declared.Entry.{Entry}
 use Rattle.rules.specs.Lists.{joined}
-use Rattle.rules.specs.Pool.{Node, Pool, slot, number, node, noEntry, nodeAt, childOf, isLeaf, putNode, putRoot, putRecords}
+use Rattle.rules.specs.Pool.{Node, Pool, slot, number, node, noEntry, nodeAt, childOf, numberOf, isLeaf, putNode, putRoot, putRecords}
 use Rattle.rules.specs.Numbers.{most}
 use Rattle.rules.specs.Lists.{same}
 use Rattle.rules.specs.Owners.{editionNumber, owner}
@@ -341,6 +342,13 @@ child-is e n z q h = ap slot h ∙ sym (ap child-of q)
   where
     child-of : Pointer → SlotNumber
     child-of = elim [ Number m o ↦ slot 0 | Child s ↦ s ]
+
+pub number-of-word : (e : Entry) (z o : ℤ) → e .pointer ≡ Number (number z) (owner o) → number z ≡ numberOf e
+unfolding numberOf
+number-of-word e z o q = sym (ap number-of q)
+  where
+    number-of : Pointer → RecordNumber
+    number-of = elim [ Number m o ↦ m | Child s ↦ number (pos 0) ]
 
 pub leaf-not : (n : Node) → isLeaf n ≡ false → eqb (n .level) 1 ≡ false
 unfolding isLeaf

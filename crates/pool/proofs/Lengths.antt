@@ -12,7 +12,7 @@ use Rattle.rules.specs.declared.Edition.{Edition}
 use Rattle.rules.specs.declared.Edition.the-variants.{One, Two}
 use Rattle.rules.specs.declared.SlotNumber.{SlotNumber}
 use Rattle.rules.specs.Numbers.{most, mostSlots}
-use Rattle.rules.specs.Layout.{headSize, entrySize, slotSize, slotStart, slotsIn, validSize, editionOf, slotCount, validLength}
+use Rattle.rules.specs.Layout.{headSize, entrySize, slotSize, slotStart, entryPlace, slotsIn, validSize, editionOf, slotCount, validLength}
 use Rattle.layout_laws.specs.Slots.{InPool}
 use Rattle.layout_laws.proofs.Parts.{sized, right-size, few}
 
@@ -56,9 +56,13 @@ pub entry-few : (e : Edition) → entrySize e ≤ 6
 entry-few One = omega arith
 entry-few Two = omega arith
 
-entries-few : (e : Edition) (i : ℕ) → i ≤ most → entrySize e * i ≤ 48
+pub entries-few : (e : Edition) (i : ℕ) → i ≤ most → entrySize e * i ≤ 48
 entries-few One i h = omega arith
 entries-few Two i h = omega arith
+
+-- .. where an entry's words begin
+pub spot-few : (e : Edition) (s : SlotNumber) (i : ℕ) → s .0 ≤ mostSlots → i ≤ most → entryPlace e s i ≤ 204858
+spot-few e s i few h = omega (arith, size-few e (s .0 - 1) (omega arith), entries-few e i h)
 
 -- .. of a pool's own edition
 module _ (w : List ℤ) where

@@ -92,12 +92,20 @@ pub fn slot_size(edition: Edition) -> usize
 }
 
 // "Slot s (from 1) takes 42 words from word 8 + 42(s - 1)", the first of them its level; in edition 2, 50 words.
+fn start_in(edition: Edition, s: SlotNumber) -> usize
+    requires { ⌜ (1 ≤ s .0) × (s .0 ≤ mostSlots) ⌝ }
+    ensures { λ r. ⌜ r ≡ L.slotStart edition s ⌝ }
+{
+    let n = s.0;
+    HEAD_SIZE + slot_size(edition) * (n - 1)
+}
+
+// .. in a pool, by its own edition.
 fn slot_start(pool: &[i32], s: SlotNumber) -> usize
     requires { ⌜ InPool (now pool) s ⌝ }
     ensures { λ r. ⌜ r ≡ L.slotStart (L.editionOf (now (pool .entry))) s ⌝ }
 {
-    let n = s.0;
-    HEAD_SIZE + slot_size(edition_of(pool)) * (n - 1)
+    start_in(edition_of(pool), s)
 }
 
 // Where the count of its entries stands.
@@ -109,12 +117,21 @@ fn count_place(pool: &[i32], s: SlotNumber) -> usize
 }
 
 // Where the words of the entry at place i of slot s begin, its rectangle first.
+pub fn spot_in(edition: Edition, s: SlotNumber, i: usize) -> usize
+    requires { ⌜ (1 ≤ s .0) × (s .0 ≤ mostSlots) ⌝ }
+    requires { ⌜ i < most ⌝ }
+    ensures { λ r. ⌜ r ≡ L.entryPlace edition s i ⌝ }
+{
+    start_in(edition, s) + SLOT_HEAD + entry_size(edition) * i
+}
+
+// .. in a pool, by its own edition.
 pub fn spot(pool: &[i32], s: SlotNumber, i: usize) -> usize
     requires { ⌜ InPool (now pool) s ⌝ }
     requires { ⌜ i < most ⌝ }
     ensures { λ r. ⌜ r ≡ L.entryPlace (L.editionOf (now (pool .entry))) s i ⌝ }
 {
-    slot_start(pool, s) + SLOT_HEAD + entry_size(edition_of(pool)) * i
+    spot_in(edition_of(pool), s, i)
 }
 
 // Where the pointer of that entry stands.
@@ -266,22 +283,42 @@ pub fn records_of(pool: &[i32]) -> usize
 
 // ---- a slot read
 
+// Where what is read takes the edition, the caller has read it already: once for a pool that is not written to meanwhile. In a function for each case of
+// the edition, called with that case, the compiler knows how many words an entry has.
+
 // 0 is free, 1 a leaf.
+pub fn level_in(pool: &[i32], edition: Edition, s: SlotNumber) -> usize
+    requires { ⌜ InPool (now pool) s ⌝ }
+    requires { ⌜ edition ≡ L.editionOf (now pool) ⌝ }
+    ensures { λ r. ⌜ r ≡ P.nodeAt (L.read (now (pool .entry))) s .level ⌝ }
+{
+    number_at(pool, start_in(edition, s))
+}
+
 pub fn level_of(pool: &[i32], s: SlotNumber) -> usize
     requires { ⌜ InPool (now pool) s ⌝ }
     ensures { λ r. ⌜ r ≡ P.nodeAt (L.read (now (pool .entry))) s .level ⌝ }
 {
-    number_at(pool, slot_start(pool, s))
+    level_in(pool, edition_of(pool), s)
 }
 
 // How many entries are in use.
+pub fn count_in(pool: &[i32], edition: Edition, s: SlotNumber) -> usize
+    requires { ⌜ InPool (now pool) s ⌝ }
+    requires { ⌜ edition ≡ L.editionOf (now pool) ⌝ }
+    ensures is { λ r. ⌜ r ≡ length (P.entriesAt (L.read (now (pool .entry))) s) ⌝ }
+    ensures most { λ r. ⌜ r ≤ most ⌝ }
+{
+    let n = number_at(pool, start_in(edition, s) + 1);
+    if n < MOST { n } else { MOST }
+}
+
 pub fn count_of(pool: &[i32], s: SlotNumber) -> usize
     requires { ⌜ InPool (now pool) s ⌝ }
     ensures is { λ r. ⌜ r ≡ length (P.entriesAt (L.read (now (pool .entry))) s) ⌝ }
     ensures most { λ r. ⌜ r ≤ most ⌝ }
 {
-    let n = number_at(pool, count_place(pool, s));
-    if n < MOST { n } else { MOST }
+    count_in(pool, edition_of(pool), s)
 }
 
 // The rectangle whose words begin at a place.
@@ -302,12 +339,21 @@ pub fn rect_at(pool: &[i32], at: usize) -> Rect
 }
 
 // The rectangle of the entry at place i.
+pub fn rect_in(pool: &[i32], edition: Edition, s: SlotNumber, i: usize) -> Rect
+    requires { ⌜ InPool (now pool) s ⌝ }
+    requires { ⌜ edition ≡ L.editionOf (now pool) ⌝ }
+    requires { ⌜ i < length (P.entriesAt (L.read (now pool)) s) ⌝ }
+    ensures { λ r. ⌜ r ≡ rectFrom (P.rects (P.entriesAt (L.read (now (pool .entry))) s)) i ⌝ }
+{
+    rect_at(pool, spot_in(edition, s, i))
+}
+
 pub fn rect_of(pool: &[i32], s: SlotNumber, i: usize) -> Rect
     requires { ⌜ InPool (now pool) s ⌝ }
     requires { ⌜ i < length (P.entriesAt (L.read (now pool)) s) ⌝ }
     ensures { λ r. ⌜ r ≡ rectFrom (P.rects (P.entriesAt (L.read (now (pool .entry))) s)) i ⌝ }
 {
-    rect_at(pool, spot(pool, s, i))
+    rect_in(pool, edition_of(pool), s, i)
 }
 
 // The owner of an entry whose words begin at a place; an entry of edition 1 has none, 0.
@@ -357,13 +403,34 @@ pub fn entry_of(pool: &[i32], s: SlotNumber, i: usize) -> Entry
 }
 
 // The child that entry i of an inner node leads to.
+pub fn child_in(pool: &[i32], edition: Edition, s: SlotNumber, i: usize) -> SlotNumber
+    requires { ⌜ InPool (now pool) s ⌝ }
+    requires { ⌜ edition ≡ L.editionOf (now pool) ⌝ }
+    requires { ⌜ i < length (P.entriesAt (L.read (now pool)) s) ⌝ }
+    requires { ⌜ P.isLeaf (P.nodeAt (L.read (now pool)) s) ≡ false ⌝ }
+    ensures { λ r. ⌜ r ≡ P.childOf (P.entryAt (L.read (now (pool .entry))) s i) ⌝ }
+{
+    SlotNumber(number_at(pool, spot_in(edition, s, i) + RECT_SIZE))
+}
+
 pub fn child_of(pool: &[i32], s: SlotNumber, i: usize) -> SlotNumber
     requires { ⌜ InPool (now pool) s ⌝ }
     requires { ⌜ i < length (P.entriesAt (L.read (now pool)) s) ⌝ }
     requires { ⌜ P.isLeaf (P.nodeAt (L.read (now pool)) s) ≡ false ⌝ }
     ensures { λ r. ⌜ r ≡ P.childOf (P.entryAt (L.read (now (pool .entry))) s i) ⌝ }
 {
-    SlotNumber(number_at(pool, pointer_place(pool, s, i)))
+    child_in(pool, edition_of(pool), s, i)
+}
+
+// The number of the record that entry i of a leaf is.
+pub fn number_in(pool: &[i32], edition: Edition, s: SlotNumber, i: usize) -> RecordNumber
+    requires { ⌜ InPool (now pool) s ⌝ }
+    requires { ⌜ edition ≡ L.editionOf (now pool) ⌝ }
+    requires { ⌜ i < length (P.entriesAt (L.read (now pool)) s) ⌝ }
+    requires { ⌜ P.nodeAt (L.read (now pool)) s .level ≡ 1 ⌝ }
+    ensures { λ r. ⌜ r ≡ P.numberOf (P.entryAt (L.read (now (pool .entry))) s i) ⌝ }
+{
+    RecordNumber(word(pool, spot_in(edition, s, i) + RECT_SIZE))
 }
 
 // An entry whose words are all zero.

@@ -1,17 +1,15 @@
-use mathlib.Core.Path.{sym}
-use native.Mathlib.Omega.{arith}
-use Rattle.layout_laws.proofs.Parts.{room, slot-level}
+use Rattle.pool.proofs.Lengths.{some-word}
 use Rattle.pool.proofs.level_of.Statement.{statement}
 use Rattle.pool.proofs.level_of.Tie as tie
 
-slot-start-requires : tie.Need-slot-start-requires
-slot-start-requires c κs = c .pre
+edition-of-requires : tie.Need-edition-of-requires
+edition-of-requires c κs = some-word (c .args .pool .now) (c .pre .right)
 
-number-at-requires : tie.Need-number-at-requires
-number-at-requires c κs = omega (arith, room (c .before .pre), c .slot-start .ensures)
+level-in-requires : tie.Need-level-in-requires
+level-in-requires c κs = (c .before .pre, c .edition-of .ensures)
 
 returns : tie.Need-returns
-returns c = rw (c .number-at .ensures, c .before .slot-start .ensures) (sym (slot-level (c .before .before .pre)))
+returns c = c .level-in .ensures
 
 pub level-of-spec : {M : Type 1} → statement M
-level-of-spec = tie.close (tie.spec slot-start-requires number-at-requires returns)
+level-of-spec = tie.close (tie.spec edition-of-requires level-in-requires returns)

@@ -1,28 +1,15 @@
-use native.Mathlib.Omega.{arith}
-use mathlib.Core.Path.{ap, _∙_}
-use Prim.Native.Nat.{ℕ}
-use lib.ListN.{drop}
-use Rattle.rules.specs.Layout.{rectOf}
-use Rattle.layout_laws.proofs.Parts.{slot-few}
-use Rattle.pool.proofs.Stores.{spot-inside, spot-rect}
+use Rattle.pool.proofs.Lengths.{some-word}
 use Rattle.pool.proofs.rect_of.Statement.{statement}
 use Rattle.pool.proofs.rect_of.Tie as tie
 
-spot-requires : tie.Need-spot-requires
-spot-requires c κs = let i = c .pre .0 in (i, omega (arith, slot-few i, c .pre .1))
+edition-of-requires : tie.Need-edition-of-requires
+edition-of-requires c κs = some-word (c .args .pool .now) (c .pre .0 .right)
 
-rect-at-requires : tie.Need-rect-at-requires
-rect-at-requires c κs =
-    let start = c .before in
-    let i = start .pre .0 in
-    omega (arith, c .spot .ensures, spot-inside i (start .args .i) (omega (arith, slot-few i, start .pre .1)))
+rect-in-requires : tie.Need-rect-in-requires
+rect-in-requires c κs = (c .before .pre .0, (c .edition-of .ensures, c .before .pre .1))
 
 returns : tie.Need-returns
-returns c =
-    let start = c .before .before in
-    c .rect-at .ensures
-    ∙ ap (λ (k : ℕ). rectOf (drop k (start .args .pool .now))) (c .before .spot .ensures)
-    ∙ spot-rect (start .pre .0) (start .args .i) (start .pre .1)
+returns c = c .rect-in .ensures
 
 pub rect-of-spec : {M : Type 1} → statement M
-rect-of-spec = tie.close (tie.spec spot-requires rect-at-requires returns)
+rect-of-spec = tie.close (tie.spec edition-of-requires rect-in-requires returns)
