@@ -12,7 +12,7 @@ ghost use Rattle.rules.specs.Owners as O;
 ghost use Rattle.rules.specs.Layout as L;
 ghost use Rattle.rules.specs.Call as C;
 ghost use Rattle.found_items.specs.Items.{shownFrom, Pointing};
-ghost use Rattle.promises.specs.Calls.{lent};
+ghost use Rattle.promises.specs.Calls.{lent, left, Allowed};
 ghost use Rattle.batch.specs.Batching.{refusalOf, Begun, stepOf, batchOf, Batched};
 use free_slots::FreeSlots;
 use request::Served;
@@ -188,4 +188,27 @@ pub fn serve(
         answers[place] = answer;
         p = t.next;
     }
+}
+
+// One call: a batch of an owner over lent lists. For any input at all, the number, the pool, the workspace, the answers and the found list
+// are those that the definition `call` gives.
+pub fn one_call(
+    pool: &mut [i32],
+    work: &mut [i32],
+    requests: &[Request],
+    answers: &mut [Answer],
+    found: &mut [FoundRecord],
+    owner: i32,
+) -> i32
+    ensures { λ r. ⌜ Allowed (lent (O.owner owner) (now (pool .entry)) (now (work .entry)) (now (requests .entry)) (now (answers .entry)) (now (found .entry))) (left r (now (pool .exit)) (now (work .exit)) (now (answers .exit)) (now (found .exit))) ⌝ }
+{
+    let all = all_asked(requests);
+    let n = refusal(pool, owner, work.len(), requests.len(), answers.len(), all);
+    if n != 0 {
+        return n;
+    }
+    serve(pool, work, requests, answers, found, owner);
+    // "On return 0 the workspace equals the pool."
+    pool::copy(pool, work);
+    0
 }

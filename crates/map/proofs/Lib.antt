@@ -1,3 +1,2 @@
 -- Laws that the proofs of `map` cite.
-pub mod Calls
 pub mod Editions

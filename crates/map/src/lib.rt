@@ -85,15 +85,7 @@ pub extern "C" fn dustmap_call_as(
 ) -> i32
     ensures { λ r. ⌜ Allowed (lent (O.owner owner) (now (pool .entry)) (now (work .entry)) (now (requests .entry)) (now (answers .entry)) (now (found .entry))) (left r (now (pool .exit)) (now (work .exit)) (now (answers .exit)) (now (found .exit))) ⌝ }
 {
-    let all = batch::all_asked(requests);
-    let n = batch::refusal(pool, owner, work.len(), requests.len(), answers.len(), all);
-    if n != 0 {
-        return n;
-    }
-    batch::serve(pool, work, requests, answers, found, owner);
-    // "On return 0 the workspace equals the pool."
-    pool::copy(pool, work);
-    0
+    batch::one_call(pool, work, requests, answers, found, owner)
 }
 
 // .. of owner 1.
@@ -107,7 +99,7 @@ pub extern "C" fn dustmap_call(
 ) -> i32
     ensures { λ r. ⌜ Allowed (lent (O.owner (pos 1)) (now (pool .entry)) (now (work .entry)) (now (requests .entry)) (now (answers .entry)) (now (found .entry))) (left r (now (pool .exit)) (now (work .exit)) (now (answers .exit)) (now (found .exit))) ⌝ }
 {
-    dustmap_call_as(pool, work, requests, answers, found, 1)
+    batch::one_call(pool, work, requests, answers, found, 1)
 }
 
 // The file of the map, at the front of a lent buffer, and how many bytes it has. Beside a refusal the buffer stays and the length is 0.

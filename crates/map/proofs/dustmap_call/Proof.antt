@@ -54,10 +54,10 @@ use Rattle.rules.proofs.FoundRecord as F
 use Rattle.rules.specs.Owners.{owner}
 use Rattle.rules.specs.Call.{Lent}
 use Rattle.promises.specs.Calls.{lent as lentOf, left, Allowed}
-use Rattle.map.proofs.dustmap_call_as as call-as
-use Rattle.map.proofs.dustmap_call_as.Symbol as call-as-def
-use Rattle.map.proofs.dustmap_call_as.Symbol.{name as #map·dustmap-call-as}
-use Rattle.map.proofs.dustmap_call_as.Met as call-as-thm
+use Rattle.batch.proofs.one_call as one-call
+use Rattle.batch.proofs.one_call.Symbol as one-call-def
+use Rattle.batch.proofs.one_call.Symbol.{name as #batch·one-call}
+use Rattle.batch.proofs.one_call.Met as one-call-thm
 use Rattle.map.proofs.dustmap_call.Key.{name as #map·dustmap-call}
 use Rattle.map.proofs.dustmap_call as dustmap-call′
 use Rattle.map.proofs.dustmap_call.Statement as stated
@@ -83,8 +83,8 @@ stayed = (
 )
 
 -- the contracts that the proof cites
-abbrev CallAsC : {M : Type 1} (𝓤 : URA M) (H : Heap 𝓤) (A : Atoms 𝓤) (mem : Memory → SProp 𝓤) (run : Routine → Fun 𝓤) → Contract 𝓤
-CallAsC 𝓤 H A mem run = promised 𝓤 H A call-as.ended (call-as.clauses 𝓤 H A mem run)
+abbrev OneCallC : {M : Type 1} (𝓤 : URA M) (H : Heap 𝓤) (A : Atoms 𝓤) (mem : Memory → SProp 𝓤) (run : Routine → Fun 𝓤) → Contract 𝓤
+OneCallC 𝓤 H A mem run = promised 𝓤 H A one-call.ended (one-call.clauses 𝓤 H A mem run)
 
 abbrev word : Ty
 word = tyInt w64
@@ -190,7 +190,7 @@ module _ {M : Type 1} (𝓤 : URA M) (H : Heap 𝓤) (A : Atoms 𝓤) (W : Given
       fjoin ! $ move ! (2 ∷ 0 ∷ []) $ fjoin ! $ move ! (1 ∷ 0 ∷ []) $ fjoin ! $ has-i32 ! z fits $ move ! (1 ∷ 0 ∷ []) $ done !
 
   module _ (𝓣 : Tables 𝓤 H)
-      (known-call-as : Triple 𝓤 (𝓣 .C #map·dustmap-call-as) (CallAsC 𝓤 H A mem run)) where
+      (known-one-call : Triple 𝓤 (𝓣 .C #batch·one-call) (OneCallC 𝓤 H A mem run)) where
     module _ (l₀ l₁ l₂ l₃ l₄ l₅ l₆ l₇ l₈ l₉ l₁₀ l₁₁ l₁₂ l₁₃ : ℕ) where
       -- the locals: the type of each, and where it lies
       abbrev E : Env 𝓤 H
@@ -203,10 +203,10 @@ module _ {M : Type 1} (𝓤 : URA M) (H : Heap 𝓤) (A : Atoms 𝓤) (W : Given
       abbrev holding : List (ℕ × Val) → List (Item 𝓤)
       holding vs = locals E ((1, sp) ∷ (2, sw) ∷ (3, sq) ∷ (4, sr) ∷ (5, sf) ∷ vs)
 
-      -- the call, as owner 1
+      -- the call
       calls-it : Sq W (lists ps ws rs fs ++ holding ((7, sp) ∷ (9, sw) ∷ (11, sr) ∷ (13, sf) ∷ [])) (runs (𝓣 .C) (𝓣 .Λ) E mir.t-9 (atRet E Post))
       calls-it =
-          -- dustmap_call_as(pool, work, requests, answers, found, 1)
+          -- one_call(pool, work, requests, answers, found, ..)
           lent ! tt i32 (named 0) (named 0) bp op γp ps (λ ν δ.
           move ! (3 ∷ 4 ∷ []) $
           lent ! tt i32 (named 1) (named 1) bw ow γw ws (λ ν′ δ′.
@@ -217,7 +217,7 @@ module _ {M : Type 1} (𝓤 : URA M) (H : Heap 𝓤) (A : Atoms 𝓤) (W : Given
           move ! (12 ∷ 13 ∷ []) $
           lent ! tt F.the-row (named 4) (named 4) bf of γf fs (λ ν′′′ δ′′′.
           move ! (11 ∷ 8 ∷ 14 ∷ 3 ∷ 0 ∷ 12 ∷ 9 ∷ 6 ∷ 4 ∷ 1 ∷ []) $
-          calls ! (fmOf 𝓤 H (W .laws) 𝓣) 10 call-as.ended (call-as.clauses 𝓤 H A mem run) known-call-as (
+          calls ! (fmOf 𝓤 H (W .laws) 𝓣) 10 one-call.ended (one-call.clauses 𝓤 H A mem run) known-one-call (
             (ν ∷ [], (ν′ ∷ [], (κq, (ν′′ ∷ [], (ν′′′ ∷ [], tt))))),
             (fullShare, (fullShare, (πq, (fullShare, (fullShare, tt))))),
             tt,
@@ -297,9 +297,9 @@ module _ {M : Type 1} (𝓤 : URA M) (H : Heap 𝓤) (A : Atoms 𝓤) (W : Given
 
 module _ {M : Type 1} (𝓤 : URA M) (H : Heap 𝓤) (A : Atoms 𝓤) (W : Given 𝓤 H A) (mem : Memory → SProp 𝓤) (run : Routine → Fun 𝓤) where
   -- the walk, whatever the caller passes
-  dustmap-call-walks : (𝓣 : Tables 𝓤 H) → Triple 𝓤 (𝓣 .C #map·dustmap-call-as) (CallAsC 𝓤 H A mem run) → Walks 𝓤 H A dustmap-call′.ended stayed
+  dustmap-call-walks : (𝓣 : Tables 𝓤 H) → Triple 𝓤 (𝓣 .C #batch·one-call) (OneCallC 𝓤 H A mem run) → Walks 𝓤 H A dustmap-call′.ended stayed
       (WpFn 𝓤 H (𝓣 .C) (𝓣 .Λ) code.function) (dustmap-call′.clauses 𝓤 H A mem run)
-  dustmap-call-walks 𝓣 known-call-as =
+  dustmap-call-walks 𝓣 known-one-call =
       walked 𝓤 H A dustmap-call′.ended stayed (dustmap-call′.clauses 𝓤 H A mem run) (WpFn 𝓤 H (𝓣 .C) (𝓣 .Λ) code.function)
       (λ κs. (slice-vals, (slice-vals, (slice-vals, (slice-vals, (slice-vals, tt))))))
       (λ κs. (
@@ -323,13 +323,13 @@ module _ {M : Type 1} (𝓤 : URA M) (H : Heap 𝓤) (A : Atoms 𝓤) (W : Given
       (given .1 .0 .ptr .0) (given .1 .0 .ptr .1) (given .1 .0 .name) (given .1 .0 .now) (given .1 .1 .0 .ptr .0) (given .1 .1 .0 .ptr .1)
       (given .1 .1 .0 .name) (given .1 .1 .0 .now) (given .1 .1 .1 .0 .ptr .0) (given .1 .1 .1 .0 .ptr .1) (given .1 .1 .1 .0 .name)
       (given .1 .1 .1 .0 .now) (given .1 .1 .1 .1 .0 .ptr .0) (given .1 .1 .1 .1 .0 .ptr .1) (given .1 .1 .1 .1 .0 .name) (given .1 .1 .1 .1 .0 .now)
-      (are .0 .0 .1) (are .1 .0 .0 .1) (are .1 .1 .0 .0 .1) (are .1 .1 .1 .0 .0 .1) (are .1 .1 .1 .1 .0 .0 .1) 𝓣 known-call-as))
+      (are .0 .0 .1) (are .1 .0 .0 .1) (are .1 .1 .0 .0 .1) (are .1 .1 .1 .0 .0 .1) (are .1 .1 .1 .1 .0 .0 .1) 𝓣 known-one-call))
 
 -- what is had at exit gives what the contract says
 dustmap-call-meets : {M : Type 1} (𝓤 : URA M) (H : Heap 𝓤) (A : Atoms 𝓤) → Given 𝓤 H A → (mem : Memory → SProp 𝓤) (run : Routine → Fun 𝓤)
-    (𝓣 : Tables 𝓤 H) → Triple 𝓤 (𝓣 .C #map·dustmap-call-as) (CallAsC 𝓤 H A mem run) → Meets 𝓤 H A dustmap-call′.signature
+    (𝓣 : Tables 𝓤 H) → Triple 𝓤 (𝓣 .C #batch·one-call) (OneCallC 𝓤 H A mem run) → Meets 𝓤 H A dustmap-call′.signature
     (WpFn 𝓤 H (𝓣 .C) (𝓣 .Λ) code.function) (dustmap-call′.spec 𝓤 H A mem run)
-dustmap-call-meets 𝓤 H A W mem run 𝓣 known-call-as =
+dustmap-call-meets 𝓤 H A W mem run 𝓣 known-one-call =
     walk-meets 𝓤 H A dustmap-call′.ended stayed W (
       goes-slice 𝓤 H A W 5 0 tt (plain (λ _. i32)),
       (
@@ -347,7 +347,7 @@ dustmap-call-meets 𝓤 H A W mem run 𝓣 known-call-as =
       ),
     )
     (dustmap-call′.clauses 𝓤 H A mem run) (WpFn 𝓤 H (𝓣 .C) (𝓣 .Λ) code.function) (WpFn-mono 𝓤 H (W .laws) 𝓣 code.function)
-    (dustmap-call-walks 𝓤 H A W mem run 𝓣 known-call-as)
+    (dustmap-call-walks 𝓤 H A W mem run 𝓣 known-one-call)
 
 -- the statement
 pub dustmap-call-spec : {M : Type 1} → stated.statement M
@@ -356,5 +356,5 @@ dustmap-call-spec 𝓤 H 𝓜 𝓖 𝓡 =
     entered 𝓤 H (tripleOf 𝓤 H (𝓖 .A) dustmap-call′.signature (dustmap-call′.spec 𝓤 H (𝓖 .A) (𝓜 .mem) (𝓡 .run)))
     (tables 𝓤 H 𝓜 𝓡 code.env .C) (tables 𝓤 H 𝓜 𝓡 code.env .Λ) #map·dustmap-call code.function (code.unfolded 𝓤 H 𝓜 𝓡)
     (dustmap-call-meets 𝓤 H (𝓖 .A) (givenOf 𝓤 H 𝓜 𝓖) (𝓜 .mem) (𝓡 .run) (tablesOf 𝓤 H 𝓜 (tables 𝓤 H 𝓜 𝓡 code.env))
-    (cited 𝓤 H (CallAsC 𝓤 H (𝓖 .A) (𝓜 .mem) (𝓡 .run)) 𝓜 𝓡 code.env #map·dustmap-call-as call-as-def.routine code.calls-map·dustmap-call-as
-    (call-as-thm.met 𝓤 H 𝓜 𝓖 𝓡)))
+    (cited 𝓤 H (OneCallC 𝓤 H (𝓖 .A) (𝓜 .mem) (𝓡 .run)) 𝓜 𝓡 code.env #batch·one-call one-call-def.routine code.calls-batch·one-call
+    (one-call-thm.met 𝓤 H 𝓜 𝓖 𝓡)))
