@@ -42,18 +42,46 @@ pub struct Walked {
 // ---- one node
 
 // How far the next place moves on at the entry at place i: by 1 where it meets the window, "touching counts", otherwise not.
-fn met(pool: &[i32], window: Rect, s: SlotNumber, i: usize) -> usize
+fn met(pool: &[i32], edition: Edition, window: Rect, s: SlotNumber, i: usize) -> usize
     requires { ⌜ InPool (now pool) s ⌝ }
+    requires { ⌜ edition ≡ L.editionOf (now pool) ⌝ }
     requires { ⌜ i < length (P.entriesAt (L.read (now pool)) s) ⌝ }
     ensures is { λ r. ⌜ r ≡ cond (meetsAt (L.read (now (pool .entry))) window s i) 1 0 ⌝ }
     ensures most { λ r. ⌜ r ≤ 1 ⌝ }
 {
-    let r = pool::rect_of(pool, s, i);
+    let r = pool::rect_in(pool, edition, s, i);
     one_if(geometry::is_meeting(geometry::compare(r, window)))
 }
 
 // The places of the entries that meet the window, one after another, and how many they are. Every place is written down, and kept where its
 // entry meets the window; otherwise the next is written over it.
+fn gather_in(
+    pool: &[i32],
+    edition: Edition,
+    window: Rect,
+    s: SlotNumber,
+    places: &mut [usize; MOST],
+) -> usize
+    requires { ⌜ InPool (now pool) s ⌝ }
+    requires { ⌜ edition ≡ L.editionOf (now pool) ⌝ }
+    requires { ⌜ length (now places) ≡ most ⌝ }
+    ensures is { λ r. ⌜ take r (now (places .exit)) ≡ meetingPlaces (L.read (now (pool .entry))) window s ⌝ }
+    ensures most { λ r. ⌜ r ≤ most ⌝ }
+    ensures long { λ _. ⌜ length (now (places .exit)) ≡ most ⌝ }
+{
+    let n = pool::count_in(pool, edition, s);
+    let mut count: usize = 0;
+    let mut i: usize = 0;
+    while i < n {
+        places[count] = i;
+        count += met(pool, edition, window, s, i);
+        i += 1;
+    }
+    count
+}
+
+// .. in a pool, by its own edition, which is read once for the node. Each case is written out: in each arm the compiler knows how many words an
+// entry has, and unrolls the loop.
 fn gather(pool: &[i32], window: Rect, s: SlotNumber, places: &mut [usize; MOST]) -> usize
     requires { ⌜ InPool (now pool) s ⌝ }
     requires { ⌜ length (now places) ≡ most ⌝ }
@@ -61,21 +89,17 @@ fn gather(pool: &[i32], window: Rect, s: SlotNumber, places: &mut [usize; MOST])
     ensures most { λ r. ⌜ r ≤ most ⌝ }
     ensures long { λ _. ⌜ length (now (places .exit)) ≡ most ⌝ }
 {
-    let n = pool::count_of(pool, s);
-    let mut count: usize = 0;
-    let mut i: usize = 0;
-    while i < n {
-        places[count] = i;
-        count += met(pool, window, s, i);
-        i += 1;
+    match pool::edition_of(pool) {
+        Edition::One => gather_in(pool, Edition::One, window, s, places),
+        Edition::Two => gather_in(pool, Edition::Two, window, s, places),
     }
-    count
 }
 
 // The item of the leaf's entry at place i is written at the next place, and kept where the entry meets the window; otherwise the next item is
 // written over it. What comes back is the place after the items that are kept.
 fn list_entry(
     pool: &[i32],
+    edition: Edition,
     window: Rect,
     s: SlotNumber,
     i: usize,
@@ -83,33 +107,55 @@ fn list_entry(
     next: usize,
 ) -> usize
     requires { ⌜ InPool (now pool) s ⌝ }
+    requires { ⌜ edition ≡ L.editionOf (now pool) ⌝ }
     requires { ⌜ P.nodeAt (L.read (now pool)) s .level ≡ 1 ⌝ }
     requires { ⌜ i < length (P.entriesAt (L.read (now pool)) s) ⌝ }
     requires { ⌜ 2 * next + 2 ≤ length (now items) ⌝ }
     ensures { λ r. ⌜ Went (now (pool .entry)) (now (items .entry)) (now (items .exit)) (walked next 0) (walked r 0) (foundAt (L.read (now (pool .entry))) window s i) 0 ⌝ }
 {
-    let number = nodes::number_at(pool, s, i);
-    let spot = pool::spot(pool, s, i);
+    let number = pool::number_in(pool, edition, s, i);
+    let spot = pool::spot_in(edition, s, i);
     found_items::put_item(items, next, number, spot);
-    next + met(pool, window, s, i)
+    next + met(pool, edition, window, s, i)
 }
 
 // The records that search finds in the leaf at s become items, and the leaf is counted.
+fn list_leaf_in(
+    pool: &[i32],
+    edition: Edition,
+    window: Rect,
+    s: SlotNumber,
+    items: &mut [i32],
+    done: Walked,
+) -> Walked
+    requires { ⌜ InPool (now pool) s ⌝ }
+    requires { ⌜ edition ≡ L.editionOf (now pool) ⌝ }
+    requires { ⌜ P.nodeAt (L.read (now pool)) s .level ≡ 1 ⌝ }
+    requires { ⌜ ItemRoom (now items) done (F.foundIn (L.read (now pool)) M.Meeting window 1 s) 1 ⌝ }
+    ensures { λ r. ⌜ Went (now (pool .entry)) (now (items .entry)) (now (items .exit)) done r (F.foundIn (L.read (now (pool .entry))) M.Meeting window 1 s) 1 ⌝ }
+{
+    let n = pool::count_in(pool, edition, s);
+    let mut next = done.next;
+    let mut i: usize = 0;
+    while i < n {
+        next = list_entry(pool, edition, window, s, i, items, next);
+        i += 1;
+    }
+    let opened = done.opened + 1;
+    Walked { next, opened }
+}
+
+// .. in a pool, by its own edition, each case written out as in `gather`.
 fn list_leaf(pool: &[i32], window: Rect, s: SlotNumber, items: &mut [i32], done: Walked) -> Walked
     requires { ⌜ InPool (now pool) s ⌝ }
     requires { ⌜ P.nodeAt (L.read (now pool)) s .level ≡ 1 ⌝ }
     requires { ⌜ ItemRoom (now items) done (F.foundIn (L.read (now pool)) M.Meeting window 1 s) 1 ⌝ }
     ensures { λ r. ⌜ Went (now (pool .entry)) (now (items .entry)) (now (items .exit)) done r (F.foundIn (L.read (now (pool .entry))) M.Meeting window 1 s) 1 ⌝ }
 {
-    let n = pool::count_of(pool, s);
-    let mut next = done.next;
-    let mut i: usize = 0;
-    while i < n {
-        next = list_entry(pool, window, s, i, items, next);
-        i += 1;
+    match pool::edition_of(pool) {
+        Edition::One => list_leaf_in(pool, Edition::One, window, s, items, done),
+        Edition::Two => list_leaf_in(pool, Edition::Two, window, s, items, done),
     }
-    let opened = done.opened + 1;
-    Walked { next, opened }
 }
 
 // ---- the walk

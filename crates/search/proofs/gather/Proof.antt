@@ -1,87 +1,33 @@
--- The places gathered, an entry at a time.
-use Prim.Native.Nat.{_-_, _<_}
-use lib.ListN.{length}
-use Rattle.rules.specs.Pool.{entriesAt}
-use Rattle.rules.specs.Layout.{read}
-use mathlib.Core.Path.{refl}
-use native.Mathlib.Omega.{arith}
-use Rattle.search.proofs.Turns.{Gathered, gather-turn, gather-ends}
+-- Each arm of the match is the pool's own edition.
+use mathlib.Core.Path.{sym, _∙_}
+use Rattle.pool.proofs.Lengths.{some-word}
+use borrow.Author.Needs.{needs}
 use Rattle.search.proofs.gather.Statement.{statement}
 use Rattle.search.proofs.gather.Tie as tie
 
-abbrev Inv-loop : tie.InvT-loop
-Inv-loop pool window s places₀ n count₀ i₀ places count i = Gathered pool window s places count i
+edition-of-requires : tie.Need-edition-of-requires
+edition-of-requires c κs = some-word (c .args .pool .now) (c .pre .0 .right)
 
-abbrev μ-loop : tie.MeasureT-loop
-μ-loop pool window s places₀ n count₀ i₀ places count i = n - i
+gather-in-requires : tie.Need-gather-in-requires
+gather-in-requires c κs =
+    let start = c .before .before .before .before in
+    let is = sym (c .before .enum-told .given .1) ∙ c .before .before .before .edition-of .ensures in
+    (start .pre .0, (is, start .pre .1))
 
-count-of-requires : tie.Need-count-of-requires Inv-loop μ-loop
-count-of-requires c κs = c .pre .0
-
-loop-holds : tie.Need-loop-holds Inv-loop μ-loop
-loop-holds c = record { few = omega arith; most = omega arith; long = c .before .pre .1; are = refl }
-
-mul-places : tie.Need-mul-places Inv-loop μ-loop
-mul-places c =
-    let count-of = c .before .before .count-of in
-    let loop = c .before .loop in
-    record { fits = omega (arith, loop .inv .few, loop .inv .most, count-of .ensures .0, count-of .ensures .1) }
-
-element-write-places : tie.Need-element-write-places Inv-loop μ-loop
-element-write-places c =
-    let count-of = c .before .before .count-of in
-    let loop = c .before .loop in
-    omega (arith, loop .inv .few, loop .inv .long, c .loop-test .taken, count-of .ensures .1)
-
-met-requires : tie.Need-met-requires Inv-loop μ-loop
-met-requires c κs =
-    let start = c .before .before .before in
-    let count-of = c .before .before .count-of in
-    let loop = c .before .loop in
-    let there : loop .i < length (entriesAt (read (start .args .pool .now)) (start .args .s)) =
-    omega (arith, c .loop-test .taken, count-of .ensures .0) in
-    (start .pre .0, there)
-
-add-count : tie.Need-add-count Inv-loop μ-loop
-add-count c =
-    let count-of = c .before .before .before .count-of in
-    let loop = c .before .before .loop in
-    record { fits = omega (arith, loop .inv .few, c .before .loop-test .taken, count-of .ensures .1, c .met .ensures .1) }
-
-add-i : tie.Need-add-i Inv-loop μ-loop
-add-i c = record { fits = omega (arith, c .before .loop-test .taken, c .before .before .before .count-of .ensures .1) }
-
-loop-less : tie.Need-loop-less Inv-loop μ-loop
-loop-less c = omega (arith, c .before .loop-test .taken)
-
-loop-again : tie.Need-loop-again Inv-loop μ-loop
-loop-again c =
-    let count-of = c .before .before .before .count-of in
-    let loop = c .before .before .loop in
-    gather-turn (loop .inv) (c .met .result) (omega (arith, c .before .loop-test .taken, count-of .ensures .0))
-    (omega (arith, count-of .ensures .0, count-of .ensures .1)) (c .met .ensures .0) (c .met .ensures .1)
-
-returns : tie.Need-returns Inv-loop μ-loop
-returns c =
-    let count-of = c .before .before .count-of in
-    let loop = c .before .loop in (
-      gather-ends (loop .inv) (omega (arith, c .loop-test .left, count-of .ensures .0)),
-      (omega (arith, loop .inv .few, loop .inv .most, count-of .ensures .0, count-of .ensures .1), loop .inv .long),
-    )
+gather-in-requires-2 : tie.Need-gather-in-requires-2
+gather-in-requires-2 c κs =
+    let start = c .before .before .before .before in
+    let is = sym (c .before .enum-told2 .given .1) ∙ c .before .before .before .edition-of .ensures in
+    (start .pre .0, (is, start .pre .1))
 
 pub gather-spec : {M : Type 1} → statement M
 gather-spec =
     tie.close
     (tie.spec
-    Inv-loop
-    μ-loop
-    count-of-requires
-    loop-holds
-    mul-places
-    element-write-places
-    met-requires
-    add-count
-    add-i
-    loop-less
-    loop-again
-    returns)
+    edition-of-requires
+    (λ c. search needs)
+    gather-in-requires
+    (λ c. search needs)
+    gather-in-requires-2
+    (λ c. search needs)
+    (λ c. search needs))

@@ -9,13 +9,13 @@ use Rattle.search.proofs.met.Tie as tie
 returns : tie.Need-returns
 returns c =
     let start = c .before .before .before .before in
-    let rect-of = c .before .before .before .rect-of in
+    let rect-in = c .before .before .before .rect-in in
     let compare = c .before .before .compare in
     let is-meeting = c .before .is-meeting in (
       c .one-if .ensures .0
           ∙ sym (ap (λ (t : Bool). cond t 1 0)
-          (met-is (read (start .args .pool .now)) (start .args .window) (start .args .s) (start .args .i) (rect-of .result) (is-meeting .result)
-          (rect-of .ensures) (rw (compare .ensures) at (is-meeting .ensures)))),
+          (met-is (read (start .args .pool .now)) (start .args .window) (start .args .s) (start .args .i) (rect-in .result) (is-meeting .result)
+          (rect-in .ensures) (rw (compare .ensures) at (is-meeting .ensures)))),
       c .one-if .ensures .1,
     )
 
