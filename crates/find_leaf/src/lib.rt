@@ -15,6 +15,7 @@ ghost use Rattle.find_leaf.specs.Ways.{Gives};
 ghost use Rattle.find_leaf.specs.Packed.{bitsBelow, packedWay};
 ghost use Rattle.find_leaf.specs.State.{hasNumber, HitsOf};
 use geometry::one_if;
+use rules::Edition;
 use rules::MOST;
 use rules::MOST_HEIGHT;
 use rules::Record;
@@ -70,24 +71,40 @@ fn place_in(w: usize, level: usize) -> usize
 
 // Whether some entry of the leaf at s has the number. All are looked at and nothing branches on one: a branch that the processor guesses
 // wrong costs more than the comparisons that it would save.
-fn has_number(pool: &[i32], s: SlotNumber, k: RecordNumber) -> bool
+fn has_number_in(pool: &[i32], edition: Edition, s: SlotNumber, k: RecordNumber) -> bool
     requires { ⌜ InPool (now pool) s ⌝ }
+    requires { ⌜ edition ≡ L.editionOf (now pool) ⌝ }
+    requires { ⌜ P.nodeAt (L.read (now pool)) s .level ≡ 1 ⌝ }
     ensures { λ b. ⌜ b ≡ oneOf (hasNumber k) (P.entriesAt (L.read (now (pool .entry))) s) ⌝ }
 {
-    let n = pool::count_of(pool, s);
+    let n = pool::count_in(pool, edition, s);
     let mut any = false;
     let mut i: usize = 0;
     while i < n {
-        let m = nodes::number_at(pool, s, i);
+        let m = pool::number_in(pool, edition, s, i);
         any = any | geometry::same(k.0, m.0);
         i += 1;
     }
     any
 }
 
+// .. in a pool, by its own edition, which is read once for the leaf. Each case is written out: in each arm the compiler knows how many words an
+// entry has, and unrolls the loop.
+fn has_number(pool: &[i32], s: SlotNumber, k: RecordNumber) -> bool
+    requires { ⌜ InPool (now pool) s ⌝ }
+    requires { ⌜ P.nodeAt (L.read (now pool)) s .level ≡ 1 ⌝ }
+    ensures { λ b. ⌜ b ≡ oneOf (hasNumber k) (P.entriesAt (L.read (now (pool .entry))) s) ⌝ }
+{
+    match pool::edition_of(pool) {
+        Edition::One => has_number_in(pool, Edition::One, s, k),
+        Edition::Two => has_number_in(pool, Edition::Two, s, k),
+    }
+}
+
 // The first of its entries that is the pair. Most leaves have no entry of the number.
 fn find_entry(pool: &[i32], r: Record, s: SlotNumber) -> usize
     requires { ⌜ InPool (now pool) s ⌝ }
+    requires { ⌜ P.nodeAt (L.read (now pool)) s .level ≡ 1 ⌝ }
     ensures { λ w. ⌜ w ≡ packedWay (D.findLeaf (L.read (now (pool .entry))) r 1 s) ⌝ }
 {
     if !has_number(pool, s, r.number) {
@@ -111,20 +128,39 @@ fn find_entry(pool: &[i32], r: Record, s: SlotNumber) -> usize
 // them means nothing. Each place is written down, and the next goes over one that does not hold it: so nothing branches on the outcome,
 // which the processor would often guess wrong. Of the comparison only this half is asked: a rectangle with no low above its high meets what it
 // lies in.
+fn put_hits_in(
+    pool: &[i32],
+    edition: Edition,
+    s: SlotNumber,
+    r: Rect,
+    places: &mut [usize; MOST],
+) -> usize
+    requires { ⌜ InPool (now pool) s ⌝ }
+    requires { ⌜ edition ≡ L.editionOf (now pool) ⌝ }
+    requires { ⌜ length (now places) ≡ most ⌝ }
+    ensures { λ n. ⌜ HitsOf (L.read (now (pool .entry))) s r (now (places .exit)) n ⌝ }
+{
+    let n = pool::count_in(pool, edition, s);
+    let mut count: usize = 0;
+    let mut i: usize = 0;
+    while i < n {
+        places[count] = i;
+        count += one_if(geometry::lies_in(r, pool::rect_in(pool, edition, s, i)));
+        i += 1;
+    }
+    count
+}
+
+// .. in a pool, by its own edition, each case written out as in `has_number`.
 fn put_hits(pool: &[i32], s: SlotNumber, r: Rect, places: &mut [usize; MOST]) -> usize
     requires { ⌜ InPool (now pool) s ⌝ }
     requires { ⌜ length (now places) ≡ most ⌝ }
     ensures { λ n. ⌜ HitsOf (L.read (now (pool .entry))) s r (now (places .exit)) n ⌝ }
 {
-    let n = pool::count_of(pool, s);
-    let mut count: usize = 0;
-    let mut i: usize = 0;
-    while i < n {
-        places[count] = i;
-        count += one_if(geometry::lies_in(r, pool::rect_of(pool, s, i)));
-        i += 1;
+    match pool::edition_of(pool) {
+        Edition::One => put_hits_in(pool, Edition::One, s, r, places),
+        Edition::Two => put_hits_in(pool, Edition::Two, s, r, places),
     }
-    count
 }
 
 // FindLeaf from the node at s down, which has the level given: "FindLeaf visits children in stored order". It goes only below entries that

@@ -53,7 +53,10 @@ find-in-find-entry-requires : (t : ℕ)
     → find-in-lts.Need-find-entry-requires (find-in-calls t) (find-in-at t) find-in.Post find-in-Inv-loop find-in-μ-loop
 find-in-find-entry-requires t c κs =
     let start = c .before in
-    tree-in (start .args .pool .now) (start .args .level) (start .args .s) (start .pre .1 .0) (start .pre .1 .1 .0)
+    let tree = start .pre .1 .1 .0 in (
+      tree-in (start .args .pool .now) (start .args .level) (start .args .s) (start .pre .1 .0) tree,
+      tree-node (read (start .args .pool .now)) (start .args .level) (start .args .s) tree .level ∙ c .if1 .taken,
+    )
 
 find-in-returns : (t : ℕ) → find-in-lts.Need-returns (find-in-calls t) (find-in-at t) find-in.Post find-in-Inv-loop find-in-μ-loop
 find-in-returns t c = rw (c .before .if1 .taken) (c .find-entry .ensures)

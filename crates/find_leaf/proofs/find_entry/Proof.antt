@@ -24,7 +24,7 @@ returns c =
     (sym (c .before .has-number .ensures) ∙ not-true _ (c .if1 .taken))
 
 count-of-requires : tie.Need-count-of-requires Inv-loop μ-loop
-count-of-requires c κs = c .before .before .pre
+count-of-requires c κs = c .before .before .pre .0
 
 loop-holds : tie.Need-loop-holds Inv-loop μ-loop
 loop-holds c =
@@ -35,7 +35,7 @@ loop-holds c =
 entry-of-requires : tie.Need-entry-of-requires Inv-loop μ-loop
 entry-of-requires c κs =
     let start = c .before .before .before .before .before in
-    (start .pre, omega (arith, c .loop-test .taken, c .before .loop .inv .size))
+    (start .pre .0, omega (arith, c .loop-test .taken, c .before .loop .inv .size))
 
 record-of-requires : tie.Need-record-of-requires Inv-loop μ-loop
 record-of-requires c κs = tt

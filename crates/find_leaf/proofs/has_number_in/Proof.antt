@@ -9,23 +9,25 @@ use Rattle.rules.specs.Pool.{entryAt, entriesAt}
 use Rattle.rules.specs.Layout.{read}
 use Rattle.find_leaf.specs.State.{hasNumber}
 use Rattle.find_leaf.proofs.Leaf.{Looked, look-on, looked-all}
-use Rattle.find_leaf.proofs.has_number.Statement.{statement}
-use Rattle.find_leaf.proofs.has_number.Tie as tie
+use Rattle.find_leaf.proofs.has_number_in.Statement.{statement}
+use Rattle.find_leaf.proofs.has_number_in.Tie as tie
 
 abbrev Inv-loop : tie.InvT-loop
-Inv-loop pool s k n any₀ i₀ any i = Looked (hasNumber k) (entriesAt (read pool) s) n any i
+Inv-loop pool edition s k n any₀ i₀ any i = Looked (hasNumber k) (entriesAt (read pool) s) n any i
 
 abbrev μ-loop : tie.MeasureT-loop
-μ-loop pool s k n any₀ i₀ any i = n - i
+μ-loop pool edition s k n any₀ i₀ any i = n - i
 
-count-of-requires : tie.Need-count-of-requires Inv-loop μ-loop
-count-of-requires c κs = c .pre
+count-in-requires : tie.Need-count-in-requires Inv-loop μ-loop
+count-in-requires c κs = (c .pre .0, c .pre .1 .0)
 
 loop-holds : tie.Need-loop-holds Inv-loop μ-loop
-loop-holds c = record { size = c .count-of .ensures .0; few = c .count-of .ensures .1; is = refl }
+loop-holds c = record { size = c .count-in .ensures .0; few = c .count-in .ensures .1; is = refl }
 
-number-at-requires : tie.Need-number-at-requires Inv-loop μ-loop
-number-at-requires c κs = (c .before .before .before .pre .right, omega (arith, c .loop-test .taken, c .before .loop .inv .size))
+number-in-requires : tie.Need-number-in-requires Inv-loop μ-loop
+number-in-requires c κs =
+    let start = c .before .before .before in
+    (start .pre .0, (start .pre .1 .0, (omega (arith, c .loop-test .taken, c .before .loop .inv .size), start .pre .1 .1)))
 
 same-requires : tie.Need-same-requires Inv-loop μ-loop
 same-requires c κs = tt
@@ -47,28 +49,28 @@ loop-again c =
     let start = c .before .before .before .before .before .before .before in
     let loop = c .before .before .before .before .before .loop in
     let loop-test = c .before .before .before .before .loop-test in
-    let number-at = c .before .before .before .number-at in
+    let number-in = c .before .before .before .number-in in
     let struct-told = c .before .before .struct-told in
     look-on (loop .inv) (loop-test .taken) (c .same .result)
     (rw (
       c .same .ensures,
       toZ-ofZ {w = w32} {z = start .args .k .0} (sfits-of (struct-told .given .0 .1)),
-      toZ-ofZ {w = w32} {z = number-at .result .0} (sfits-of (c .before .struct-told2 .given .0 .1)),
-      number-at .ensures,
+      toZ-ofZ {w = w32} {z = number-in .result .0} (sfits-of (c .before .struct-told2 .given .0 .1)),
+      number-in .ensures,
     ) refl)
 
 returns : tie.Need-returns Inv-loop μ-loop
 returns c = looked-all (c .before .loop .inv) (c .loop-test .left)
 
-pub has-number-spec : {M : Type 1} → statement M
-has-number-spec =
+pub has-number-in-spec : {M : Type 1} → statement M
+has-number-in-spec =
     tie.close
     (tie.spec
     Inv-loop
     μ-loop
-    count-of-requires
+    count-in-requires
     loop-holds
-    number-at-requires
+    number-in-requires
     same-requires
     add-i
     loop-less
