@@ -2,15 +2,17 @@
 -- of places. What is written and the zeros are two parts of known lengths, so a store lies in one of them, or goes over the first zeros.
 use mathlib.Core.Path.{_≡_, sym, ap, ap₂, _∙_}
 use mathlib.Core.List.{List, [], _∷_, _++_, map, map-append, append-assoc}
-use Prim.Native.Nat.{ℕ, suc, _+_, _*_, _-_, _≤_, _<_}
-use native.Mathlib.Nat.{mul-suc, mul-comm, mul-add}
+use Prim.Native.Nat.{ℕ, zero, suc, _+_, _*_, _-_, _≤_, _<_}
+use native.Mathlib.Nat.{mul-zero, mul-suc, mul-comm, mul-add}
 use native.Mathlib.Omega.{arith}
-use lib.ListN.{length, getD, set, take, length-append, length-take, length-map, length-set, length-replicate}
-use lib.Seq.{sets, take-append-add}
+use lib.ListN.{length, getD, set, take, drop, length-append, length-take, length-map, length-set, length-replicate, replicate-append-replicate}
+use lib.Seq.{sets, take-at, drop-at, take-append-add}
 use lib.IntN.{ℤ, pos}
-use Rattle.rules.specs.Lists.{joined}
+use Rattle.rules.specs.Lists.{joined, without}
 use Rattle.rules.specs.Layout.{padded, runs}
-use Rattle.layout_laws.proofs.Runs.{zeros, take-zeros, over-zeros, wide-at, map-wide, map-set, length-parts, joined-snoc, runs-joined, take-runs, sets-right, sets-left, sets-all, sets-joined}
+use Rattle.rules_laws.proofs.Parts.{length-without}
+use Rattle.layout_laws.proofs.Runs.{zeros, take-zeros, over-zeros, wide-at, map-wide, map-set, length-parts, joined-snoc, runs-joined}
+use Rattle.layout_laws.proofs.Runs.{take-runs, shifted, shifted-right, sets-right, sets-left, sets-all, sets-joined}
 
 -- a place of so many ends before all of them do
 place-inside : (k i n : ℕ) → i < n → k * i + k ≤ k * n
@@ -99,3 +101,42 @@ module _ {A : Type 0} (k m : ℕ) (f : A → List ℤ) (wide : (x : A) → lengt
       ∙ sym (append-assoc ws vs (zeros left))
       ∙ ap (λ (r : List ℤ). r ++ zeros left) (sym (joined-snoc (map f xs) vs) ∙ ap joined (sym (map-append f xs (x ∷ []))))
       ∙ sym (placed-is (xs ++ x ∷ []) (omega (arith, long)))
+
+  -- the words of the n that are after place i go down by a place, whatever follows them
+  closed-up : (xs : List A) (i n : ℕ) (zs : List ℤ) → length xs ≡ i + suc n
+      → shifted (joined (map f xs) ++ zs) (k * i) k (k * n) ≡ joined (map f (without i xs)) ++ (zeros k ++ zs)
+  unfolding joined without
+  closed-up [] i n zs h = absurd (omega arith)
+  closed-up (x ∷ xs) zero n zs h =
+      let js = joined (map f xs) in
+      let first : k * 0 ≡ 0 = mul-zero k in
+      let second : k * 0 + k ≡ k = omega (arith, first) in
+      let many : length xs ≡ n = omega arith in
+      let size : length js ≡ k * n = length-parts k f wide xs ∙ ap (λ (j : ℕ). k * j) many in
+      let all : length (js ++ zeros k) ≡ length (f x ++ js) =
+      omega (arith, length-append js (zeros k), length-append (f x) js, wide x, length-replicate k (pos 0)) in
+      let later : drop (k * 0 + k) ((f x ++ js) ++ zs) ≡ js ++ zs =
+      ap₂ (λ (a : ℕ) (r : List ℤ). drop a r) second (append-assoc (f x) js zs) ∙ drop-at (f x) (js ++ zs) k (wide x) in
+      ap₂ (λ (a : ℕ) (r : List ℤ). sets ((f x ++ js) ++ zs) a (r ++ zeros k)) first (ap (take (k * n)) later ∙ take-at js zs (k * n) size)
+      ∙ sets-left (js ++ zeros k) (f x ++ js) zs 0 (omega (arith, all))
+      ∙ ap (λ (r : List ℤ). r ++ zs) (sets-all (f x ++ js) (js ++ zeros k) all)
+      ∙ append-assoc js (zeros k) zs
+  closed-up (x ∷ xs) (suc i) n zs h =
+      let js = joined (map f xs) in
+      let here : k * suc i ≡ length (f x) + k * i = omega (arith, wide x, mul-suc k i) in
+      ap₂ (λ (ws : List ℤ) (a : ℕ). shifted ws a k (k * n)) (append-assoc (f x) js zs) here
+      ∙ shifted-right (f x) (js ++ zs) (k * i) k (k * n)
+      ∙ ap (λ (r : List ℤ). f x ++ r) (closed-up xs i n zs (omega arith))
+      ∙ sym (append-assoc (f x) (joined (map f (without i xs))) (zeros k ++ zs))
+
+  -- one of them taken out: the words of the n after it go down by a place
+  pub placed-less : (xs : List A) (i n : ℕ) → length xs ≡ i + suc n → length xs ≤ m → shifted (placed xs) (k * i) k (k * n) ≡ placed (without i xs)
+  placed-less xs i n h few =
+      let rest = without i xs in
+      let long = length-without xs i (omega arith) in
+      let more : k + unplaced xs ≡ unplaced rest =
+      sym (place-less k m (length rest) (omega (arith, long)) ∙ ap (λ (j : ℕ). k + k * (m - j)) long) in
+      ap (λ (ws : List ℤ). shifted ws (k * i) k (k * n)) (placed-is xs few)
+      ∙ closed-up xs i n (zeros (unplaced xs)) h
+      ∙ ap (λ (r : List ℤ). joined (map f rest) ++ r) (replicate-append-replicate k (unplaced xs) (pos 0) ∙ ap zeros more)
+      ∙ sym (placed-is rest (omega (arith, long)))

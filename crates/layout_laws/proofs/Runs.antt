@@ -1,13 +1,13 @@
--- Lists of a width, one after another, over any width: read apart again, and a store in one of them. Over any list: a run of stores, and
--- zeros.
+-- Lists of a width, one after another, over any width: read apart again, and a store in one of them. Over any list: a run of stores,
+-- zeros, and words moved down.
 use mathlib.Core.Path.{_≡_, refl, sym, ap, ap₂, _∙_}
 use mathlib.Core.List.{List, [], _∷_, _++_, map, append-assoc, append-nil}
-use Prim.Native.Nat.{ℕ, zero, suc, _+_, _*_, _≤_, _<_}
+use Prim.Native.Nat.{ℕ, zero, suc, _+_, _*_, _-_, _≤_, _<_}
 use native.Mathlib.Nat.{add-zero, add-suc, suc-add, mul-zero, mul-suc}
 use native.Mathlib.Numerals.{towards-suc}
 use native.Mathlib.Omega.{arith}
-use lib.ListN.{length, getD, set, take, drop, replicate, length-append, length-map, length-replicate, replicate-append-replicate}
-use lib.Seq.{sets, length-sets, set-append-left, take-at, drop-at}
+use lib.ListN.{length, getD, set, take, drop, replicate, length-append, length-map, length-replicate, length-take, length-drop, replicate-append-replicate}
+use lib.Seq.{sets, length-sets, length-take-le, set-append-left, set-set, set-comm, getD-set-other, take-at, drop-at, take-suc, take-append-le, drop-append-le, drop-append-add}
 use lib.IntN.{ℤ, pos}
 use Rattle.rules.specs.Lists.{joined}
 use Rattle.rules.specs.Layout.{runs}
@@ -44,6 +44,35 @@ module _ {A : Type 0} where
   sets-more [] us l i = ap (λ (n : ℕ). sets l n us) (add-zero i)
   sets-more (v ∷ vs) us l i = ap (λ (n : ℕ). sets (sets (set l i v) (suc i) vs) n us) (omega arith) ∙ sets-more vs us (set l i v) (suc i)
 
+  -- a run, one more of it
+  pub sets-taken : (l vs : List A) (i j : ℕ) (d : A) → j < length vs → set (sets l i (take j vs)) (i + j) (getD vs j d) ≡ sets l i (take (suc j) vs)
+  sets-taken l vs i j d h =
+      let size : j ≡ length (take j vs) = sym (length-take-le j vs (omega arith)) in
+      ap (λ (n : ℕ). set (sets l i (take j vs)) (i + n) (getD vs j d)) size
+      ∙ sets-more (take j vs) (getD vs j d ∷ []) l i
+      ∙ ap (sets l i) (sym (take-suc vs j d h))
+
+  -- a store before a run
+  set-early : (vs l : List A) (i j : ℕ) (a : A) → j < i → set (sets l i vs) j a ≡ sets (set l j a) i vs
+  set-early [] l i j a h = refl
+  set-early (v ∷ vs) l i j a h =
+      set-early vs (set l i v) (suc i) j a (omega arith) ∙ ap (λ (x : List A). sets x (suc i) vs) (set-comm l i j v a (λ e. omega arith))
+
+  -- others over the first of a run
+  pub sets-over : (us vs rest l : List A) (i : ℕ) → length us ≡ length vs → sets (sets l i (us ++ rest)) i vs ≡ sets l i (vs ++ rest)
+  sets-over [] [] rest l i e = refl
+  sets-over [] (v ∷ vs) rest l i e = absurd (omega arith)
+  sets-over (u ∷ us) [] rest l i e = absurd (omega arith)
+  sets-over (u ∷ us) (v ∷ vs) rest l i e =
+      ap (λ (x : List A). sets x (suc i) vs)
+      (set-early (us ++ rest) (set l i u) (suc i) i v (omega arith) ∙ ap (λ (x : List A). sets x (suc i) (us ++ rest)) (set-set l i u v))
+      ∙ sets-over us vs rest (set l i v) (suc i) (omega arith)
+
+  -- what stands after a run
+  pub after-sets : (vs l : List A) (i j : ℕ) (d : A) → i + length vs ≤ j → getD (sets l i vs) j d ≡ getD l j d
+  after-sets [] l i j d h = refl
+  after-sets (v ∷ vs) l i j d h = after-sets vs (set l i v) (suc i) j d (omega arith) ∙ getD-set-other l i j v d (λ e. omega arith)
+
 -- ---- zeros
 
 -- n words of zero
@@ -62,6 +91,31 @@ over-zeros vs k =
     ap (λ (r : List ℤ). sets r 0 vs) (sym (replicate-append-replicate n k (pos 0)))
     ∙ sets-left vs (zeros n) (zeros k) 0 (omega (arith, length-replicate n (pos 0)))
     ∙ ap (λ (r : List ℤ). r ++ zeros k) (sets-all (zeros n) vs (sym (length-replicate n (pos 0))))
+
+-- ---- words moved down
+
+-- the n words from a place on become those that stood so many after them, and as many after these become zero
+abbrev pub shifted : List ℤ → ℕ → ℕ → ℕ → List ℤ
+shifted ws at by n = sets ws at (take n (drop (at + by) ws) ++ zeros by)
+
+pub length-shifted : (ws : List ℤ) (at by n : ℕ) → length (shifted ws at by n) ≡ length ws
+length-shifted ws at by n = length-sets ws at (take n (drop (at + by) ws) ++ zeros by)
+
+-- in two runs: the words up to a place, and then the zeros from there on
+pub shifted-twice : (ws : List ℤ) (at to by : ℕ) → at ≤ to → to + by ≤ length ws
+    → sets (sets ws at (take (to - at) (drop (at + by) ws))) to (zeros (to + by - to)) ≡ shifted ws at by (to - at)
+shifted-twice ws at to by low high =
+    let part = take (to - at) (drop (at + by) ws) in
+    let after : to ≡ at + length part = omega (arith, length-take (to - at) (drop (at + by) ws), length-drop (at + by) ws) in
+    let many : to + by - to ≡ by = omega arith in
+    ap₂ (λ (i n : ℕ). sets (sets ws at part) i (zeros n)) after many ∙ sets-more part (zeros by) ws at
+
+pub shifted-right : (xs ys : List ℤ) (i by n : ℕ) → shifted (xs ++ ys) (length xs + i) by n ≡ xs ++ shifted ys i by n
+shifted-right xs ys i by n =
+    let next : length xs + i + by ≡ length xs + (i + by) = omega arith in
+    ap (λ (r : List ℤ). sets (xs ++ ys) (length xs + i) (take n r ++ zeros by))
+    (ap (λ (a : ℕ). drop a (xs ++ ys)) next ∙ drop-append-add xs ys (i + by))
+    ∙ sets-right (take n (drop (i + by) ys) ++ zeros by) xs ys i
 
 -- ---- lists of one width
 
@@ -113,6 +167,22 @@ module _ (k : ℕ) where
       ap (λ (n : ℕ). sets (x ++ joined ls) n vs) (omega (arith, mul-suc k m, w .0))
       ∙ sets-right vs x (joined ls) (k * m + j)
       ∙ ap (λ (r : List ℤ). x ++ r) (sets-joined ls (w .1) m j vs (omega arith) l)
+
+  -- a part of one of them
+  pub part-joined : (ls : List (List ℤ)) → Wide k ls → (m j n : ℕ) → m < length ls → j + n ≤ k
+      → take n (drop (k * m + j) (joined ls)) ≡ take n (drop j (getD ls m []))
+  unfolding joined
+  part-joined [] w m j n h l = absurd (omega arith)
+  part-joined (x ∷ ls) w zero j n h l =
+      let here : k * 0 + j ≡ j = omega (arith, mul-zero k) in
+      ap (λ (i : ℕ). take n (drop i (x ++ joined ls))) here
+      ∙ ap (take n) (drop-append-le j x (joined ls) (omega (arith, w .0)))
+      ∙ take-append-le n (drop j x) (joined ls) (omega (arith, length-drop j x, w .0))
+  part-joined (x ∷ ls) w (suc m) j n h l =
+      let here : k * suc m + j ≡ length x + (k * m + j) = omega (arith, mul-suc k m, w .0) in
+      ap (λ (i : ℕ). take n (drop i (x ++ joined ls))) here
+      ∙ ap (take n) (drop-append-add x (joined ls) (k * m + j))
+      ∙ part-joined ls (w .1) m j n (omega arith) l
 
 -- things written as lists of one width
 module _ {A : Type 0} (k : ℕ) (f : A → List ℤ) (wide : (x : A) → length (f x) ≡ k) where
