@@ -27,7 +27,6 @@ use rules::Entry;
 use rules::LEAST;
 use rules::MOST_HEIGHT;
 use rules::NINE;
-use rules::Pointer;
 use rules::Record;
 use rules::SlotNumber;
 
@@ -179,11 +178,7 @@ fn tightened(pool: &mut [i32], s: SlotNumber, i: usize, t: SlotNumber) -> bool
     if geometry::same_rect(rect, old) {
         return false;
     }
-    let tight = Entry {
-        rect,
-        pointer: Pointer::Child(t),
-    };
-    pool::put_entry_of(pool, s, i, tight);
+    pool::put_rect_of(pool, s, i, rect);
     true
 }
 

@@ -1,6 +1,6 @@
 -- The way of an entry, down and back. While the child that it goes below grew, the node itself has not changed, so its entry leads there still;
 -- made tight, the node is the top of a tree again, in which the partner's entry fits.
-use mathlib.Core.Path.{_≡_, refl, sym, ap, ap₂, subst, subst⁻¹, _∙_}
+use mathlib.Core.Path.{_≡_, refl, sym, ap, subst, subst⁻¹, _∙_}
 use mathlib.Core.List.{List, List·Memᴰ·head}
 use Prim.Native.Nat.{ℕ, suc, _+_, _-_, _≤_, _<_}
 use native.Mathlib.Omega.{arith}
@@ -27,6 +27,7 @@ use Rattle.sound_laws.proofs.Apart.{once-child}
 use Rattle.sound_laws.proofs.Frame.{entries-same}
 use Rattle.sound_laws.proofs.Walk.{tree-node}
 use Rattle.nodes.specs.Reading.{LeadsOn}
+use Rattle.nodes.proofs.Tight.{rect-made}
 use Rattle.insert_laws.specs.Grown as G
 use Rattle.insert_laws.proofs.Tighten.{tighten-grew, grew-beside}
 use Rattle.insert_laws.proofs.Below.{below-here, below-down, way, adjust-kept, adjust-split, adjust-full, below-grows}
@@ -70,13 +71,14 @@ module _ (p : Pool) (s : SlotNumber) (i : ℕ) where
   tighten-widened new h =
       ap (λ (r : Rect). putEntries p s (set (entriesAt p s) i (entry r (Child (childOf (entryAt p s i)))))) h
 
-  -- as the code has it: the child read off the entry, and the two rectangles' cover
-  pub widened-made : (new : Rect) (c : SlotNumber) → c ≡ childOf (entryAt p s i) → (old : Rect) → old ≡ rectFrom (rects (entriesAt p s)) i
-      → (wide : Rect) → wide ≡ cover old new → (q : Pool) → q ≡ putEntries p s (set (entriesAt p s) i (entry wide (Child c))) → q ≡ widened p s i new
+  -- as the code has it: the two rectangles' cover, for an entry that leads where it did
+  pub widened-made : (new : Rect) → LeadsOn p s i → (old : Rect) → old ≡ rectFrom (rects (entriesAt p s)) i → (wide : Rect) → wide ≡ cover old new
+      → putEntries p s (set (entriesAt p s) i (entry wide (entryAt p s i .pointer))) ≡ widened p s i new
   unfolding widened entryAt entryFrom
-  widened-made new c child old is wide both q put =
-      put ∙ ap₂ (λ (r : Rect) (d : SlotNumber). putEntries p s (set (entriesAt p s) i (entry r (Child d))))
-      (both ∙ ap (λ (r : Rect). cover r new) (is ∙ rect-entry (entriesAt p s) i)) child
+  widened-made new h old is wide both =
+      rect-made p s i (h .childLow) wide
+      ∙ ap (λ (r : Rect). putEntries p s (set (entriesAt p s) i (entry r (Child (childOf (entryAt p s i))))))
+      (both ∙ ap (λ (r : Rect). cover r new) (is ∙ rect-entry (entriesAt p s) i))
 
 -- ---- the parent, when its child came back
 

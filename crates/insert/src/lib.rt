@@ -173,14 +173,8 @@ fn widen(pool: &mut [i32], s: SlotNumber, i: usize, new: Rect)
     ensures is { λ _. ⌜ L.read (now (pool .exit)) ≡ widened (L.read (now (pool .entry))) s i new ⌝ }
     ensures fit { λ _. ⌜ Fit (now (pool .exit)) ⌝ }
 {
-    let c = pool::child_of(pool, s, i);
     let old = pool::rect_of(pool, s, i);
-    let rect = geometry::cover(old, new);
-    let wide = Entry {
-        rect,
-        pointer: Pointer::Child(c),
-    };
-    pool::put_entry_of(pool, s, i, wide);
+    pool::put_rect_of(pool, s, i, geometry::cover(old, new));
 }
 
 // "AdjustTree sets each path cover tight and adds the partner last in the parent.": at the parent s, whose entry i leads to the child that

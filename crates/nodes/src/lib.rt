@@ -159,9 +159,5 @@ pub fn tighten(pool: &mut [i32], s: SlotNumber, i: usize)
 {
     let c = pool::child_of(pool, s, i);
     let rect = cover_of(pool, c);
-    let tight = Entry {
-        rect,
-        pointer: Pointer::Child(c),
-    };
-    pool::put_entry_of(pool, s, i, tight);
+    pool::put_rect_of(pool, s, i, rect);
 }

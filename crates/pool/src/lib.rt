@@ -514,6 +514,21 @@ fn owner_word(p: Pointer) -> i32
     }
 }
 
+// The words of a rectangle, from a place on.
+fn put_rect(pool: &mut [i32], at: usize, r: Rect)
+    requires { ⌜ at + L.rectSize ≤ length (now pool) ⌝ }
+    ensures { λ _. ⌜ now (pool .exit) ≡ sets (now (pool .entry)) at (r .lowX ∷ r .lowY ∷ r .highX ∷ r .highY ∷ []) ⌝ }
+{
+    let a = r.lowX;
+    let b = r.lowY;
+    let c = r.highX;
+    let d = r.highY;
+    pool[at] = a;
+    pool[at + 1] = b;
+    pool[at + 2] = c;
+    pool[at + 3] = d;
+}
+
 // The words that an entry has in every edition, from a place on.
 fn put_pair(pool: &mut [i32], at: usize, e: Entry)
     requires { ⌜ at + L.entrySize E.One ≤ length (now pool) ⌝ }
@@ -522,15 +537,8 @@ fn put_pair(pool: &mut [i32], at: usize, e: Entry)
 {
     let r = e.rect;
     let p = e.pointer;
-    let a = r.lowX;
-    let b = r.lowY;
-    let c = r.highX;
-    let d = r.highY;
     let k = pointer_word(p);
-    pool[at] = a;
-    pool[at + 1] = b;
-    pool[at + 2] = c;
-    pool[at + 3] = d;
+    put_rect(pool, at, r);
     pool[at + RECT_SIZE] = k;
 }
 
@@ -611,16 +619,14 @@ pub fn add_entry(pool: &mut [i32], s: SlotNumber, e: Entry)
     pool[at] = (n + 1) as i32;
 }
 
-// Another entry at place i. No words but its own change.
-pub fn put_entry_of(pool: &mut [i32], s: SlotNumber, i: usize, e: Entry)
+// Another rectangle for the entry at place i, which leads where it did: no words but those of the rectangle change, and its pointer is not read.
+pub fn put_rect_of(pool: &mut [i32], s: SlotNumber, i: usize, r: Rect)
     requires { ⌜ Fit (now pool) ⌝ }
     requires { ⌜ InPool (now pool) s ⌝ }
     requires { ⌜ i < length (P.entriesAt (L.read (now pool)) s) ⌝ }
-    requires { ⌜ Small (e .pointer) ⌝ }
-    requires { ⌜ KindOf (L.editionOf (now pool)) (P.nodeAt (L.read (now pool)) s .level) (e .pointer) ⌝ }
-    ensures is { λ _. ⌜ L.read (now (pool .exit)) ≡ P.putEntries (L.read (now (pool .entry))) s (set (P.entriesAt (L.read (now (pool .entry))) s) i e) ⌝ }
+    ensures is { λ _. ⌜ L.read (now (pool .exit)) ≡ P.putEntries (L.read (now (pool .entry))) s (set (P.entriesAt (L.read (now (pool .entry))) s) i (P.entry r (P.entryAt (L.read (now (pool .entry))) s i .pointer))) ⌝ }
     ensures fit { λ _. ⌜ Fit (now (pool .exit)) ⌝ }
 {
-    let edition = edition_of(pool);
-    put_entry(pool, edition, spot(pool, s, i), e);
+    let at = spot(pool, s, i);
+    put_rect(pool, at, r);
 }

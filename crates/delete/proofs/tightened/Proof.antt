@@ -1,11 +1,10 @@
 -- `delete::tightened` meets its contract: a cover that is the same is tight already, and another is written.
-use mathlib.Core.Path.{sym}
+use mathlib.Core.Path.{sym, _∙_}
 use mathlib.Core.Bool.{true, false}
-use native.Mathlib.Omega.{arith}
-use Rattle.rules.specs.Pool.{nodeAt}
 use Rattle.rules.specs.Layout.{read}
-use Rattle.nodes.proofs.Tight.{child-stored, tighten-made}
-use Rattle.delete.proofs.Nodes.{few-read, in-pool}
+use Rattle.nodes.proofs.Tight.{tighten-made}
+use Rattle.delete.proofs.Nodes.{in-pool}
+use Rattle.delete.proofs.Relieved.{child-leads}
 use Rattle.delete.proofs.Stops.{wide-told, not-wide}
 use borrow.Author.Needs.{needs}
 use Rattle.delete.proofs.tightened.Statement.{statement}
@@ -30,14 +29,11 @@ returns c =
     (rect-of .result) (cover-of .ensures) (rect-of .ensures) (same-rect .result) true (same-rect .ensures) (c .if1 .taken) in
     (sym (not-wide (start .pre .0) g (sym wide)), (start .pre .0, wide))
 
-put-entry-of-requires : tie.Need-put-entry-of-requires
-put-entry-of-requires c κs =
+put-rect-of-requires : tie.Need-put-rect-of-requires
+put-rect-of-requires c κs =
     let start = c .before .before .before .before .before .before .before in
-    let f = start .pre .0 in
     let g = start .pre .1 in
-    let stored = child-stored (nodeAt (read (start .args .pool .now)) (start .args .s) .level) (start .args .t) (g .inner)
-    (omega (arith, g .slot .high, few-read f)) in
-    (f, (in-pool f (g .parent .slot), (g .there, (stored .small, stored .kind _))))
+    (start .pre .0, (in-pool (start .pre .0) (g .parent .slot), g .there))
 
 returns-2 : tie.Need-returns-2
 returns-2 c =
@@ -46,13 +42,14 @@ returns-2 c =
     let rect-of = c .before .before .before .before .before .rect-of in
     let same-rect = c .before .before .before .before .same-rect in
     let if1 = c .before .before .before .if1 in
-    let put-entry-of = c .before .put-entry-of in
+    let put-rect-of = c .before .put-rect-of in
     let g = start .pre .1 in
     let p = read (start .args .pool .now) in (
-      tighten-made p (start .args .s) (start .args .i) (start .args .t) (cover-of .result) (sym (g .is)) (cover-of .ensures)
-          (read (put-entry-of .last .0)) (put-entry-of .ensures .0),
+      put-rect-of .ensures .0
+          ∙ tighten-made p (start .args .s) (start .args .i) (child-leads g .childLow) (cover-of .result) (start .args .t) (sym (g .is))
+          (cover-of .ensures),
       (
-        put-entry-of .ensures .1,
+        put-rect-of .ensures .1,
         wide-told p (start .args .s) (start .args .i) (start .args .t) (g .is) (cover-of .result) (rect-of .result) (cover-of .ensures)
             (rect-of .ensures) (same-rect .result) false (same-rect .ensures) (if1 .left),
       ),
@@ -67,6 +64,6 @@ tightened-spec =
     (λ c κs. search needs)
     (λ c. search needs)
     returns
-    put-entry-of-requires
+    put-rect-of-requires
     (λ c. search needs)
     returns-2)
