@@ -1,5 +1,4 @@
 -- Laws that the proofs of `delete` cite.
-pub mod Closed
 pub mod Nodes
 pub mod Listed
 pub mod Relieved

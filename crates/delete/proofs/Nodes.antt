@@ -1,23 +1,21 @@
--- What a node of the tree has can be written again, with an entry less: its entries were read from words, and those that are left are some of
--- them.
-use mathlib.Core.Path.{_≡_, sym, ap, ap₂, subst, _∙_}
+-- Slots of the pool that the words hold, and what a node there has: pointers of its level's kind, which a word holds. And an entry that goes out.
+use mathlib.Core.Path.{_≡_, refl}
 use mathlib.Core.List.{List}
-use Prim.Native.Nat.{ℕ, _-_, _≤_, _<_}
+use Prim.Native.Nat.{ℕ, _≤_, _<_}
 use native.Mathlib.Omega.{arith}
 use lib.Dec.{eqb}
-use lib.ListN.{length, getD, take}
-use lib.Seq.{getD-take}
+use lib.ListN.{length, getD}
 use lib.IntN.{ℤ}
 use Rattle.rules.specs.declared.SlotNumber.{SlotNumber}
 use Rattle.rules.specs.declared.Entry.{Entry}
 use Rattle.rules.specs.Lists.{without}
 use Rattle.rules.specs.Numbers.{mostSlots}
-use Rattle.rules.specs.Pool.{Node, Pool, slot, node, noEntry, nodeAt, entriesAt, freeCount, putNode, putEntries}
+use Rattle.rules.specs.Pool.{Node, Pool, slot, noEntry, nodeAt, entriesAt, freeCount, putEntries}
 use Rattle.rules.specs.Layout.{editionOf, read}
 use Rattle.rules.specs.Delete.{place, takeOut}
 use Rattle.rules_laws.proofs.Places.{at-place, each-at}
-use Rattle.rules_laws.proofs.Parts.{length-without, those-fewer, among-without}
-use Rattle.layout_laws.specs.Slots.{InPool, Fit, Small, SmallAll, KindOf, KindAll}
+use Rattle.rules_laws.proofs.Parts.{those-fewer}
+use Rattle.layout_laws.specs.Slots.{InPool, Fit, KindOf}
 use Rattle.layout_laws.proofs.Written.{fine-at}
 use Rattle.sound_laws.specs.Tree.{Slot, Tree}
 use Rattle.sound_laws.proofs.Walk.{tree-node}
@@ -51,7 +49,7 @@ tree-rewritable p few l s low d =
       small = record { small = λ i h. fits-small p l (getD (entriesAt p s) i noEntry) few (tree-fits p l s d _ (at-place (entriesAt p s) i noEntry h)) };
     }
 
--- ---- an entry goes out
+-- ---- its entries
 
 module _ {w : List ℤ} {s : SlotNumber} (f : Fit w) (g : Slot (read w) s) where
   pub here-kind : (k : ℕ) → k < length (entriesAt (read w) s)
@@ -61,28 +59,7 @@ module _ {w : List ℤ} {s : SlotNumber} (f : Fit w) (g : Slot (read w) s) where
       each-at (λ (x : Entry). KindOf (editionOf w) (nodeAt (read w) s .level) (x .pointer)) (nodeAt (read w) s .entries) k noEntry h
       (fine-at (in-pool f g) .kinds)
 
-module _ {w : List ℤ} {s : SlotNumber} (f : Fit w) (g : A.Rewritable (read w) s) where
-  module _ (i n : ℕ) (es rest : List Entry) (there : i < length (entriesAt (read w) s)) (size : n ≡ length (entriesAt (read w) s))
-      (front : take (length (entriesAt (read w) s)) es ≡ entriesAt (read w) s) (closed : take (n - 1) rest ≡ without i (take n es)) where
-    rest-is : take (n - 1) rest ≡ without i (entriesAt (read w) s)
-    rest-is = closed ∙ ap (without i) (ap (λ (k : ℕ). take k es) size ∙ front)
-
-    -- each that is left is one of those before
-    rest-at : (j : ℕ) → j < n - 1 → (k : ℕ) × (k < length (entriesAt (read w) s)) × (getD (entriesAt (read w) s) k noEntry ≡ getD rest j noEntry)
-    rest-at j h =
-        let long : j < length (without i (entriesAt (read w) s)) = omega (arith, length-without (entriesAt (read w) s) i there, size) in
-        let m = among-without (entriesAt (read w) s) i _ (at-place (without i (entriesAt (read w) s)) j noEntry long) in
-        (m .0, m .1, m .3 noEntry ∙ ap (λ (l : List Entry). getD l j noEntry) (sym rest-is) ∙ getD-take (n - 1) rest j noEntry h)
-
-    pub rest-small : SmallAll rest (n - 1)
-    rest-small = record { small = λ j h. let k = rest-at j h in subst (λ (e : Entry). Small (e .pointer)) (k .2) (g .small .small (k .0) (k .1)) }
-
-    pub rest-kind : (level : ℕ) → level ≡ nodeAt (read w) s .level → KindAll (editionOf w) level rest (n - 1)
-    rest-kind level e = record {
-      kind = λ j h. let k = rest-at j h in
-          rw e (subst (λ (x : Entry). KindOf (editionOf w) (nodeAt (read w) s .level) (x .pointer)) (k .2) (here-kind f (g .slot) (k .0) (k .1)));
-    }
-
-    pub taken-out : (level : ℕ) → level ≡ nodeAt (read w) s .level → putNode (read w) s (node level (take (n - 1) rest)) ≡ takeOut (read w) (place s i)
-    unfolding takeOut putEntries
-    taken-out level e = ap₂ (λ (l : ℕ) (xs : List Entry). putNode (read w) s (node l xs)) e rest-is
+-- an entry goes out
+pub taken-out : (p : Pool) (s : SlotNumber) (i : ℕ) → putEntries p s (without i (entriesAt p s)) ≡ takeOut p (place s i)
+unfolding takeOut
+taken-out p s i = refl

@@ -3,8 +3,7 @@ ghost use mathlib.Core.Path.{_≡_};
 ghost use mathlib.Core.Bool.{true};
 ghost use mathlib.Core.List.{[], _++_};
 ghost use Prim.Native.Nat.{_+_, _-_, _≤_, _<_};
-ghost use lib.ListN.{length, take};
-ghost use Rattle.rules.specs.Lists.{without};
+ghost use lib.ListN.{length};
 ghost use Rattle.rules.specs.Pool as P;
 ghost use Rattle.rules.specs.Sound.{ownersSound};
 ghost use Rattle.rules.specs.Layout as L;
@@ -44,21 +43,6 @@ struct Asides {
 
 // ---- D2, and CT3 and CT4 at one node
 
-// "Later entries close up": the first n, less the one at place i.
-fn close_up(entries: [Entry; NINE], i: usize, n: usize) -> [Entry; NINE]
-    requires { ⌜ (i < n) × (n ≤ 9) ⌝ }
-    ensures { λ r. ⌜ take (n - 1) r ≡ without i (take n entries) ⌝ }
-{
-    let mut es = entries;
-    let mut k = i + 1;
-    while k < n {
-        let e = es[k];
-        es[k - 1] = e;
-        k += 1;
-    }
-    es
-}
-
 // An entry is taken out of its node. "Later entries close up; the freed place is zeroed."
 fn take_out(pool: &mut [i32], s: SlotNumber, i: usize)
     requires { ⌜ Fit (now pool) ⌝ }
@@ -67,11 +51,7 @@ fn take_out(pool: &mut [i32], s: SlotNumber, i: usize)
     ensures is { λ _. ⌜ L.read (now (pool .exit)) ≡ D.takeOut (L.read (now (pool .entry))) (D.place s i) ⌝ }
     ensures fit { λ _. ⌜ Fit (now (pool .exit)) ⌝ }
 {
-    let level = pool::level_of(pool, s);
-    let n = pool::count_of(pool, s);
-    let es = pool::entries_of(pool, s);
-    let rest = close_up(es, i, n);
-    pool::put_node(pool, s, level, rest, n - 1);
+    pool::take_entry(pool, s, i);
 }
 
 // "its slot is zeroed and free at once"

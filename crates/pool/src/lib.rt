@@ -4,12 +4,13 @@
 ghost use mathlib.Core.Path.{_≡_};
 ghost use mathlib.Core.Bool.{true, false, not, _||_};
 ghost use mathlib.Core.List.{[], _∷_, _++_};
-ghost use Prim.Native.Nat.{_+_, _<_, _≤_};
+ghost use Prim.Native.Nat.{_+_, _-_, _<_, _≤_};
 ghost use lib.Dec.{eqb};
-ghost use lib.ListN.{length, set, take, drop};
+ghost use lib.ListN.{length, set, take, drop, replicate};
 ghost use lib.Seq.{sets};
 ghost use lib.IntN.{pos};
 ghost use Rattle.rules.specs.declared.Edition.the-variants as E;
+ghost use Rattle.rules.specs.Lists.{without};
 ghost use Rattle.rules.specs.Numbers.{goodNumber, goodOwner, most, mostSlots};
 ghost use Rattle.rules.specs.Owners.{editionNumber};
 ghost use Rattle.rules.specs.Layout as L;
@@ -629,4 +630,50 @@ pub fn put_rect_of(pool: &mut [i32], s: SlotNumber, i: usize, r: Rect)
 {
     let at = spot(pool, s, i);
     put_rect(pool, at, r);
+}
+
+// ---- an entry taken out
+
+// Each word from one place up to another becomes the word that stood so many places after it.
+fn move_down(pool: &mut [i32], from: usize, to: usize, by: usize)
+    requires { ⌜ from ≤ to ⌝ }
+    requires { ⌜ to + by ≤ length (now pool) ⌝ }
+    ensures { λ _. ⌜ now (pool .exit) ≡ sets (now (pool .entry)) from (take (to - from) (drop (from + by) (now (pool .entry)))) ⌝ }
+{
+    let mut k = from;
+    while k < to {
+        pool[k] = pool[k + by];
+        k += 1;
+    }
+}
+
+// The words from one place up to another are zeroed.
+fn zero_words(pool: &mut [i32], from: usize, to: usize)
+    requires { ⌜ from ≤ to ⌝ }
+    requires { ⌜ to ≤ length (now pool) ⌝ }
+    ensures { λ _. ⌜ now (pool .exit) ≡ sets (now (pool .entry)) from (replicate (to - from) (pos 0)) ⌝ }
+{
+    let mut k = from;
+    while k < to {
+        pool[k] = 0;
+        k += 1;
+    }
+}
+
+// "Later entries close up; the freed place is zeroed.": the words of the entries after place i, as they are, go down by one entry, and there is one
+// less. No entry is read.
+pub fn take_entry(pool: &mut [i32], s: SlotNumber, i: usize)
+    requires { ⌜ Fit (now pool) ⌝ }
+    requires { ⌜ InPool (now pool) s ⌝ }
+    requires { ⌜ i < length (P.entriesAt (L.read (now pool)) s) ⌝ }
+    ensures is { λ _. ⌜ L.read (now (pool .exit)) ≡ P.putEntries (L.read (now (pool .entry))) s (without i (P.entriesAt (L.read (now (pool .entry))) s)) ⌝ }
+    ensures fit { λ _. ⌜ Fit (now (pool .exit)) ⌝ }
+{
+    let edition = edition_of(pool);
+    let size = entry_size(edition);
+    let n = count_in(pool, edition, s);
+    let last = spot_in(edition, s, n - 1);
+    move_down(pool, spot_in(edition, s, i), last, size);
+    zero_words(pool, last, last + size);
+    pool[start_in(edition, s) + 1] = (n - 1) as i32;
 }
