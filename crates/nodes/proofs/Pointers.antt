@@ -1,12 +1,8 @@
--- An entry's child, its record number and its owner are those of its pointer, since the definitions look at nothing else of it.
+-- An entry's record number and its owner are those of its pointer, since the definitions look at nothing else of it.
 use mathlib.Core.Path.{_≡_, refl}
 use Rattle.rules.specs.declared.Entry.{Entry}
-use Rattle.rules.specs.Pool.{childOf, numberOf, ownerOf}
-use Rattle.nodes.specs.Reading.{pointedChild, pointedNumber, pointedOwner}
-
-pub child-is : (e : Entry) → pointedChild (e .pointer) ≡ childOf e
-unfolding childOf
-child-is e = refl
+use Rattle.rules.specs.Pool.{numberOf, ownerOf}
+use Rattle.nodes.specs.Reading.{pointedNumber, pointedOwner}
 
 pub number-is : (e : Entry) → pointedNumber (e .pointer) ≡ numberOf e
 unfolding numberOf

@@ -8,14 +8,9 @@ use Rattle.rules.specs.declared.Owner.{Owner}
 use Rattle.rules.specs.declared.Pointer.{Pointer}
 use Rattle.rules.specs.declared.Pointer.the-variants.{Number, Child}
 use Rattle.rules.specs.Owners.{nobody}
-use Rattle.rules.specs.Pool.{Pool, slot, number, nodeAt, entriesAt, entryAt, childOf}
+use Rattle.rules.specs.Pool.{Pool, number, nodeAt, entriesAt, entryAt, childOf}
 
--- the child that a pointer leads to: `childOf` of an entry is this of its pointer
-abbrev pub pointedChild : Pointer → SlotNumber
-pointedChild (Number n o) = slot 0
-pointedChild (Child s) = s
-
--- the record number that it is: `numberOf` of an entry is this of its pointer
+-- the record number that a pointer is: `numberOf` of an entry is this of its pointer
 abbrev pub pointedNumber : Pointer → RecordNumber
 pointedNumber (Number n o) = n
 pointedNumber (Child s) = number (pos 0)

@@ -1,4 +1,4 @@
-// The node reader: how many entries a node has, by any slot number, what an entry stands for, a node's cover. The walks of soundness, search
+// The node reader: what a slot number and an entry stand for, a node's cover, an entry's rectangle made tight. The walks of soundness, search
 // and FindLeaf read nodes by it and by `pool` alone.
 ghost use mathlib.Core.Path.{_≡_};
 ghost use mathlib.Core.Bool.{true};
@@ -8,7 +8,7 @@ ghost use Rattle.rules.specs.Layout as L;
 ghost use Rattle.rules.specs.Pool as P;
 ghost use Rattle.rules.specs.Sound as S;
 ghost use Rattle.layout_laws.specs.Slots.{Fit, InPool};
-ghost use Rattle.nodes.specs.Reading.{pointedChild, pointedNumber, pointedOwner, LeadsOn};
+ghost use Rattle.nodes.specs.Reading.{pointedNumber, pointedOwner, LeadsOn};
 use rules::Entry;
 use rules::Owner;
 use rules::Pointer;
@@ -43,16 +43,6 @@ pub fn slot_read(s: SlotNumber) -> SlotNumber
 }
 
 // ---- what an entry stands for
-
-// The child that a pointer leads to; a record number leads to none.
-fn pointed_child(p: Pointer) -> SlotNumber
-    ensures { λ r. ⌜ r ≡ pointedChild p ⌝ }
-{
-    match p {
-        Pointer::Number(_, _) => SlotNumber(0),
-        Pointer::Child(s) => s,
-    }
-}
 
 // The record number that a pointer is; a child slot is none.
 fn pointed_number(p: Pointer) -> RecordNumber
@@ -90,30 +80,6 @@ pub fn record_of(e: Entry) -> Record
 }
 
 // ---- nodes read, whatever the slot number
-
-// How many entries are in use; beyond the last slot there are none.
-pub fn count_at(pool: &[i32], s: SlotNumber) -> usize
-    requires { ⌜ L.validLength (now pool) ≡ true ⌝ }
-    ensures is { λ r. ⌜ r ≡ length (P.entriesAt (L.read (now (pool .entry))) s) ⌝ }
-    ensures most { λ r. ⌜ r ≤ 8 ⌝ }
-{
-    let t = slot_read(s);
-    let n = t.0;
-    if pool::slot_count(pool) < n {
-        return 0;
-    }
-    pool::count_of(pool, t)
-}
-
-// The child that the entry at place i leads to. Its rectangle is not read.
-pub fn child_at(pool: &[i32], s: SlotNumber, i: usize) -> SlotNumber
-    requires { ⌜ L.validLength (now pool) ≡ true ⌝ }
-    requires { ⌜ i < length (P.entriesAt (L.read (now pool)) s) ⌝ }
-    ensures { λ r. ⌜ r ≡ P.childOf (P.entryAt (L.read (now (pool .entry))) s i) ⌝ }
-{
-    let p = pool::entry_pointer(pool, slot_read(s), i);
-    pointed_child(p)
-}
 
 // The record number of the entry at place i. Its rectangle is not read.
 pub fn number_at(pool: &[i32], s: SlotNumber, i: usize) -> RecordNumber
