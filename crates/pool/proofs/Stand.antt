@@ -3,15 +3,18 @@ use mathlib.Core.Path.{_≡_, refl, sym, ap, ap₂, _∙_}
 use mathlib.Core.Bool.{Bool, true, _&&_, and-assoc}
 use mathlib.Core.List.{List, [], _∷_, _++_, map}
 use Prim.Native.Nat.{ℕ, zero, suc, _+_, _*_, _-_, _≤_, _<_, min}
-use native.Mathlib.Nat.{mul-suc, mul-le-mul-left}
+use native.Mathlib.Nat.{mul-zero, mul-suc, mul-le-mul-left}
 use native.Mathlib.Numerals.{add-one}
 use native.Mathlib.Omega.{arith}
 use native.Mathlib.Decide.{decLe}
 use lib.Dec.{leb, leb·zero}
-use lib.ListN.{length, getD, take, drop, drop-of-length-le}
+use lib.ListN.{length, getD, take, drop, drop-of-length-le, length-replicate, replicate-append-replicate}
 use lib.Seq.{drop-cons, take-length}
 use lib.IntN.{ℤ, pos, negsuc}
 use lib.Signed.{leZ}
+use mir.Syntax.{w32}
+use mir.Val.{SFits, toZ, ofZ}
+use mir.Facts.{toZ-ofZ}
 use borrow.Author.Tests.{le-leb, lt-leb}
 use Rattle.rules.specs.Lists.{joined, same}
 use Rattle.rules.specs.Layout.{natural, wordAt, sameWords}
@@ -55,6 +58,25 @@ module _ (w : List ℤ) (i to : ℕ) where
 
   pub zeros-end : to ≤ i → stand (zeros (to - i)) w i ≡ true
   zeros-end h = let e : to - i ≡ 0 = omega arith in ap (λ (n : ℕ). stand (zeros n) w i) e ∙ stand-none w i
+
+-- .. of one width, one after another: those from the i-th of m on
+module _ (k : ℕ) (w : List ℤ) (a m i : ℕ) where
+  pub widths-more : i < m → a + k * i + k ≤ length w
+      → stand (zeros (k * (m - i))) w (a + k * i) ≡ (stand (zeros k) w (a + k * i) && stand (zeros (k * (m - (i + 1)))) w (a + k * (i + 1)))
+  widths-more h l =
+      let left : m - i ≡ suc (m - (i + 1)) = omega arith in
+      let rest = k * (m - (i + 1)) in
+      let all : k * (m - i) ≡ k + rest = omega (arith, ap (λ (n : ℕ). k * n) left, mul-suc k (m - (i + 1))) in
+      let size : length (zeros k) ≡ k = length-replicate k (pos 0) in
+      let next : a + k * i + length (zeros k) ≡ a + k * (i + 1) = omega (arith, ap (λ (n : ℕ). k * n) (add-one i), mul-suc k i) in
+      ap (λ (vs : List ℤ). stand vs w (a + k * i)) (ap zeros all ∙ sym (replicate-append-replicate k rest (pos 0)))
+      ∙ stand-append (zeros k) (zeros rest) w (a + k * i) (omega arith)
+      ∙ ap (λ (n : ℕ). stand (zeros k) w (a + k * i) && stand (zeros rest) w n) next
+
+  pub widths-end : m ≤ i → stand (zeros (k * (m - i))) w (a + k * i) ≡ true
+  widths-end h =
+      let none : m - i ≡ 0 = omega arith in
+      ap (λ (n : ℕ). stand (zeros n) w (a + k * i)) (ap (λ (n : ℕ). k * n) none ∙ mul-zero k) ∙ stand-none w (a + k * i)
 
 -- ---- parts of one width
 
@@ -121,10 +143,19 @@ unfolding same
 same-self (pos n) = rw (le-leb n n (omega arith))
 same-self (negsuc n) = rw (le-leb n n (omega arith))
 
+-- a word that one function gives and another takes is zero as it was
+pub given-zero : {z : ℤ} {b : Bool} → SFits w32 z → same (pos 0) z ≡ b → same (pos 0) (toZ w32 (ofZ w32 z)) ≡ b
+given-zero f e = ap (same (pos 0)) (toZ-ofZ f) ∙ e
+
 pub natural-same : (z : ℤ) → same (pos (natural z)) z ≡ leZ (pos 0) z
 unfolding same natural
 natural-same (pos n) = rw (le-leb n n (omega arith)) (sym (leb·zero n))
 natural-same (negsuc n) = refl
+
+pub natural-some : (z : ℤ) → 1 ≤ natural z → leZ (pos 0) z ≡ true
+unfolding natural
+natural-some (pos n) h = leb·zero n
+natural-some (negsuc n) h = absurd (omega arith)
 
 pub count-same : (m : ℕ) (z : ℤ) → (leZ (pos 0) z && leZ z (pos m)) ≡ same (pos (min (natural z) m)) z
 unfolding same natural

@@ -15,6 +15,7 @@ use Rattle.rules.specs.declared.Edition.the-variants.{One, Two}
 use Rattle.rules.specs.declared.Rect.{Rect}
 use Rattle.rules.specs.declared.SlotNumber.{SlotNumber}
 use Rattle.rules.specs.declared.Pointer.{Pointer}
+use Rattle.rules.specs.declared.Pointer.the-variants.{Child}
 use Rattle.rules.specs.declared.Entry.{Entry}
 use Rattle.rules.specs.Lists.{joined, same}
 use Rattle.rules.specs.Owners.{editionNumber}
@@ -30,8 +31,8 @@ use Rattle.rules_laws.proofs.Places.{nothing}
 use Rattle.layout_laws.specs.Slots.{InPool, ownerKept}
 use Rattle.layout_laws.proofs.Parts.{right-size, room, entry-ends, places-end, drop-word, slot-level, slot-count, slot-few, slot-rect, slot-pointer, slot-entry}
 use Rattle.layout_laws.proofs.Written.{owner-kept, placeWords, unused, padded-is, head-size, node-size, read-slots, pointer-number, pointer-child, entry-size, words-size}
-use Rattle.pool.specs.Standing.{stand}
-use Rattle.pool.proofs.Stand.{stand-none, stand-cons, stand-append, stand-all, parts-more, parts-all, parts-each, same-self, natural-same}
+use Rattle.pool.specs.Standing.{stand, zeroFrom, tidyAround}
+use Rattle.pool.proofs.Stand.{stand-none, stand-cons, stand-append, stand-all, widths-more, widths-end, parts-all, parts-each, same-self, natural-same, natural-some}
 use Rattle.layout_laws.proofs.Runs.{zeros, length-parts}
 
 -- ---- the head
@@ -163,12 +164,12 @@ module _ {w : List ℤ} {s : SlotNumber} (p : InPool w s) where
       → leZ (pos 1) (wordAt w (pointerPlace (editionOf w) s i)) ≡ leZ (pos 1) (pointerWord (entryAt (read w) s i .pointer))
   pointer-one i h = one-pointer _ _ (owned i) ∙ ap (λ q. leZ (pos 1) (pointerWord q)) (sym (slot-pointer p i h))
 
-  pub leaf-entry : (i : ℕ) → i < length (entriesAt (read w) s) → eqb (nodeAt (read w) s .level) 1 ≡ true
+  leaf-entry : (i : ℕ) → i < length (entriesAt (read w) s) → eqb (nodeAt (read w) s .level) 1 ≡ true
       → stand (entryWords (editionOf w) (entryAt (read w) s i)) w (entryPlace (editionOf w) s i) ≡ true
   leaf-entry i h e =
       entry-stands i h ∙ both-and _ _ (leaf-pointer _ _ (owned i) e) (leaf-owner ed _ (pointed i) (drop (begins i) w) e)
 
-  pub child-entry : (i : ℕ) → i < length (entriesAt (read w) s) → eqb (nodeAt (read w) s .level) 1 ≡ false
+  child-entry : (i : ℕ) → i < length (entriesAt (read w) s) → eqb (nodeAt (read w) s .level) 1 ≡ false
       → stand (entryWords (editionOf w) (entryAt (read w) s i)) w (entryPlace (editionOf w) s i)
       ≡ (leZ (pos 0) (wordAt w (pointerPlace (editionOf w) s i)) && same (pos 0) (owned i))
   child-entry i h e =
@@ -186,17 +187,83 @@ module _ {w : List ℤ} {s : SlotNumber} (p : InPool w s) where
       parts-all (entrySize ed) (entryWords ed) (entry-size ed) w (slotStart ed s + slotHead) noEntry (entriesAt (read w) s) entries-fit
       (λ i h. leaf-entry i h e)
 
-  -- the entries of an inner node from place i on
-  abbrev pub standFrom : ℕ → Bool
-  standFrom i = stand (joined (map (entryWords (editionOf w)) (drop i (entriesAt (read w) s)))) w (entryPlace (editionOf w) s i)
+  -- .. and of an inner node: where no pointer is negative, and no entry has an owner
+  module _ (e : eqb (nodeAt (read w) s .level) 1 ≡ false) where
+    pub inner-entries : ((i : ℕ) → i < length (entriesAt (read w) s)
+        → (leZ (pos 0) (wordAt w (pointerPlace (editionOf w) s i)) ≡ true) × (same (pos 0) (owned i) ≡ true))
+        → stand (joined (map (entryWords (editionOf w)) (entriesAt (read w) s))) w (slotStart (editionOf w) s + slotHead) ≡ true
+    unfolding entryAt entryFrom
+    inner-entries each =
+        parts-all (entrySize ed) (entryWords ed) (entry-size ed) w (slotStart ed s + slotHead) noEntry (entriesAt (read w) s) entries-fit
+        (λ i h. child-entry i h e ∙ both-and _ _ (each i h .0) (each i h .1))
 
-  pub child-entries : (i : ℕ) → i < length (entriesAt (read w) s) → eqb (nodeAt (read w) s .level) 1 ≡ false
-      → standFrom i ≡ ((leZ (pos 0) (wordAt w (pointerPlace (editionOf w) s i)) && same (pos 0) (owned i)) && standFrom (i + 1))
-  unfolding entryAt entryFrom
-  child-entries i h e =
-      parts-more (entrySize ed) (entryWords ed) (entry-size ed) w (slotStart ed s + slotHead) noEntry (entriesAt (read w) s) i h
-      (omega (arith, room p, entry-ends ed i (omega (arith, slot-few p))))
-      ∙ ap (λ (b : Bool). b && standFrom (i + 1)) (child-entry i h e)
+    pub inner-unowned : stand (joined (map (entryWords (editionOf w)) (entriesAt (read w) s))) w (slotStart (editionOf w) s + slotHead) ≡ true
+        → (i : ℕ) → i < length (entriesAt (read w) s) → same (pos 0) (owned i) ≡ true
+    unfolding entryAt entryFrom
+    inner-unowned all i h =
+        and-both (leZ (pos 0) (pointed i)) (same (pos 0) (owned i)) (sym (child-entry i h e)
+        ∙ parts-each (entrySize ed) (entryWords ed) (entry-size ed) w (slotStart ed s + slotHead) noEntry (entriesAt (read w) s) entries-fit all i h) .1
+
+-- ---- places that no entry is in
+
+-- five words that are zero, and others after them
+five-zero : (w : List ℤ) (at : ℕ) (vs : List ℤ) → at + 5 ≤ length w
+    → stand (pos 0 ∷ pos 0 ∷ pos 0 ∷ pos 0 ∷ pos 0 ∷ vs) w at
+    ≡ (((same (pos 0) (wordAt w at) && same (pos 0) (wordAt w (at + 1))) && (same (pos 0) (wordAt w (at + 2)) && same (pos 0) (wordAt w (at + 3))))
+    && (same (pos 0) (wordAt w (at + 4)) && stand vs w (at + 5)))
+five-zero w at vs l =
+    first
+    ∙ ap (λ (b : Bool). z at && b) (next 1 (pos 0 ∷ pos 0 ∷ pos 0 ∷ vs) (omega arith)
+    ∙ ap (λ (b : Bool). z (at + 1) && b) (next 2 (pos 0 ∷ pos 0 ∷ vs) (omega arith)
+    ∙ ap (λ (b : Bool). z (at + 2) && b) (next 3 (pos 0 ∷ vs) (omega arith)
+    ∙ ap (λ (b : Bool). z (at + 3) && b) (next 4 vs (omega arith)))))
+    ∙ regroup (z at) (z (at + 1)) (z (at + 2)) (z (at + 3)) (z (at + 4)) (stand vs w (at + 5))
+  where
+    z : ℕ → Bool
+    z k = same (pos 0) (wordAt w k)
+
+    first : stand (pos 0 ∷ pos 0 ∷ pos 0 ∷ pos 0 ∷ pos 0 ∷ vs) w at ≡ (z at && stand (pos 0 ∷ pos 0 ∷ pos 0 ∷ pos 0 ∷ vs) w (at + 1))
+    first = stand-cons (pos 0) (pos 0 ∷ pos 0 ∷ pos 0 ∷ pos 0 ∷ vs) w at (omega arith)
+
+    next : (k : ℕ) (us : List ℤ) → at + k < length w → stand (pos 0 ∷ us) w (at + k) ≡ (z (at + k) && stand us w (at + suc k))
+    next k us h = stand-cons (pos 0) us w (at + k) h ∙ ap (λ (n : ℕ). z (at + k) && stand us w n) (omega arith)
+
+    regroup : (a b c d e f : Bool) → (a && (b && (c && (d && (e && f))))) ≡ (((a && b) && (c && d)) && (e && f))
+    regroup a b c d e f = simp and-assoc
+
+zero-words : (ed : Edition) → zeros (entrySize ed) ≡ pos 0 ∷ pos 0 ∷ pos 0 ∷ pos 0 ∷ pos 0 ∷ ownerWords ed (Child (slot 0))
+unfolding ownerWords ownerWord
+zero-words One = refl
+zero-words Two = refl
+
+child-none : (ed : Edition) → ownerKept ed (ownerWord (Child (slot 0))) ≡ pos 0
+unfolding ownerWord
+child-none ed = none-kept ed
+
+-- the words of an entry are all zero, with the owner's, if there is one, beside the pointer's
+pub entry-zero : (ed : Edition) (w : List ℤ) (at : ℕ) → at + entrySize ed ≤ length w
+    → (((same (pos 0) (wordAt w at) && same (pos 0) (wordAt w (at + 1))) && (same (pos 0) (wordAt w (at + 2)) && same (pos 0) (wordAt w (at + 3))))
+    && (same (pos 0) (wordAt w (at + 4)) && same (pos 0) (ownerAt ed (drop at w))))
+    ≡ stand (zeros (entrySize ed)) w at
+entry-zero ed w at l =
+    let none = Child (slot 0) in
+    let last = owner-stands ed w at none l ∙ ap (λ (z : ℤ). same z (ownerAt ed (drop at w))) (child-none ed) in
+    sym (ap (λ (vs : List ℤ). stand vs w at) (zero-words ed) ∙ five-zero w at (ownerWords ed none) (omega arith)
+    ∙ ap (λ (b : Bool). ((z at && z (at + 1)) && (z (at + 2) && z (at + 3))) && (z (at + 4) && b)) last)
+  where
+    z : ℕ → Bool
+    z k = same (pos 0) (wordAt w k)
+
+module _ {w : List ℤ} {s : SlotNumber} (p : InPool w s) (i : ℕ) where
+  pub zero-more : i < most → zeroFrom w s i ≡ (stand (zeros (entrySize (editionOf w))) w (entryPlace (editionOf w) s i) && zeroFrom w s (i + 1))
+  unfolding zeroFrom
+  zero-more h =
+      let ed = editionOf w in
+      widths-more (entrySize ed) w (slotStart ed s + slotHead) most i h (omega (arith, room p, entry-ends ed i h))
+
+  pub zero-end : most ≤ i → zeroFrom w s i ≡ true
+  unfolding zeroFrom
+  zero-end h = let ed = editionOf w in widths-end (entrySize ed) w (slotStart ed s + slotHead) most i h
 
 -- ---- a slot
 
@@ -224,11 +291,6 @@ node-stands ed n w at l =
     (stand-cons (pos (length (n .entries))) r w (at + 1) (omega arith)
     ∙ ap (λ (k : ℕ). same (pos (length (n .entries))) (wordAt w (at + 1)) && stand r w k) two)
 
--- the words after n entries
-unused-words : (ed : Edition) (n : ℕ) → n ≤ most → entrySize ed * (most - n) ≡ slotSize ed - (slotHead + entrySize ed * n)
-unused-words One n h = omega arith
-unused-words Two n h = omega arith
-
 module _ {w : List ℤ} {s : SlotNumber} (p : InPool w s) where
   abbrev which : Edition
   which = editionOf w
@@ -236,23 +298,18 @@ module _ {w : List ℤ} {s : SlotNumber} (p : InPool w s) where
   abbrev start : ℕ
   start = slotStart (editionOf w) s
 
-  pub slot-places : (n : ℕ) → n ≡ length (entriesAt (read w) s)
-      → stand (placeWords (editionOf w) (entriesAt (read w) s)) w (slotStart (editionOf w) s + slotHead)
-      ≡ (stand (joined (map (entryWords (editionOf w)) (entriesAt (read w) s))) w (slotStart (editionOf w) s + slotHead)
-      && stand (zeros (slotStart (editionOf w) s + slotSize (editionOf w) - entryPlace (editionOf w) s n)) w (entryPlace (editionOf w) s n))
-  slot-places n h =
-      let es = entriesAt (read w) s in
-      let at = start + slotHead in
-      let e : unused which es ≡ start + slotSize which - entryPlace which s n =
-      unused-words which (length es) (slot-few p) ∙ ap (λ (k : ℕ). slotSize which - (slotHead + entrySize which * k)) (sym h) ∙ omega arith in
-      let f : at + entrySize which * length es ≡ entryPlace which s n = ap (λ (k : ℕ). at + entrySize which * k) (sym h) in
-      places-stand which es w at (slot-few p) (omega (arith, room p))
-      ∙ ap₂ (λ (m k : ℕ). stand (joined (map (entryWords which) es)) w at && stand (zeros m) w k) e f
+  -- the words of the entries in use
+  abbrev inUse : Bool
+  inUse = stand (joined (map (entryWords (editionOf w)) (entriesAt (read w) s))) w (slotStart (editionOf w) s + slotHead)
 
-  pub slot-stands : (leZ (pos 0) (wordAt w (levelPlace (editionOf w) s))
-      && (same (pos (min (natural (wordAt w (countPlace (editionOf w) s))) most)) (wordAt w (countPlace (editionOf w) s))
-      && stand (placeWords (editionOf w) (entriesAt (read w) s)) w (slotStart (editionOf w) s + slotHead)))
-      ≡ stand (nodeWords (editionOf w) (nodeAt (read w) s)) w (slotStart (editionOf w) s)
+  slot-places : stand (placeWords which (entriesAt (read w) s)) w (start + slotHead) ≡ (inUse && zeroFrom w s (length (entriesAt (read w) s)))
+  unfolding zeroFrom
+  slot-places = places-stand which (entriesAt (read w) s) w (start + slotHead) (slot-few p) (omega (arith, room p))
+
+  slot-stands : (leZ (pos 0) (wordAt w (levelPlace which s))
+      && (same (pos (min (natural (wordAt w (countPlace which s))) most)) (wordAt w (countPlace which s))
+      && stand (placeWords which (entriesAt (read w) s)) w (start + slotHead)))
+      ≡ stand (nodeWords which (nodeAt (read w) s)) w start
   unfolding entriesAt
   slot-stands =
       let n = nodeAt (read w) s in
@@ -261,6 +318,26 @@ module _ {w : List ℤ} {s : SlotNumber} (p : InPool w s) where
       let r = stand (placeWords which (n .entries)) w (start + slotHead) in
       sym (node-stands which n w start (omega (arith, room p))
       ∙ ap₂ _&&_ (ap (λ (k : ℕ). same (pos k) level) (slot-level p) ∙ natural-same level) (ap (λ (k : ℕ). same (pos k) count && r) (slot-count p)))
+
+  -- the level of a node in use is not negative
+  pub level-stands : 1 ≤ nodeAt (read w) s .level → leZ (pos 0) (wordAt w (levelPlace (editionOf w) s)) ≡ true
+  level-stands h = natural-some (wordAt w (levelPlace which s)) (omega (arith, slot-level p))
+
+  -- a slot's words are those of its node where the level is not negative, and the entries and what is around them stand there
+  pub slot-parts : stand (nodeWords (editionOf w) (nodeAt (read w) s)) w (slotStart (editionOf w) s)
+      ≡ (leZ (pos 0) (wordAt w (levelPlace (editionOf w) s))
+      && (stand (joined (map (entryWords (editionOf w)) (entriesAt (read w) s))) w (slotStart (editionOf w) s + slotHead) && tidyAround w s))
+  unfolding tidyAround
+  slot-parts =
+      let level = leZ (pos 0) (wordAt w (levelPlace which s)) in
+      let count = same (pos (min (natural (wordAt w (countPlace which s))) most)) (wordAt w (countPlace which s)) in
+      sym slot-stands ∙ ap (λ (b : Bool). level && (count && b)) slot-places
+      ∙ ap (λ (b : Bool). level && b) (swap count inUse (zeroFrom w s (length (entriesAt (read w) s))))
+    where
+      swap : (a b c : Bool) → (a && (b && c)) ≡ (b && (a && c))
+      swap true b c = refl
+      swap false true c = refl
+      swap false false c = refl
 
 -- ---- all
 

@@ -1,9 +1,10 @@
 // The layout again, as a question: are words of a valid length exactly those that would be written for the pool that is read from them? It
-// is asked of the head, and of each slot by itself.
+// is asked of the head, and of each slot by itself: whether it is all zero, or what it has around its entries. A leaf's entries are always written
+// as they were read. What is left to ask of an inner node's, that no child is negative and that there is no owner, is asked by whoever looks at
+// them.
 ghost use mathlib.Core.Path.{_≡_};
 ghost use mathlib.Core.Bool.{true, _&&_};
-ghost use mathlib.Core.List.{map};
-ghost use Prim.Native.Nat.{_+_, _-_, _*_, _<_, _≤_, min};
+ghost use Prim.Native.Nat.{_+_, _-_, _<_, _≤_, min};
 ghost use lib.ListN.{length, replicate, drop};
 ghost use lib.IntN.{pos};
 ghost use lib.Signed.{leZ};
@@ -12,27 +13,23 @@ ghost use Rattle.rules.specs.Numbers.{most};
 ghost use Rattle.rules.specs.Layout as L;
 ghost use Rattle.rules.specs.Pool as P;
 ghost use Rattle.layout_laws.specs.Slots.{InPool};
-ghost use Rattle.pool.specs.Standing.{stand};
+ghost use Rattle.pool.specs.Standing.{stand, tidyAround, zeroFrom};
 use crate::EDITION_PLACE;
 use crate::HEAD_SIZE;
 use crate::HEIGHT_PLACE;
+use crate::OWNER_PLACE;
 use crate::RECORDS_PLACE;
+use crate::RECT_SIZE;
 use crate::ROOT_PLACE;
-use crate::SLOT_HEAD;
 use crate::UNUSED_PLACE;
-use crate::count_of;
-use crate::count_place;
+use crate::count_in;
 use crate::edition_number;
 use crate::edition_of;
-use crate::entry_size;
-use crate::level_of;
-use crate::owner_at;
-use crate::pointer_place;
-use crate::slot_count;
 use crate::slot_size;
-use crate::slot_start;
-use crate::spot;
+use crate::spot_in;
+use crate::start_in;
 use crate::word;
+use rules::Edition;
 use rules::MOST;
 use rules::SlotNumber;
 
@@ -105,49 +102,41 @@ pub fn tidy_head(pool: &[i32]) -> bool
 
 // ---- a slot
 
-// The words of the entry at place i of an inner node: a child slot, which is not negative, and "zero in inner entries" for an owner.
-fn tidy_inner(pool: &[i32], s: SlotNumber, i: usize) -> bool
-    requires { ⌜ InPool (now pool) s ⌝ }
-    requires { ⌜ i < most ⌝ }
-    ensures { λ r. ⌜ r ≡ (leZ (pos 0) (L.wordAt (now (pool .entry)) (L.pointerPlace (L.editionOf (now (pool .entry))) s i)) && Li.same (pos 0) (L.ownerAt (L.editionOf (now (pool .entry))) (drop (L.entryPlace (L.editionOf (now (pool .entry))) s i) (now (pool .entry))))) ⌝ }
+// The owner's word of an entry of an edition, whose words begin at a place; an entry of edition 1 has none, 0.
+pub fn owner_in(pool: &[i32], edition: Edition, at: usize) -> i32
+    requires { ⌜ at + L.entrySize edition ≤ length (now pool) ⌝ }
+    ensures { λ r. ⌜ r ≡ L.ownerAt edition (drop at (now (pool .entry))) ⌝ }
 {
-    let child = at_least(pool, pointer_place(pool, s, i), 0);
-    let owner = owner_at(pool, spot(pool, s, i));
-    geometry::and(child, geometry::same(0, owner))
+    match edition {
+        Edition::One => 0,
+        Edition::Two => word(pool, at + OWNER_PLACE),
+    }
 }
 
-// The entries in use. "A leaf's pointer is a record number, any other a child slot", which has no owner. The loop has no branch: all
-// pointers are looked at.
-fn tidy_entries(pool: &[i32], s: SlotNumber) -> bool
-    requires { ⌜ InPool (now pool) s ⌝ }
-    ensures { λ r. ⌜ r ≡ stand (Li.joined (map (L.entryWords (L.editionOf (now (pool .entry)))) (P.entriesAt (L.read (now (pool .entry))) s))) (now (pool .entry)) (L.slotStart (L.editionOf (now (pool .entry))) s + L.slotHead) ⌝ }
+// The bits of all words of an entry: none is set where each word is zero.
+fn entry_bits(pool: &[i32], edition: Edition, at: usize) -> i32
+    requires { ⌜ at + L.entrySize edition ≤ length (now pool) ⌝ }
+    ensures { λ r. ⌜ Li.same (pos 0) r ≡ stand (replicate (L.entrySize edition) (pos 0)) (now (pool .entry)) at ⌝ }
 {
-    if level_of(pool, s) == 1 {
-        return true;
-    }
-    let n = count_of(pool, s);
-    let mut all = true;
-    let mut i: usize = 0;
-    while i < n {
-        all = geometry::and(all, tidy_inner(pool, s, i));
+    let low = joined(word(pool, at), word(pool, at + 1));
+    let high = joined(word(pool, at + 2), word(pool, at + 3));
+    let rest = joined(word(pool, at + RECT_SIZE), owner_in(pool, edition, at));
+    joined(joined(low, high), rest)
+}
+
+// "unused entries .. are all zero". They are joined an entry at a time: a loop over their words, of which there are few, takes longer.
+fn unused_zero(pool: &[i32], edition: Edition, s: SlotNumber) -> bool
+    requires { ⌜ InPool (now pool) s ⌝ }
+    requires { ⌜ edition ≡ L.editionOf (now pool) ⌝ }
+    ensures { λ r. ⌜ r ≡ zeroFrom (now (pool .entry)) s (length (P.entriesAt (L.read (now (pool .entry))) s)) ⌝ }
+{
+    let mut all: i32 = 0;
+    let mut i = count_in(pool, edition, s);
+    while i < MOST {
+        all = joined(all, entry_bits(pool, edition, spot_in(edition, s, i)));
         i += 1;
     }
-    all
-}
-
-// "unused entries .. are all zero"
-fn tidy_places(pool: &[i32], s: SlotNumber) -> bool
-    requires { ⌜ InPool (now pool) s ⌝ }
-    ensures { λ r. ⌜ r ≡ stand (L.padded (most * L.entrySize (L.editionOf (now (pool .entry)))) (Li.joined (map (L.entryWords (L.editionOf (now (pool .entry)))) (P.entriesAt (L.read (now (pool .entry))) s)))) (now (pool .entry)) (L.slotStart (L.editionOf (now (pool .entry))) s + L.slotHead) ⌝ }
-{
-    let edition = edition_of(pool);
-    let size = entry_size(edition);
-    let long = slot_size(edition);
-    let at = slot_start(pool, s);
-    let n = count_of(pool, s);
-    let used = tidy_entries(pool, s);
-    let rest = zeros(pool, at + SLOT_HEAD + size * n, at + long);
-    geometry::and(used, rest)
+    geometry::same(0, all)
 }
 
 // "M = 8 entries in a node at most": the count is not one that `read` cuts off.
@@ -161,33 +150,35 @@ fn tidy_count(pool: &[i32], at: usize) -> bool
     )
 }
 
-// "level, count, then 8 entries": the slot's words are those of the node that is read from them.
-pub fn tidy_slot(pool: &[i32], s: SlotNumber) -> bool
+// "level, count, then 8 entries": what stands around the entries in use, the count and the places after them, is as it would be written.
+pub fn tidy_around(pool: &[i32], edition: Edition, s: SlotNumber) -> bool
     requires { ⌜ InPool (now pool) s ⌝ }
-    ensures { λ r. ⌜ r ≡ stand (L.nodeWords (L.editionOf (now (pool .entry))) (P.nodeAt (L.read (now (pool .entry))) s)) (now (pool .entry)) (L.slotStart (L.editionOf (now (pool .entry))) s) ⌝ }
+    requires { ⌜ edition ≡ L.editionOf (now pool) ⌝ }
+    ensures { λ r. ⌜ r ≡ tidyAround (now (pool .entry)) s ⌝ }
 {
-    let at = slot_start(pool, s);
-    let level = at_least(pool, at, 0);
-    let count = tidy_count(pool, count_place(pool, s));
-    let places = tidy_places(pool, s);
-    geometry::and(level, geometry::and(count, places))
+    let at = start_in(edition, s);
+    let count = tidy_count(pool, at + 1);
+    let unused = unused_zero(pool, edition, s);
+    geometry::and(count, unused)
 }
 
 // "free slots are all zero"
-pub fn zero_slot(pool: &[i32], s: SlotNumber) -> bool
+pub fn zero_slot(pool: &[i32], edition: Edition, s: SlotNumber) -> bool
     requires { ⌜ InPool (now pool) s ⌝ }
+    requires { ⌜ edition ≡ L.editionOf (now pool) ⌝ }
     ensures { λ r. ⌜ r ≡ stand (L.nodeWords (L.editionOf (now (pool .entry))) P.freeNode) (now (pool .entry)) (L.slotStart (L.editionOf (now (pool .entry))) s) ⌝ }
 {
-    let long = slot_size(edition_of(pool));
-    let at = slot_start(pool, s);
+    let long = slot_size(edition);
+    let at = start_in(edition, s);
     zeros(pool, at, at + long)
 }
 
 // The pointer of the entry at place i is 1 or more, whether it is a record number or a child slot.
-pub fn numbered(pool: &[i32], s: SlotNumber, i: usize) -> bool
+pub fn numbered(pool: &[i32], edition: Edition, s: SlotNumber, i: usize) -> bool
     requires { ⌜ InPool (now pool) s ⌝ }
+    requires { ⌜ edition ≡ L.editionOf (now pool) ⌝ }
     requires { ⌜ i < length (P.entriesAt (L.read (now pool)) s) ⌝ }
     ensures { λ r. ⌜ r ≡ leZ (pos 1) (L.pointerWord (P.entryAt (L.read (now (pool .entry))) s i .pointer)) ⌝ }
 {
-    at_least(pool, pointer_place(pool, s, i), 1)
+    at_least(pool, spot_in(edition, s, i) + RECT_SIZE, 1)
 }

@@ -1,7 +1,7 @@
 -- `every`, one after the other, as a loop or a recursion goes through a list.
-use mathlib.Core.Path.{_≡_, sym, ap, _∙_}
+use mathlib.Core.Path.{_≡_, refl, sym, ap, ap₂, _∙_}
 use mathlib.Core.Bool.{Bool, true, false, _&&_, and-assoc, and-true}
-use mathlib.Core.List.{List}
+use mathlib.Core.List.{List, [], _∷_, List·Memᴰ·head, List·Memᴰ·tail}
 use Prim.Native.Nat.{ℕ, suc, _+_, _≤_, _<_}
 use native.Mathlib.Numerals.{add-one}
 use native.Mathlib.Omega.{arith}
@@ -10,7 +10,7 @@ use lib.Seq.{drop-cons}
 use Rattle.rules.specs.Lists.{every, upFrom}
 use Rattle.rules.specs.Pool.{Pool, slot, slotNumbers}
 use Rattle.rules_laws.proofs.Everies.{every-nil, every-cons}
-use Rattle.rules_laws.proofs.Places.{getD-upFrom}
+use Rattle.rules_laws.proofs.Places.{Among, getD-upFrom}
 
 module _ {A : Type 0} (p : A → Bool) where
   module _ (xs : List A) (i : ℕ) where
@@ -26,6 +26,11 @@ module _ {A : Type 0} (p : A → Bool) where
 
     pub every-goes : (d : A) → i < length xs → p (getD xs i d) ≡ true → every p (drop i xs) ≡ every p (drop (i + 1) xs)
     every-goes d h e = rw (every-more d h, e)
+
+  pub every-same : (q : A → Bool) (xs : List A) → ((x : A) → Among x xs → p x ≡ q x) → every p xs ≡ every q xs
+  unfolding every
+  every-same q [] h = refl
+  every-same q (x ∷ xs) h = ap₂ _&&_ (h x (List·Memᴰ·head refl)) (every-same q xs (λ y m. h y (List·Memᴰ·tail m)))
 
   -- what was asked so far, with those from place i on
   module _ (xs : List A) (i : ℕ) (so-far : Bool) where

@@ -3,12 +3,12 @@
 use mathlib.Core.Path.{_≡_, refl, sym, ap, ap₂, subst, _∙_}
 use mathlib.Core.Bool.{Bool, true, false, cond, _&&_}
 use mathlib.Core.List.{List, [], _∷_, foldl, List·Memᴰ·head, List·Memᴰ·tail}
-use Prim.Native.Nat.{ℕ, _≤_}
+use Prim.Native.Nat.{ℕ, zero, suc, _≤_}
 use native.Mathlib.Omega.{arith}
 use lib.ListN.{length, getD, drop}
 use lib.IntN.{ℤ, pos, negsuc}
 use lib.Signed.{leZ}
-use borrow.Author.Tests.{eq-eqb}
+use borrow.Author.Tests.{eq-eqb, le-leb}
 use Rattle.rules.specs.declared.Rect.{Rect}
 use Rattle.rules.specs.declared.SlotNumber.{SlotNumber}
 use Rattle.rules.specs.declared.Pointer.{Pointer}
@@ -19,7 +19,7 @@ use Rattle.rules.specs.Numbers.{inRange, goodNumber}
 use Rattle.rules.specs.Owners.{owner}
 use Rattle.rules.specs.Geometry.{valid, smaller, larger, cover, coverAll}
 use Rattle.rules.specs.Choose.{rectFrom}
-use Rattle.rules.specs.Pool.{Pool, number, noEntry, nodeAt, entriesAt, entryAt, entryFrom, rects, coverOf}
+use Rattle.rules.specs.Pool.{Pool, slot, number, noEntry, childOf, nodeAt, entriesAt, entryAt, entryFrom, rects, coverOf}
 use Rattle.rules.specs.Layout.{entryPlace, pointerPlace, editionOf, pointerWord, wordAt, ownerAt, read}
 use Rattle.rules_laws.proofs.Bools.{and-both, both-and, same-test}
 use Rattle.rules_laws.proofs.Orders.{never-both, at-most-on}
@@ -34,7 +34,9 @@ use Rattle.nodes.proofs.Pointers.{number-is}
 use Rattle.nodes.proofs.Covers.{ahead, first, step}
 use Rattle.rules_laws.proofs.Compares.{HoldsRect}
 use Rattle.search_laws.proofs.Covers.{cover-of-holds}
-use Rattle.sound_laws.specs.Tree.{LeafEntry}
+use Rattle.sound_laws.specs.Tree.{LeafEntry, Tree}
+use Rattle.sound_laws.proofs.Walk.{no-tree, leaf-of, inner-of, tree-node}
+use Rattle.sound_laws.proofs.Entries.{tree-valid}
 use Rattle.sound.specs.Walked.{upright, plainEntry}
 
 -- ---- rectangles
@@ -165,6 +167,25 @@ number-one p z o e = subst (λ (q : Pointer). leZ (pos 1) (pointerWord q) ≡ tr
 
 pub leaf-plain : (e : Entry) → LeafEntry e → plainEntry e ≡ true
 leaf-plain e h = is-plain e (h .rect) (one-number (e .pointer) (ap goodNumber (number-is e) ∙ h .number))
+
+-- .. and those of any node of a tree: a child is a slot from 1 on
+child-one : (e : Entry) → 1 ≤ childOf e .0 → leZ (pos 1) (pointerWord (e .pointer)) ≡ true
+unfolding childOf pointerWord
+child-one e h = go (e .pointer) h
+  where
+    led : Pointer → SlotNumber
+    led p = elim p [ Number n o ↦ slot 0 | Child s ↦ s ]
+
+    go : (p : Pointer) → 1 ≤ led p .0 → leZ (pos 1) (pointerWord p) ≡ true
+    go (Number n o) k = absurd (omega arith)
+    go (Child s) k = le-leb 1 (s .0) k
+
+pub tree-plain : (p : Pool) (l : ℕ) (s : SlotNumber) → Tree p l s → (e : Entry) → Among e (entriesAt p s) → plainEntry e ≡ true
+tree-plain p zero s d e m = absurd (no-tree p s d)
+tree-plain p (suc zero) s d e m = leaf-plain e (leaf-of p s d .each e m)
+tree-plain p (suc (suc l)) s d e m =
+    let child = tree-node p (suc l) (childOf e) (inner-of p l s d .each e m .child) in
+    is-plain e (tree-valid p (suc (suc l)) s d e m) (child-one e (child .slot .low))
 
 pub plain-leaf : {w : List ℤ} {s : SlotNumber} → InPool w s → nodeAt (read w) s .level ≡ 1 → (e : Entry) → Among e (entriesAt (read w) s)
     → plainEntry e ≡ true → LeafEntry e

@@ -1,16 +1,17 @@
 -- The node check and the entry check, a step at a time, as the code has them. A tree is its top, met first, and the trees that its entries
 -- lead to, met one after the other.
-use mathlib.Core.Path.{_≡_, refl, sym, subst, _∙_}
+use mathlib.Core.Path.{_≡_, refl, sym, ap, subst, _∙_}
 use mathlib.Core.Logic.{_⊎_, inl, inr}
-use mathlib.Core.Bool.{Bool, true, false}
+use mathlib.Core.Bool.{Bool, true, false, _&&_}
 use mathlib.Core.List.{List, [], _∷_, _++_, List·Memᴰ·head, List·Memᴰ·tail, List·Memᴰ·not-nil, List·Memᴰ·cases-cons, List·Memᴰ·eq-of-singleton}
 use Prim.Native.Nat.{ℕ, zero, suc, _+_, _-_, _≤_, _<_}
 use native.Mathlib.Omega.{arith}
 use native.Mathlib.Numerals.{add-one}
+use lib.Dec.{leb, eqb}
 use lib.ListN.{length, set, drop, drop-of-length-le}
 use lib.Seq.{drop-cons}
 use lib.IntN.{ℤ}
-use borrow.Author.Tests.{ne-eqb}
+use borrow.Author.Tests.{eq-eqb, ne-eqb, eqb-true}
 use Rattle.rules.specs.declared.Rect.{Rect}
 use Rattle.rules.specs.declared.SlotNumber.{SlotNumber}
 use Rattle.rules.specs.declared.Entry.{Entry}
@@ -18,23 +19,24 @@ use Rattle.rules.specs.Lists.{every}
 use Rattle.rules.specs.Pool.{Node, Pool, noEntry, nodeAt, entriesAt, entryAt, entryFrom, childOf, rects, coverOf, isLeaf}
 use Rattle.rules.specs.Numbers.{least, mostSlots}
 use Rattle.rules.specs.Geometry.{sameRect}
-use Rattle.rules.specs.Layout.{slotStart, editionOf, nodeWords, read}
+use Rattle.rules.specs.Layout.{slotCount, read}
 use Rattle.rules.specs.Choose.{rectFrom}
 use Rattle.rules.specs.Sound.{isSlot}
+use Rattle.rules_laws.proofs.Bools.{and-both, both-and}
 use Rattle.rules_laws.proofs.Orders.{never-both}
 use Rattle.rules_laws.proofs.Everies.{every-is}
 use Rattle.rules_laws.proofs.Joins.{joined-none, joined-more}
 use Rattle.rules_laws.proofs.Places.{Among}
 use Rattle.layout_laws.specs.Slots.{InPool}
-use Rattle.pool.specs.Standing.{stand}
+use Rattle.pool.specs.Standing.{tidyAround}
 use Rattle.layout_laws.proofs.Parts.{few, slot-few, rect-entry}
 use Rattle.layout_laws.proofs.Written.{read-slots}
 use Rattle.sound_laws.specs.Tree.{slotsIn, NodeIn}
 use Rattle.sound_laws.proofs.Same.{same-rect}
 use Rattle.sound_laws.proofs.Tests.{slot-is}
 use Rattle.sound_laws.proofs.Walk.{slots-leaf, slots-inner, leaf-of, inner-of, leaf-tree, inner-tree, tree-node, top-among, below-among, among-cases}
-use Rattle.sound.specs.Walked.{plainEntry, slotsBelow, markOf, Unmet, Answers, TidySlot, Fitting, TidyTree, SoundNode, SoundEntries, NodeAnswer, EntriesAnswer, RootAnswer}
-use Rattle.sound.proofs.Looks.{leaf-plain, plain-leaf}
+use Rattle.sound.specs.Walked.{plainEntry, slotsBelow, markOf, Unmet, Answers, Fitting, TidyTree, SoundNode, SoundEntries, NodeAnswer, EntriesAnswer, RootAnswer}
+use Rattle.sound.proofs.Looks.{leaf-plain, tree-plain, plain-leaf}
 use Rattle.sound.proofs.Marks.{one-unmet, unmet-one, one-marked, unmet-none, marked-none, unmet-front, unmet-back, unmet-both, marked-both}
 
 -- ---- answers
@@ -108,6 +110,11 @@ pub entry-rect : (p : Pool) (s : SlotNumber) (i : ℕ) → rectFrom (rects (entr
 unfolding entryAt entryFrom
 entry-rect p s i = rect-entry (entriesAt p s) i
 
+-- a slot from 1 on, of as many as there are
+pub among-is : (w : List ℤ) (n : ℕ) (c : SlotNumber) → n ≡ slotCount w → (leb 1 (c .0) && leb (c .0) n) ≡ isSlot (read w) c
+unfolding isSlot
+among-is w n c e = ap (λ (k : ℕ). leb 1 (c .0) && leb (c .0) k) (e ∙ sym (read-slots w))
+
 module _ (w : List ℤ) (below : ℕ) (s : SlotNumber) (i : ℕ) where
   -- what is asked of the entries from place j on, answered by r
   abbrev pub EntriesFrom : ℕ → List ℕ → List ℕ → Bool → Type 0
@@ -148,26 +155,24 @@ module _ {w : List ℤ} {s : SlotNumber} (k : InPool w s) where
     few = slot-few k;
   }
 
-  -- the node is met: not for the first time, or of another level, or as asked
+  -- the node is met: not for the first time, or as asked
   pub met-before : (l : ℕ) (a : List ℕ) → (markOf a s ≡ 0 → ⊥) → Answers (Fitting w l s) (s ∷ []) a a false
   met-before l a n = refused (λ f u. n (unmet-one s (k .low) a u))
 
-  pub other-level : (l : ℕ) {a b : List ℕ} → (nodeAt (read w) s .level ≡ l → ⊥) → Answers (Fitting w l s) (s ∷ []) a b false
-  other-level l n = refused (λ f u. n (f .level))
-
-  pub met-now : (l : ℕ) (a : List ℕ) (r : Bool) → length a ≡ mostSlots → markOf a s ≡ 0 → nodeAt (read w) s .level ≡ l
-      → r ≡ stand (nodeWords (editionOf w) (nodeAt (read w) s)) w (slotStart (editionOf w) s) → Answers (Fitting w l s) (s ∷ []) a (set a (s .0 - 1) 1) r
-  met-now l a r long none level tidy = record {
-    yes = λ e. record { level = level; tidy = sym tidy ∙ e };
+  pub met-now : (l : ℕ) (a : List ℕ) (r : Bool) → length a ≡ mostSlots → markOf a s ≡ 0
+      → r ≡ (eqb (nodeAt (read w) s .level) l && tidyAround w s) → Answers (Fitting w l s) (s ∷ []) a (set a (s .0 - 1) 1) r
+  met-now l a r long none fits = record {
+    yes = λ e. let q = and-both (eqb (nodeAt (read w) s .level) l) (tidyAround w s) (sym fits ∙ e) in
+        record { level = eqb-true (nodeAt (read w) s .level) l (q .0); around = q .1 };
     unmet = λ e. one-unmet s (k .low) a none;
     marked = λ e. one-marked s (k .low) a (omega (arith, long, few k)) none;
-    all = λ f u. tidy ∙ f .tidy;
+    all = λ f u. fits ∙ both-and _ _ (eq-eqb (nodeAt (read w) s .level) l (f .level)) (f .around);
   }
 
   -- the top of a tidy tree
   top-fits : (l : ℕ) → 1 ≤ l → TidyTree w l s → Fitting w l s
   top-fits zero h t = absurd (omega arith)
-  top-fits (suc l) h t = record { level = tree-node (read w) (suc l) s (t .tree) .level; tidy = t .tidy s (top-among (read w) l s) }
+  top-fits (suc l) h t = record { level = tree-node (read w) (suc l) s (t .tree) .level; around = t .around s (top-among (read w) l s) }
 
   top-unmet : (l : ℕ) → 1 ≤ l → {a : List ℕ} → Unmet (slotsIn (read w) l s) a → Unmet (s ∷ []) a
   top-unmet zero h u = absurd (omega arith)
@@ -175,8 +180,8 @@ module _ {w : List ℤ} {s : SlotNumber} (k : InPool w s) where
   top-unmet (suc (suc l)) h u =
       unmet-front (s ∷ []) (slotsBelow (read w) (suc l) (entriesAt (read w) s)) (rw (slots-inner (read w) s l) at u)
 
-  pub not-met : (l : ℕ) → 1 ≤ l → {a b : List ℕ} {r : Bool} → r ≡ false → Answers (Fitting w l s) (s ∷ []) a b r
-      → Answers (TidyTree w l s) (slotsIn (read w) l s) a b false
+  pub not-met : (l : ℕ) → 1 ≤ l → {a b c : List ℕ} {r : Bool} → r ≡ false → Answers (Fitting w l s) (s ∷ []) a b r
+      → Answers (TidyTree w l s) (slotsIn (read w) l s) a c false
   not-met l h e m = refused (λ t u. never-both (m .all (top-fits l h t) (top-unmet l h u)) e)
 
   -- a leaf
@@ -188,7 +193,7 @@ module _ {w : List ℤ} {s : SlotNumber} (k : InPool w s) where
           node = node-in (m .yes t);
           each = λ f i. plain-leaf k (m .yes t .level) f i (every-is plainEntry (entriesAt (read w) s) .0 (sym e ∙ h) f i);
         });
-        tidy = λ u i. rw (List·Memᴰ·eq-of-singleton (rw (slots-leaf (read w) s) at i)) (m .yes t .tidy);
+        around = λ u i. rw (List·Memᴰ·eq-of-singleton (rw (slots-leaf (read w) s) at i)) (m .yes t .around);
       };
       unmet = λ h. rw (slots-leaf (read w) s) (m .unmet t);
       marked = λ h. rw (slots-leaf (read w) s) (m .marked t);
@@ -198,10 +203,10 @@ module _ {w : List ℤ} {s : SlotNumber} (k : InPool w s) where
   -- an inner node
   module _ (l : ℕ) {a b c : List ℕ} {q r : Bool} (t : q ≡ true) (m : Answers (Fitting w (suc (suc l)) s) (s ∷ []) a b q)
       (n : EntriesAnswer w (suc l) (entriesAt (read w) s) b c r) where
-    tidy-below : r ≡ true → (u : SlotNumber)
-        → (u ≡ s) ⊎ ((e : Entry) × Among e (entriesAt (read w) s) × Among u (slotsIn (read w) (suc l) (childOf e))) → TidySlot w u
-    tidy-below h u (inl e) = rw e (m .yes t .tidy)
-    tidy-below h u (inr i) = n .yes h (i .0) (i .1) .below .tidy u (i .2)
+    around-below : r ≡ true → (u : SlotNumber)
+        → (u ≡ s) ⊎ ((e : Entry) × Among e (entriesAt (read w) s) × Among u (slotsIn (read w) (suc l) (childOf e))) → tidyAround w u ≡ true
+    around-below h u (inl e) = rw e (m .yes t .around)
+    around-below h u (inr i) = n .yes h (i .0) (i .1) .below .around u (i .2)
 
     abbrev rest : List SlotNumber
     rest = slotsBelow (read w) (suc l) (entriesAt (read w) s)
@@ -210,7 +215,7 @@ module _ {w : List ℤ} {s : SlotNumber} (k : InPool w s) where
     entries-back h e i =
         let d = inner-of (read w) l s (h .tree) .each e i in
         record {
-          below = record { tree = d .child; tidy = λ u j. h .tidy u (below-among (read w) l s u e i j) };
+          below = record { tree = d .child; around = λ u j. h .around u (below-among (read w) l s u e i j) };
           enough = d .enough;
           tight = d .tight;
         }
@@ -222,7 +227,7 @@ module _ {w : List ℤ} {s : SlotNumber} (k : InPool w s) where
           node = node-in (m .yes t);
           each = λ e i. let d = n .yes h e i in record { child = d .below .tree; enough = d .enough; tight = d .tight };
         });
-        tidy = λ u i. tidy-below h u (among-cases (read w) l s u i);
+        around = λ u i. around-below h u (among-cases (read w) l s u i);
       };
       unmet = λ h. rw (slots-inner (read w) s l) (unmet-both (s ∷ []) rest (m .marked t) (m .unmet t) (n .unmet h));
       marked = λ h. rw (slots-inner (read w) s l) (marked-both (s ∷ []) rest (m .marked t) (n .marked h));
@@ -243,6 +248,9 @@ module _ {w : List ℤ} {s : SlotNumber} (k : InPool w s) where
 module _ {w : List ℤ} {l : ℕ} {s : SlotNumber} {want : Rect} {a b : List ℕ} where
   pub too-few : length (entriesAt (read w) s) < least → NodeAnswer w l s want a b false
   too-few h = refused (λ n u. omega (arith, n .enough))
+
+  pub not-plain : every plainEntry (entriesAt (read w) s) ≡ false → NodeAnswer w l s want a b false
+  not-plain e = refused (λ n u. never-both (every-is plainEntry (entriesAt (read w) s) .1 (tree-plain (read w) l s (n .below .tree))) e)
 
   module _ (cover : Rect) (is : cover ≡ coverOf (entriesAt (read w) s)) where
     pub not-tight : sameRect want cover ≡ false → NodeAnswer w l s want a b false

@@ -1,34 +1,37 @@
 -- The owners of the records, a leaf at a time and an entry at a time. In edition 1 no entry has a word for one, and each is read as nobody.
-use mathlib.Core.Path.{_≡_, refl, sym, ap, _∙_}
-use mathlib.Core.Bool.{Bool, true, false, cond, _&&_, and-assoc}
+use mathlib.Core.Path.{_≡_, refl, sym, ap, ap₂, _∙_}
+use mathlib.Core.Bool.{Bool, true, false, cond, _&&_, and-assoc, and-true}
 use mathlib.Core.List.{List, [], _∷_, _++_, map}
-use Prim.Native.Nat.{ℕ, _+_, _-_, _≤_, _<_}
+use Prim.Native.Nat.{ℕ, _<_}
 use native.Mathlib.Omega.{arith}
 use lib.Dec.{eqb}
 use lib.ListN.{length, getD, take, drop}
 use lib.IntN.{ℤ, pos}
-use borrow.Author.Tests.{eq-eqb, ne-eqb}
 use Rattle.rules.specs.declared.Edition.{Edition}
 use Rattle.rules.specs.declared.Edition.the-variants.{One, Two}
 use Rattle.rules.specs.declared.SlotNumber.{SlotNumber}
 use Rattle.rules.specs.declared.Owner.{Owner}
 use Rattle.rules.specs.declared.Record.{Record}
 use Rattle.rules.specs.declared.Entry.{Entry}
-use Rattle.rules.specs.Lists.{those, every, joined, same}
+use Rattle.rules.specs.Lists.{those, every, joined, upFrom, same}
 use Rattle.rules.specs.Numbers.{most, goodOwner}
 use Rattle.rules.specs.Owners.{owner, nobody, ownerSound}
-use Rattle.rules.specs.Pool.{Node, Pool, slot, entry, noEntry, freeNode, nodeAt, entriesAt, entryAt, entryFrom, ownerOf, recordOf, isLeaf, stored}
-use Rattle.rules.specs.Layout.{headSize, rectSize, entrySize, slotHead, slotSize, entryPlace, pointerPlace, editionOf}
+use Rattle.rules.specs.Pool.{Node, Pool, entry, noEntry, slotNumbers, nodeAt, entriesAt, entryAt, entryFrom, ownerOf, recordOf, isLeaf, stored}
+use Rattle.rules.specs.Layout.{headSize, rectSize, entrySize, slotHead, slotSize, pointerPlace, editionOf}
 use Rattle.rules.specs.Layout.{slotCount, natural, wordAt, runs, rectOf, pointerOf, ownerAt, entryOf, nodeOf, read}
 use Rattle.rules.specs.Sound.{ownersSound}
 use Rattle.rules_laws.proofs.Bools.{both-and}
+use Rattle.rules_laws.proofs.Everies.{every-is, every-both}
+use Rattle.rules_laws.proofs.Places.{Among, place-of, length-upFrom, getD-upFrom, upFrom-among, map-upFrom}
 use Rattle.layout_laws.specs.Slots.{InPool}
 use Rattle.layout_laws.proofs.Parts.{slot-pointer}
 use Rattle.layout_laws.proofs.Written.{pointer-number, pointer-child}
 use Rattle.nodes.specs.Reading.{pointedOwner}
 use Rattle.nodes.proofs.Pointers.{owner-is}
-use Rattle.sound.specs.Walked.{ownedEntry, ownedNode}
-use Rattle.sound.proofs.Everies.{every-fails, every-goes}
+use Rattle.sound_laws.proofs.Tests.{or-is}
+use Rattle.sound_laws.proofs.Flat.{nodes-are}
+use Rattle.sound.specs.Walked.{ownedEntry, ownedNode, ownerWordAt, placesOf, innerUnowned, ownersFit, ownerFits}
+use Rattle.sound.proofs.Everies.{every-same}
 
 -- ---- a leaf at a time
 
@@ -74,10 +77,19 @@ owners-of p e h = ap (λ (d : Edition). every (λ (r : Record). ownerSound d (r 
 
 -- ---- edition 2
 
--- each leaf's owners are asked
-pub owners-two : (w : List ℤ) → editionOf w ≡ Two → every ownedNode (read w .slots) ≡ ownersSound (read w)
+owners-all : (w : List ℤ) → editionOf w ≡ Two → every ownedNode (read w .slots) ≡ ownersSound (read w)
 unfolding read ownedNode ownedEntry ownerSound
-owners-two w h = sym (owners-of (read w) Two h)
+owners-all w h = sym (owners-of (read w) Two h)
+
+-- each slot's owners are asked, and those of a node above the leaves
+pub owners-two : (w : List ℤ) → editionOf w ≡ Two
+    → every (ownersFit w) (slotNumbers (read w)) ≡ (ownersSound (read w) && every (innerUnowned w) (slotNumbers (read w)))
+unfolding ownersFit
+owners-two w h =
+    let p = read w in
+    every-both (λ s. ownedNode (nodeAt p s)) (innerUnowned w) (slotNumbers p)
+    ∙ ap (λ (b : Bool). b && every (innerUnowned w) (slotNumbers p))
+    (sym (every-map ownedNode (nodeAt p) (slotNumbers p)) ∙ ap (every ownedNode) (nodes-are p) ∙ owners-all w h)
 
 -- ---- edition 1
 
@@ -120,43 +132,113 @@ nodes-nobody ws = go (isLeaf (nodeOf One ws)) (every-image each (entryOf One l) 
     go false h = refl
 
 -- so all records are nobody's
-pub owners-one : (w : List ℤ) → editionOf w ≡ One → true ≡ ownersSound (read w)
+records-nobody : (w : List ℤ) → editionOf w ≡ One → ownersSound (read w) ≡ true
 unfolding read
-owners-one w h =
-    sym (owners-of (read w) One h
+records-nobody w h =
+    owners-of (read w) One h
     ∙ ap (λ (e : Edition). every (leafGood (ownerSound One)) (map (nodeOf e) (runs (slotSize e) (slotCount w) (drop headSize w)))) h
-    ∙ every-image (leafGood (ownerSound One)) (nodeOf One) nodes-nobody (runs (slotSize One) (slotCount w) (drop headSize w)))
+    ∙ every-image (leafGood (ownerSound One)) (nodeOf One) nodes-nobody (runs (slotSize One) (slotCount w) (drop headSize w))
 
--- ---- a slot at a time: s fails, or leaves the rest to answer
+-- ---- the places of a slot
 
-module _ (p : Pool) (s : ℕ) (low : 1 ≤ s) (high : s ≤ length (p .slots)) where
-  pub owned-fails : ownedNode (nodeAt p (slot s)) ≡ false → every ownedNode (drop (s - 1) (p .slots)) ≡ false
-  unfolding nodeAt
-  owned-fails e = every-fails ownedNode (p .slots) (s - 1) freeNode (omega arith) e
+place-below : (n i : ℕ) → Among i (upFrom 0 n) → i < n
+place-below n i m =
+    let q = place-of m in
+    let l : q .0 < n = omega (arith, q .1, length-upFrom 0 n) in
+    omega (arith, q .2 0, getD-upFrom 0 n (q .0) 0 l)
 
-  pub owned-goes : ownedNode (nodeAt p (slot s)) ≡ true → every ownedNode (drop (s - 1) (p .slots)) ≡ every ownedNode (drop (s + 1 - 1) (p .slots))
-  unfolding nodeAt
-  owned-goes e =
-      let next : s - 1 + 1 ≡ s + 1 - 1 = omega arith in
-      every-goes ownedNode (p .slots) (s - 1) freeNode (omega arith) e ∙ ap (λ (k : ℕ). every ownedNode (drop k (p .slots))) next
+-- the words of an inner node's owners, a place at a time
+module _ (w : List ℤ) (s : SlotNumber) where
+  pub unowned-at : innerUnowned w s ≡ true → isLeaf (nodeAt (read w) s) ≡ false → (i : ℕ) → i < length (entriesAt (read w) s)
+      → same (pos 0) (ownerWordAt w s i) ≡ true
+  unfolding innerUnowned
+  unowned-at h e i l =
+      let zero : ℕ → Bool = λ j. same (pos 0) (ownerWordAt w s j) in
+      every-is zero (placesOf w s) .0 (or-is (isLeaf (nodeAt (read w) s)) (every zero (placesOf w s)) .0 h e) i
+      (upFrom-among 0 (length (entriesAt (read w) s)) i (omega arith) (omega arith))
+
+  pub at-unowned : (isLeaf (nodeAt (read w) s) ≡ false → (i : ℕ) → i < length (entriesAt (read w) s) → same (pos 0) (ownerWordAt w s i) ≡ true)
+      → innerUnowned w s ≡ true
+  unfolding innerUnowned
+  at-unowned h =
+      let zero : ℕ → Bool = λ j. same (pos 0) (ownerWordAt w s j) in
+      or-is (isLeaf (nodeAt (read w) s)) (every zero (placesOf w s)) .1 (λ e. every-is zero (placesOf w s) .1 (λ i m. h e i (place-below _ i m)))
+
+-- in edition 1 there are none
+no-word : (e : Edition) → e ≡ One → (ws : List ℤ) → same (pos 0) (ownerAt e ws) ≡ true
+unfolding ownerAt same
+no-word e h ws = ap (λ (d : Edition). same (pos 0) (ownerAt d ws)) h
+
+pub owners-one : (w : List ℤ) → editionOf w ≡ One → true ≡ (ownersSound (read w) && every (innerUnowned w) (slotNumbers (read w)))
+owners-one w h =
+    sym (both-and _ _ (records-nobody w h)
+    (every-is (innerUnowned w) (slotNumbers (read w)) .1 (λ s m. at-unowned w s (λ e i l. no-word (editionOf w) h _))))
 
 -- ---- an entry at a time
 
-pub not-leaf-owned : (n : Node) → (n .level ≡ 1 → ⊥) → true ≡ ownedNode n
-unfolding ownedNode isLeaf
-not-leaf-owned n e = rw (ne-eqb (n .level) 1 e)
+module _ (p : Pool) (s : SlotNumber) where
+  leaf-owned : eqb (nodeAt p s .level) 1 ≡ true → ownedNode (nodeAt p s) ≡ every ownedEntry (entriesAt p s)
+  unfolding ownedNode isLeaf entriesAt
+  leaf-owned e = rw e
 
-pub leaf-owned : (p : Pool) (s : SlotNumber) → nodeAt p s .level ≡ 1 → every ownedEntry (entriesAt p s) ≡ ownedNode (nodeAt p s)
-unfolding ownedNode isLeaf entriesAt
-leaf-owned p s e = rw (eq-eqb (nodeAt p s .level) 1 e)
+  inner-owned : eqb (nodeAt p s .level) 1 ≡ false → ownedNode (nodeAt p s) ≡ true
+  unfolding ownedNode isLeaf
+  inner-owned e = rw e
+
+module _ (w : List ℤ) (s : SlotNumber) where
+  leaf-free : eqb (nodeAt (read w) s .level) 1 ≡ true → innerUnowned w s ≡ true
+  unfolding innerUnowned isLeaf
+  leaf-free e = rw e
+
+  inner-asked : eqb (nodeAt (read w) s .level) 1 ≡ false
+      → innerUnowned w s ≡ every (λ (i : ℕ). same (pos 0) (ownerWordAt w s i)) (placesOf w s)
+  unfolding innerUnowned isLeaf
+  inner-asked e = rw e
+
+pub fits-leaf : (leaf : Bool) (o : ℤ) → leaf ≡ true → ownerFits leaf o ≡ goodOwner (owner o)
+unfolding ownerFits
+fits-leaf leaf o e = rw e
+
+pub fits-inner : (leaf : Bool) (o : ℤ) → leaf ≡ false → ownerFits leaf o ≡ same (pos 0) o
+unfolding ownerFits
+fits-inner leaf o e = rw e
 
 -- the owner's word is that of the leaf's entry
-pub owned-at : {w : List ℤ} {s : SlotNumber} → InPool w s → nodeAt (read w) s .level ≡ 1 → (i : ℕ) → i < length (entriesAt (read w) s)
-    → goodOwner (owner (ownerAt (editionOf w) (drop (entryPlace (editionOf w) s i) w))) ≡ ownedEntry (getD (entriesAt (read w) s) i noEntry)
+owned-at : {w : List ℤ} {s : SlotNumber} → InPool w s → eqb (nodeAt (read w) s .level) 1 ≡ true → (i : ℕ) → i < length (entriesAt (read w) s)
+    → goodOwner (owner (ownerWordAt w s i)) ≡ ownedEntry (getD (entriesAt (read w) s) i noEntry)
 unfolding ownedEntry entryAt entryFrom
-owned-at {w} {s} k l i h =
-    let o = ownerAt (editionOf w) (drop (entryPlace (editionOf w) s i) w) in
-    let z = wordAt w (pointerPlace (editionOf w) s i) in
+owned-at {w} {s} k e i h =
     ap goodOwner
-    (sym (ap pointedOwner (slot-pointer k i h ∙ pointer-number (nodeAt (read w) s .level) z o (eq-eqb (nodeAt (read w) s .level) 1 l)))
+    (sym (ap pointedOwner (slot-pointer k i h ∙ pointer-number (nodeAt (read w) s .level) (wordAt w (pointerPlace (editionOf w) s i)) (ownerWordAt w s i) e))
     ∙ owner-is (entryAt (read w) s i))
+
+-- what is asked of the word at place i
+abbrev pub fitsAt : List ℤ → SlotNumber → ℕ → Bool
+fitsAt w s i = ownerFits (eqb (nodeAt (read w) s .level) 1) (ownerWordAt w s i)
+
+pub fits-next : (w : List ℤ) (s : SlotNumber) (i : ℕ) → i < length (entriesAt (read w) s) → fitsAt w s i ≡ fitsAt w s (getD (placesOf w s) i 0)
+fits-next w s i h = ap (fitsAt w s) (omega (arith, getD-upFrom 0 (length (entriesAt (read w) s)) i 0 h))
+
+-- .. of all of them
+pub fits-all : {w : List ℤ} {s : SlotNumber} → InPool w s → every (fitsAt w s) (placesOf w s) ≡ ownersFit w s
+unfolding ownersFit
+fits-all {w} {s} k = go (eqb (nodeAt (read w) s .level) 1) refl
+  where
+    l : ℕ
+    l = nodeAt (read w) s .level
+
+    es : List Entry
+    es = entriesAt (read w) s
+
+    entry-at : ℕ → Entry
+    entry-at i = getD es i noEntry
+
+    go : (t : Bool) → eqb l 1 ≡ t → every (fitsAt w s) (placesOf w s) ≡ (ownedNode (nodeAt (read w) s) && innerUnowned w s)
+    go true e =
+        every-same (fitsAt w s) (λ i. ownedEntry (entry-at i)) (placesOf w s)
+        (λ i m. fits-leaf (eqb l 1) (ownerWordAt w s i) e ∙ owned-at k e i (place-below (length es) i m))
+        ∙ sym (every-map ownedEntry entry-at (placesOf w s)) ∙ ap (every ownedEntry) (map-upFrom noEntry es)
+        ∙ sym (ap₂ _&&_ (leaf-owned (read w) s e) (leaf-free w s e) ∙ and-true (every ownedEntry es))
+    go false e =
+        every-same (fitsAt w s) (λ i. same (pos 0) (ownerWordAt w s i)) (placesOf w s) (λ i m. fits-inner (eqb l 1) (ownerWordAt w s i) e)
+        ∙ sym (ap₂ _&&_ (inner-owned (read w) s e) (inner-asked w s e))

@@ -1,40 +1,44 @@
 -- A pool is sound just where the head is, the walk from the root says yes, every slot that it did not mark is all zero, the records are
 -- counted, and their owners are sound. A marked slot is one of the tree, once; a slot in use is not all zero, so it is marked; and a slot of
--- the tree is in use.
+-- the tree is in use. Its words are its node's: those around its entries are asked in the walk; a child is a slot from 1 on, so that no inner
+-- entry's pointer is negative; and that no inner entry has an owner is asked with the owners.
 use mathlib.Core.Path.{_≡_, refl, sym, ap, subst, _∙_}
 use mathlib.Core.Bool.{Bool, true, false, not, _&&_, _||_}
-use mathlib.Core.List.{List}
+use mathlib.Core.List.{List, map}
 use Prim.Native.Nat.{ℕ, _+_, _-_, _≤_, _<_}
 use native.Mathlib.Decide.{decLe}
 use native.Mathlib.Omega.{arith}
 use lib.Dec.{leb, eqb}
 use lib.ListN.{length, getD, replicate}
-use lib.IntN.{ℤ}
+use lib.IntN.{ℤ, pos}
+use lib.Signed.{leZ}
 use borrow.Author.Tests.{leb-true, le-leb, eqb-true, eq-eqb}
 use Rattle.rules.specs.declared.SlotNumber.{SlotNumber}
-use Rattle.rules.specs.Lists.{every}
-use Rattle.rules.specs.Pool.{Node, Pool, slot, freeNode, slotNumbers, nodeAt, stored}
-use Rattle.rules.specs.Layout.{slotStart, editionOf, validLength, nodeWords, headWords, read}
+use Rattle.rules.specs.Lists.{every, joined}
+use Rattle.rules.specs.Pool.{Node, Pool, slot, noEntry, freeNode, slotNumbers, nodeAt, entriesAt, entryAt, entryFrom, isLeaf, stored}
+use Rattle.rules.specs.Layout.{slotHead, slotStart, levelPlace, pointerPlace, editionOf, validLength, entryWords, nodeWords, headWords, wordAt, read}
 use Rattle.rules.specs.Sound.{isSlot, recordsSound, soundPool, nothingElse, ownersSound, sound}
 use Rattle.rules_laws.proofs.Bools.{and-both, both-and, same-test}
-use Rattle.rules_laws.proofs.Orders.{never-both}
+use Rattle.rules_laws.proofs.Orders.{never-both, at-most-on}
 use Rattle.rules_laws.proofs.Everies.{every-is}
-use Rattle.rules_laws.proofs.Places.{getD-alike}
+use Rattle.rules_laws.proofs.Places.{Among, at-place, getD-alike}
 use Rattle.layout_laws.specs.Slots.{InPool}
-use Rattle.pool.specs.Standing.{stand}
+use Rattle.pool.specs.Standing.{stand, tidyAround}
 use Rattle.layout_laws.proofs.Written.{read-slots}
-use Rattle.pool.proofs.Tidied.{nothing-each, zero-free}
-use Rattle.nodes.proofs.Slots.{most-slots, within, asked-within}
+use Rattle.pool.proofs.Tidied.{pointer-one, leaf-entries, inner-entries, inner-unowned, level-stands, slot-parts, nothing-each, zero-free}
+use Rattle.nodes.proofs.Slots.{most-slots, within as slot-within, asked-within}
 use Rattle.sound_laws.specs.Tree.{treeSlots, times, Slot, Used, Whole}
 use Rattle.sound_laws.proofs.Tests.{or-is, slot-is}
 use Rattle.sound_laws.proofs.Times.{times-among}
 use Rattle.sound_laws.proofs.Flat.{slots-are}
-use Rattle.sound_laws.proofs.Walk.{tree-node, within-used}
+use Rattle.sound_laws.proofs.Walk.{tree-node, within, within-used}
 use Rattle.sound_laws.proofs.Whole.{height-positive, reached-used, all-once}
 use Rattle.sound_laws.proofs.Sound.{sound-is-whole}
 use Rattle.sound_laws.proofs.Heights.{height-eight}
-use Rattle.sound.specs.Walked.{markOf, Unmet, Marked, TidySlot, SoundRoot, RootAnswer, metOrZero, headSound}
+use Rattle.sound.specs.Walked.{plainEntry, markOf, Unmet, Marked, SoundRoot, RootAnswer, metOrZero, headSound, innerUnowned}
 use Rattle.sound.proofs.Everies.{slots-at}
+use Rattle.sound.proofs.Looks.{plain-is, tree-plain}
+use Rattle.sound.proofs.Owners.{unowned-at, at-unowned}
 
 -- no slot is marked before the walk
 abbrev pub unmarked : List ℕ
@@ -96,12 +100,16 @@ records-are w =
     let p = read w in
     (λ h. sym (eqb-true (length (stored p)) (p .records) h), λ e. eq-eqb (length (stored p)) (p .records) (sym e))
 
-mark-none : (t : SlotNumber) → markOf unmarked t ≡ 0
+pub mark-none : (t : SlotNumber) → markOf unmarked t ≡ 0
 mark-none t = getD-alike 4096 (t .0 - 1) 0
+
+-- a slot's words are those of the node that is read from them
+abbrev TidySlot : List ℤ → SlotNumber → Type 0
+TidySlot w s = stand (nodeWords (editionOf w) (nodeAt (read w) s)) w (slotStart (editionOf w) s) ≡ true
 
 module _ (w : List ℤ) (right : validLength w ≡ true) where
   in-pool : {s : SlotNumber} → Slot (read w) s → InPool w s
-  in-pool {s} k = within w s right (k .low) (k .high)
+  in-pool {s} k = slot-within w s right (k .low) (k .high)
 
   pool-slot : {s : SlotNumber} → InPool w s → Slot (read w) s
   pool-slot k = record { low = k .low; high = omega (arith, k .high, read-slots w) }
@@ -140,9 +148,41 @@ module _ (w : List ℤ) (right : validLength w ≡ true) where
         absurd (omega (arith, within-used p (p .height) (p .root) s (asked .below .tree) (times-among s (treeSlots p) h) .used))
     free-when {s} k e (no h) = free-at k (omega arith)
 
-    tidy-at : {s : SlotNumber} → Slot p s → Dec (1 ≤ times s (treeSlots p)) → TidySlot w s
-    tidy-at {s} k (yes h) = asked .below .tidy s (times-among s (treeSlots p) h)
-    tidy-at {s} k (no h) = let z : times s (treeSlots p) ≡ 0 = omega arith in rw (free-at k z) (zero-or-met k z)
+    -- a slot of the tree: it is in use, its entries are plain, and an inner entry has no owner
+    module _ (unowned : every (innerUnowned w) (slotNumbers p) ≡ true) {s : SlotNumber} (m : Among s (treeSlots p)) where
+      used : Used p s
+      used = within-used p (p .height) (p .root) s (asked .below .tree) m
+
+      plain : (i : ℕ) → i < length (entriesAt p s) → plainEntry (entryAt p s i) ≡ true
+      unfolding entryAt entryFrom
+      plain i h =
+          tree-plain p (nodeAt p s .level) s (within p (p .height) (p .root) s (asked .below .tree) m .tree) (entryAt p s i)
+          (at-place (entriesAt p s) i noEntry h)
+
+      not-negative : (i : ℕ) → i < length (entriesAt p s) → leZ (pos 0) (wordAt w (pointerPlace (editionOf w) s i)) ≡ true
+      not-negative i h =
+          at-most-on (pos 0) (pos 1) (wordAt w (pointerPlace (editionOf w) s i)) refl
+          (pointer-one (in-pool (used .slot)) i h ∙ plain-is (entryAt p s i) (plain i h) .1)
+
+      entries-stand : (t : Bool) → eqb (nodeAt p s .level) 1 ≡ t
+          → stand (joined (map (entryWords (editionOf w)) (entriesAt p s))) w (slotStart (editionOf w) s + slotHead) ≡ true
+      unfolding isLeaf
+      entries-stand true e = leaf-entries (in-pool (used .slot)) e
+      entries-stand false e =
+          inner-entries (in-pool (used .slot)) e (λ i h. (
+            not-negative i h,
+            unowned-at w s (every-is (innerUnowned w) (slotNumbers p) .0 unowned s (slots-are p s .1 (used .slot))) e i h,
+          ))
+
+      tree-tidy : TidySlot w s
+      tree-tidy =
+          slot-parts (in-pool (used .slot))
+          ∙ both-and _ _ (level-stands (in-pool (used .slot)) (used .used))
+          (both-and _ _ (entries-stand (eqb (nodeAt p s .level) 1) refl) (asked .below .around s m))
+
+    tidy-at : every (innerUnowned w) (slotNumbers p) ≡ true → {s : SlotNumber} → Slot p s → Dec (1 ≤ times s (treeSlots p)) → TidySlot w s
+    tidy-at unowned {s} k (yes h) = tree-tidy unowned (times-among s (treeSlots p) h)
+    tidy-at unowned {s} k (no h) = let z : times s (treeSlots p) ≡ 0 = omega arith in rw (free-at k z) (zero-or-met k z)
 
     whole : recordsSound p ≡ true → Whole p
     whole records = record {
@@ -153,13 +193,14 @@ module _ (w : List ℤ) (right : validLength w ≡ true) where
       counted = records-are w .0 records;
     }
 
-    yes-sound : recordsSound p ≡ true → ownersSound p ≡ true → sound w ≡ true
+    yes-sound : recordsSound p ≡ true → (ownersSound p && every (innerUnowned w) (slotNumbers p)) ≡ true → sound w ≡ true
     unfolding sound
     yes-sound records owners =
+        let o = and-both (ownersSound p) (every (innerUnowned w) (slotNumbers p)) owners in
         both-and (nothingElse w && soundPool p) (ownersSound p)
         (both-and (nothingElse w) (soundPool p)
-        (nothing-each w right .1 (head-parts w head .0, λ s k. tidy-at (pool-slot k) (decLe 1 (times s (treeSlots p)))))
-        (sound-is-whole p .1 (whole records))) owners
+        (nothing-each w right .1 (head-parts w head .0, λ s k. tidy-at (o .1) (pool-slot k) (decLe 1 (times s (treeSlots p)))))
+        (sound-is-whole p .1 (whole records))) (o .0)
 
   -- ---- what is sound is said yes to
 
@@ -183,9 +224,23 @@ module _ (w : List ℤ) (right : validLength w ≡ true) where
         (height-eight (read w) is-whole (most-slots w right))
         (slot-is (read w) (read w .root) .1 (tree-node (read w) (read w .height) (read w .root) (is-whole .tree) .slot))
 
+    -- the words of the entries, and those around them
+    tidy-parts : {s : SlotNumber} → Slot (read w) s
+        → (stand (joined (map (entryWords (editionOf w)) (entriesAt (read w) s))) w (slotStart (editionOf w) s + slotHead) ≡ true)
+        × (tidyAround w s ≡ true)
+    tidy-parts {s} k =
+        let entries = stand (joined (map (entryWords (editionOf w)) (entriesAt (read w) s))) w (slotStart (editionOf w) s + slotHead) in
+        and-both entries (tidyAround w s) (and-both (leZ (pos 0) (wordAt w (levelPlace (editionOf w) s))) (entries && tidyAround w s) (sym (slot-parts (in-pool k)) ∙ all-tidy k) .1)
+
+    sound-unowned : every (innerUnowned w) (slotNumbers (read w)) ≡ true
+    unfolding isLeaf
+    sound-unowned = every-is (innerUnowned w) (slotNumbers (read w)) .1 (λ s m.
+        let k = slots-are (read w) s .0 m in
+        at-unowned w s (λ e. inner-unowned (in-pool k) e (tidy-parts k .0)))
+
     sound-root : SoundRoot w (read w .height) (read w .root)
     sound-root = record {
-      below = record { tree = is-whole .tree; tidy = λ t m. all-tidy (reached-used (read w) is-whole t m .slot) };
+      below = record { tree = is-whole .tree; around = λ t m. tidy-parts (reached-used (read w) is-whole t m .slot) .1 };
       two = is-whole .two;
     }
 
@@ -223,6 +278,9 @@ module _ (w : List ℤ) (right : validLength w ≡ true) where
   records-refused e = unsound (λ h. never-both (sound-records h) e)
 
   pub owners-last : {after : List ℕ} {r : Bool} → headSound w ≡ true → TopAnswer w after r → r ≡ true
-      → every (metOrZero w after) (slotNumbers (read w)) ≡ true → recordsSound (read w) ≡ true → ownersSound (read w) ≡ sound w
+      → every (metOrZero w after) (slotNumbers (read w)) ≡ true → recordsSound (read w) ≡ true
+      → (ownersSound (read w) && every (innerUnowned w) (slotNumbers (read w))) ≡ sound w
   owners-last {after} head walk t rest records =
-      same-test (ownersSound (read w)) (sound w) (yes-sound head (subst (TopAnswer w after) t walk) rest records) (λ h. parts h .2)
+      same-test (ownersSound (read w) && every (innerUnowned w) (slotNumbers (read w))) (sound w)
+      (yes-sound head (subst (TopAnswer w after) t walk) rest records)
+      (λ h. both-and _ _ (parts h .2) (sound-unowned h))

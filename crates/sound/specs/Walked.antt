@@ -4,20 +4,21 @@ use mathlib.Core.Bool.{Bool, true, cond, not, _&&_, _||_}
 use mathlib.Core.List.{List, map}
 use Prim.Native.Nat.{ℕ, _+_, _-_, _≤_}
 use lib.Dec.{leb, eqb}
-use lib.ListN.{length, getD}
+use lib.ListN.{length, getD, drop}
 use lib.IntN.{ℤ, pos}
 use lib.Signed.{leZ}
 use Rattle.rules.specs.declared.Rect.{Rect}
 use Rattle.rules.specs.declared.SlotNumber.{SlotNumber}
 use Rattle.rules.specs.declared.Entry.{Entry}
-use Rattle.rules.specs.Lists.{those, every, joined}
+use Rattle.rules.specs.Lists.{those, every, joined, upFrom, same}
 use Rattle.rules.specs.Numbers.{least, goodOwner}
 use Rattle.rules.specs.Geometry.{valid}
 use Rattle.rules.specs.Pool.{Node, Pool, freeNode, nodeAt, entriesAt, childOf, ownerOf, coverOf, isLeaf}
-use Rattle.rules.specs.Layout.{slotStart, editionOf, pointerWord, nodeWords, headWords, read}
+use Rattle.rules.specs.Owners.{owner}
+use Rattle.rules.specs.Layout.{slotStart, entryPlace, editionOf, pointerWord, ownerAt, nodeWords, headWords, read}
 use Rattle.rules.specs.Sound.{isSlot}
 use Rattle.rules_laws.proofs.Places.{Among}
-use Rattle.pool.specs.Standing.{stand}
+use Rattle.pool.specs.Standing.{stand, tidyAround}
 use Rattle.sound_laws.specs.Tree.{slotsIn, times, Tree}
 
 -- ---- entries
@@ -58,19 +59,15 @@ pub record Answers (Asked : Type 0) (ss : List SlotNumber) (seen after : List �
 
 -- ---- nodes
 
--- a slot's words are those of the node that is read from them
-abbrev pub TidySlot : List ℤ → SlotNumber → Type 0
-TidySlot w s = stand (nodeWords (editionOf w) (nodeAt (read w) s)) w (slotStart (editionOf w) s) ≡ true
-
--- .. and the node is of the level
+-- the node in a slot is of the level, and what stands around its entries is tidy
 pub record Fitting (w : List ℤ) (l : ℕ) (s : SlotNumber) : Type 0 where
   pub level : nodeAt (read w) s .level ≡ l
-  pub tidy : TidySlot w s
+  pub around : tidyAround w s ≡ true
 
--- a tree of so many levels at s, whose slots are tidy
+-- a tree of so many levels at s, whose slots are tidy around their entries
 pub record TidyTree (w : List ℤ) (l : ℕ) (s : SlotNumber) : Type 0 where
   pub tree : Tree (read w) l s
-  pub tidy : (t : SlotNumber) → Among t (slotsIn (read w) l s) → TidySlot w t
+  pub around : (t : SlotNumber) → Among t (slotsIn (read w) l s) → tidyAround w t ≡ true
 
 -- .. that an entry with the rectangle `want` may lead to
 pub record SoundNode (w : List ℤ) (l : ℕ) (s : SlotNumber) (want : Rect) : Type 0 where
@@ -119,3 +116,22 @@ ownedEntry e = goodOwner (ownerOf e)
 
 unfoldable pub ownedNode : Node → Bool
 ownedNode n = cond (isLeaf n) (every ownedEntry (n .entries)) true
+
+-- the owner's word of the entry at place i of slot s
+abbrev pub ownerWordAt : List ℤ → SlotNumber → ℕ → ℤ
+ownerWordAt w s i = ownerAt (editionOf w) (drop (entryPlace (editionOf w) s i) w)
+
+-- the places of its entries
+abbrev pub placesOf : List ℤ → SlotNumber → List ℕ
+placesOf w s = upFrom 0 (length (entriesAt (read w) s))
+
+-- "zero in inner entries"
+unfoldable pub innerUnowned : List ℤ → SlotNumber → Bool
+innerUnowned w s = isLeaf (nodeAt (read w) s) || every (λ (i : ℕ). same (pos 0) (ownerWordAt w s i)) (placesOf w s)
+
+-- both questions of a slot, and of one such word in a leaf or in another node
+unfoldable pub ownersFit : List ℤ → SlotNumber → Bool
+ownersFit w s = ownedNode (nodeAt (read w) s) && innerUnowned w s
+
+unfoldable pub ownerFits : Bool → ℤ → Bool
+ownerFits leaf o = cond leaf (goodOwner (owner o)) (same (pos 0) o)

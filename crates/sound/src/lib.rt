@@ -1,6 +1,7 @@
 // Soundness of a pool, over any words of a valid length, in one walk from the root. The node check calls the entry check and the entry
 // check calls the node check; the level and the entries left fall. Each slot that is met is marked, and one that is met again is refused:
-// so the walk looks at a node once, whatever the words are. Then every slot has to have been met, or to be all zero.
+// so the walk looks at a node once, whatever the words are. Then every slot has to have been met, or to be all zero. The edition and the number
+// of slots are told by word 0 and the length: they are read once and handed on.
 ghost use mathlib.Core.Path.{_≡_};
 ghost use mathlib.Core.Bool.{true, false, not, _&&_, _||_};
 ghost use mathlib.Core.List.{[], _∷_};
@@ -13,8 +14,8 @@ ghost use Rattle.rules.specs.Layout as L;
 ghost use Rattle.rules.specs.Pool as P;
 ghost use Rattle.rules.specs.Sound as S;
 ghost use Rattle.layout_laws.specs.Slots.{InPool};
-ghost use Rattle.pool.specs.Standing.{stand};
-ghost use Rattle.sound.specs.Walked.{Answers, EntriesAnswer, Fitting, NodeAnswer, RootAnswer, headSound, metOrZero, ownedNode, plainEntry, recordCount, recordCounts, upright};
+ghost use Rattle.pool.specs.Standing.{stand, tidyAround};
+ghost use Rattle.sound.specs.Walked.{Answers, EntriesAnswer, Fitting, NodeAnswer, RootAnswer, headSound, innerUnowned, markOf, metOrZero, ownerFits, ownersFit, plainEntry, recordCount, recordCounts, upright};
 use rules::Edition;
 use rules::LEAST;
 use rules::MOST_HEIGHT;
@@ -42,20 +43,21 @@ fn low_to_high(r: Rect) -> bool
 // One loop over the entries' words, with no branch in it: where the words are hostile the processor would guess wrong, and a wrong guess
 // costs more than the comparisons. That the coordinates are in range is asked of the cover alone: where no low is above its high, each
 // lies between those of the cover.
-fn look(pool: &[i32], s: SlotNumber) -> Looked
+fn look(pool: &[i32], edition: Edition, s: SlotNumber) -> Looked
     requires { ⌜ InPool (now pool) s ⌝ }
+    requires { ⌜ edition ≡ L.editionOf (now pool) ⌝ }
     requires { ⌜ 1 ≤ length (P.entriesAt (L.read (now pool)) s) ⌝ }
     ensures cover { λ r. ⌜ r .cover ≡ P.coverOf (P.entriesAt (L.read (now (pool .entry))) s) ⌝ }
     ensures plain { λ r. ⌜ r .plain ≡ every plainEntry (P.entriesAt (L.read (now (pool .entry))) s) ⌝ }
 {
-    let n = pool::count_of(pool, s);
-    let mut cover = pool::rect_of(pool, s, 0);
+    let n = pool::count_in(pool, edition, s);
+    let mut cover = pool::rect_in(pool, edition, s, 0);
     let mut plain = true;
     let mut i: usize = 0;
     while i < n {
-        let r = pool::rect_of(pool, s, i);
+        let r = pool::rect_in(pool, edition, s, i);
         cover = geometry::cover(cover, r);
-        let good = geometry::and(low_to_high(r), pool::tidy::numbered(pool, s, i));
+        let good = geometry::and(low_to_high(r), pool::tidy::numbered(pool, edition, s, i));
         plain = geometry::and(plain, good);
         i += 1;
     }
@@ -67,9 +69,29 @@ fn look(pool: &[i32], s: SlotNumber) -> Looked
 
 // ---- the walk
 
-// The node at s is met: for the first time, at the level given, and its slot's words are a node's and nothing else.
-fn meet(pool: &[i32], seen: &mut [u32; MOST_SLOTS], level: usize, s: SlotNumber) -> bool
+// The node at s is of the level given, and what its slot's words have around the entries in use is a node's and nothing else. The words of
+// those entries are asked for elsewhere: that a child's number is not negative, by the walk, and that it has no owner, with the owners.
+fn node_fits(pool: &[i32], edition: Edition, level: usize, s: SlotNumber) -> bool
     requires { ⌜ InPool (now pool) s ⌝ }
+    requires { ⌜ edition ≡ L.editionOf (now pool) ⌝ }
+    ensures { λ r. ⌜ r ≡ (eqb (P.nodeAt (L.read (now (pool .entry))) s .level) level && tidyAround (now (pool .entry)) s) ⌝ }
+{
+    if pool::level_in(pool, edition, s) != level {
+        return false;
+    }
+    pool::tidy::tidy_around(pool, edition, s)
+}
+
+// The node at s is met: for the first time, and it fits.
+fn meet(
+    pool: &[i32],
+    seen: &mut [u8; MOST_SLOTS],
+    edition: Edition,
+    level: usize,
+    s: SlotNumber,
+) -> bool
+    requires { ⌜ InPool (now pool) s ⌝ }
+    requires { ⌜ edition ≡ L.editionOf (now pool) ⌝ }
     requires { ⌜ length (now seen) ≡ mostSlots ⌝ }
     ensures { λ r. ⌜ Answers (Fitting (now (pool .entry)) level s) (s ∷ []) (now (seen .entry)) (now (seen .exit)) r ⌝ }
 {
@@ -78,55 +100,75 @@ fn meet(pool: &[i32], seen: &mut [u32; MOST_SLOTS], level: usize, s: SlotNumber)
         return false;
     }
     seen[n - 1] = 1;
-    if pool::level_of(pool, s) != level {
-        return false;
-    }
-    pool::tidy::tidy_slot(pool, s)
+    node_fits(pool, edition, level, s)
 }
 
 // "A node is sound when its entries are": the node at s, not the root, at the level given, whose parent's entry has the rectangle `want`.
 // "with a count of 3 to 8", "its rectangle is the smallest holding that node's entries". A leaf's entries are looked at once, all together.
+// Those of an inner node have to be plain as well, if they are sound: to ask it of every node leaves the walk one way through this function.
 fn node_sound(
     pool: &[i32],
-    seen: &mut [u32; MOST_SLOTS],
+    seen: &mut [u8; MOST_SLOTS],
+    edition: Edition,
+    slots: usize,
     level: usize,
     s: SlotNumber,
     want: Rect,
 ) -> bool
     requires { ⌜ InPool (now pool) s ⌝ }
+    requires { ⌜ edition ≡ L.editionOf (now pool) ⌝ }
+    requires { ⌜ slots ≡ L.slotCount (now pool) ⌝ }
     requires { ⌜ length (now seen) ≡ mostSlots ⌝ }
     requires { ⌜ 1 ≤ level ⌝ }
     ensures { λ r. ⌜ NodeAnswer (now (pool .entry)) level s want (now (seen .entry)) (now (seen .exit)) r ⌝ }
 {
-    if !meet(pool, seen, level, s) {
+    if !meet(pool, seen, edition, level, s) {
         return false;
     }
-    let n = pool::count_of(pool, s);
+    let n = pool::count_in(pool, edition, s);
     if n < LEAST {
         return false;
     }
-    let looked = look(pool, s);
+    let looked = look(pool, edition, s);
     let cover = looked.cover;
     if !geometry::same_rect(want, cover) {
         return false;
     }
-    if level == 1 {
-        return looked.plain;
+    if !looked.plain {
+        return false;
     }
-    entries_sound(pool, seen, level - 1, s, 0, n)
+    if level == 1 {
+        return true;
+    }
+    entries_sound(pool, seen, edition, slots, level - 1, s, 0, n)
+}
+
+// "a slot from 1 to N", where N is known: it is asked of every child, and to count the slots takes a division.
+fn among_slots(slots: usize, s: SlotNumber) -> bool
+    ensures { λ r. ⌜ r ≡ (leb 1 (s .0) && leb (s .0) slots) ⌝ }
+{
+    let n = s.0;
+    if n < 1 {
+        return false;
+    }
+    n <= slots
 }
 
 // "an inner entry is sound when its pointer is a slot from 1 to N whose node is sound and one level lower, and its rectangle is the
 // smallest holding that node's entries": the entries from place i on of the node at s, which has n. What they lead to has the level below.
 fn entries_sound(
     pool: &[i32],
-    seen: &mut [u32; MOST_SLOTS],
+    seen: &mut [u8; MOST_SLOTS],
+    edition: Edition,
+    slots: usize,
     below: usize,
     s: SlotNumber,
     i: usize,
     n: usize,
 ) -> bool
     requires { ⌜ InPool (now pool) s ⌝ }
+    requires { ⌜ edition ≡ L.editionOf (now pool) ⌝ }
+    requires { ⌜ slots ≡ L.slotCount (now pool) ⌝ }
     requires { ⌜ length (now seen) ≡ mostSlots ⌝ }
     requires { ⌜ 1 ≤ below ⌝ }
     requires { ⌜ P.isLeaf (P.nodeAt (L.read (now pool)) s) ≡ false ⌝ }
@@ -136,72 +178,88 @@ fn entries_sound(
     if n <= i {
         return true;
     }
-    let c = pool::child_of(pool, s, i);
-    if !nodes::is_slot(pool, c) {
+    let c = pool::child_in(pool, edition, s, i);
+    if !among_slots(slots, c) {
         return false;
     }
-    let want = pool::rect_of(pool, s, i);
-    if !node_sound(pool, seen, below, c, want) {
+    let want = pool::rect_in(pool, edition, s, i);
+    if !node_sound(pool, seen, edition, slots, below, c, want) {
         return false;
     }
-    entries_sound(pool, seen, below, s, i + 1, n)
+    entries_sound(pool, seen, edition, slots, below, s, i + 1, n)
 }
 
-// "but for the root 0 to 8 if a leaf and 2 to 8 otherwise": no entry has a rectangle for it.
-fn root_sound(pool: &[i32], seen: &mut [u32; MOST_SLOTS], height: usize, s: SlotNumber) -> bool
+// "but for the root 0 to 8 if a leaf and 2 to 8 otherwise": no entry has a rectangle for it. It is the first slot of the walk, so it is marked
+// and not asked for a mark.
+fn root_sound(
+    pool: &[i32],
+    seen: &mut [u8; MOST_SLOTS],
+    edition: Edition,
+    slots: usize,
+    height: usize,
+    s: SlotNumber,
+) -> bool
     requires { ⌜ InPool (now pool) s ⌝ }
+    requires { ⌜ edition ≡ L.editionOf (now pool) ⌝ }
+    requires { ⌜ slots ≡ L.slotCount (now pool) ⌝ }
     requires { ⌜ length (now seen) ≡ mostSlots ⌝ }
+    requires { ⌜ markOf (now seen) s ≡ 0 ⌝ }
     requires { ⌜ 1 ≤ height ⌝ }
     ensures { λ r. ⌜ RootAnswer (now (pool .entry)) height s (now (seen .entry)) (now (seen .exit)) r ⌝ }
 {
-    if !meet(pool, seen, height, s) {
+    let m = s.0;
+    seen[m - 1] = 1;
+    if !node_fits(pool, edition, height, s) {
         return false;
     }
-    let n = pool::count_of(pool, s);
+    let n = pool::count_in(pool, edition, s);
     if height == 1 {
-        return root_leaf_sound(pool, s, n);
+        return root_leaf_sound(pool, edition, s, n);
     }
     if n < 2 {
         return false;
     }
-    entries_sound(pool, seen, height - 1, s, 0, n)
+    entries_sound(pool, seen, edition, slots, height - 1, s, 0, n)
 }
 
 // A root that is a leaf may be empty.
-fn root_leaf_sound(pool: &[i32], s: SlotNumber, n: usize) -> bool
+fn root_leaf_sound(pool: &[i32], edition: Edition, s: SlotNumber, n: usize) -> bool
     requires { ⌜ InPool (now pool) s ⌝ }
+    requires { ⌜ edition ≡ L.editionOf (now pool) ⌝ }
     requires { ⌜ n ≡ length (P.entriesAt (L.read (now pool)) s) ⌝ }
     ensures { λ r. ⌜ r ≡ every plainEntry (P.entriesAt (L.read (now (pool .entry))) s) ⌝ }
 {
     if n == 0 {
         return true;
     }
-    let looked = look(pool, s);
+    let looked = look(pool, edition, s);
     looked.plain
 }
 
 // ---- the slots that the walk did not meet
 
 // "free slots are all zero": the slot was met, or its words are.
-fn met_or_zero(pool: &[i32], s: SlotNumber, mark: u32) -> bool
+fn met_or_zero(pool: &[i32], edition: Edition, s: SlotNumber, mark: u8) -> bool
     requires { ⌜ InPool (now pool) s ⌝ }
+    requires { ⌜ edition ≡ L.editionOf (now pool) ⌝ }
     ensures { λ r. ⌜ r ≡ (not (eqb mark 0) || stand (L.nodeWords (L.editionOf (now (pool .entry))) P.freeNode) (now (pool .entry)) (L.slotStart (L.editionOf (now (pool .entry))) s)) ⌝ }
 {
     if mark != 0 {
         return true;
     }
-    pool::tidy::zero_slot(pool, s)
+    pool::tidy::zero_slot(pool, edition, s)
 }
 
-fn rest_zero(pool: &[i32], seen: &[u32; MOST_SLOTS]) -> bool
+fn rest_zero_in(pool: &[i32], edition: Edition, seen: &[u8; MOST_SLOTS]) -> bool
     requires { ⌜ L.validLength (now pool) ≡ true ⌝ }
+    requires { ⌜ edition ≡ L.editionOf (now pool) ⌝ }
     requires { ⌜ length (now seen) ≡ mostSlots ⌝ }
     ensures { λ r. ⌜ r ≡ every (metOrZero (now (pool .entry)) (now (seen .entry))) (P.slotNumbers (L.read (now (pool .entry)))) ⌝ }
 {
     let n = pool::slot_count(pool);
     let mut i: usize = 0;
     while i < n {
-        if !met_or_zero(pool, SlotNumber(i + 1), seen[i]) {
+        if !met_or_zero(pool, edition, SlotNumber(i + 1), seen[i]) {
             return false;
         }
         i += 1;
@@ -209,87 +267,126 @@ fn rest_zero(pool: &[i32], seen: &[u32; MOST_SLOTS]) -> bool
     true
 }
 
+// In each case the compiler knows how many words a slot has.
+fn rest_zero(pool: &[i32], edition: Edition, seen: &[u8; MOST_SLOTS]) -> bool
+    requires { ⌜ L.validLength (now pool) ≡ true ⌝ }
+    requires { ⌜ edition ≡ L.editionOf (now pool) ⌝ }
+    requires { ⌜ length (now seen) ≡ mostSlots ⌝ }
+    ensures { λ r. ⌜ r ≡ every (metOrZero (now (pool .entry)) (now (seen .entry))) (P.slotNumbers (L.read (now (pool .entry)))) ⌝ }
+{
+    match edition {
+        Edition::One => rest_zero_in(pool, Edition::One, seen),
+        Edition::Two => rest_zero_in(pool, Edition::Two, seen),
+    }
+}
+
 // ---- the records
 
 // A leaf's entries are records.
-fn records_in(pool: &[i32], s: SlotNumber) -> usize
+fn records_in(pool: &[i32], edition: Edition, s: SlotNumber) -> usize
     requires { ⌜ InPool (now pool) s ⌝ }
+    requires { ⌜ edition ≡ L.editionOf (now pool) ⌝ }
     ensures is { λ r. ⌜ r ≡ recordCount (P.nodeAt (L.read (now (pool .entry))) s) ⌝ }
     ensures most { λ r. ⌜ r ≤ most ⌝ }
 {
-    if pool::level_of(pool, s) == 1 {
-        return pool::count_of(pool, s);
+    if pool::level_in(pool, edition, s) == 1 {
+        return pool::count_in(pool, edition, s);
     }
     0
 }
 
-fn leaf_records(pool: &[i32]) -> usize
+fn leaf_records_in(pool: &[i32], edition: Edition) -> usize
     requires { ⌜ L.validLength (now pool) ≡ true ⌝ }
+    requires { ⌜ edition ≡ L.editionOf (now pool) ⌝ }
     ensures { λ r. ⌜ r ≡ recordCounts (L.read (now (pool .entry)) .slots) ⌝ }
 {
     let n = pool::slot_count(pool);
     let mut sum: usize = 0;
     let mut s: usize = 1;
     while s <= n {
-        sum += records_in(pool, SlotNumber(s));
+        sum += records_in(pool, edition, SlotNumber(s));
         s += 1;
     }
     sum
 }
 
-// "records counted in leaves equal word 3"
-fn records_sound(pool: &[i32]) -> bool
+// .. as above, in a function for each case.
+fn leaf_records(pool: &[i32], edition: Edition) -> usize
     requires { ⌜ L.validLength (now pool) ≡ true ⌝ }
+    requires { ⌜ edition ≡ L.editionOf (now pool) ⌝ }
+    ensures { λ r. ⌜ r ≡ recordCounts (L.read (now (pool .entry)) .slots) ⌝ }
+{
+    match edition {
+        Edition::One => leaf_records_in(pool, Edition::One),
+        Edition::Two => leaf_records_in(pool, Edition::Two),
+    }
+}
+
+// "records counted in leaves equal word 3"
+fn records_sound(pool: &[i32], edition: Edition) -> bool
+    requires { ⌜ L.validLength (now pool) ≡ true ⌝ }
+    requires { ⌜ edition ≡ L.editionOf (now pool) ⌝ }
     ensures { λ r. ⌜ r ≡ S.recordsSound (L.read (now (pool .entry))) ⌝ }
 {
-    leaf_records(pool) == pool::records_of(pool)
+    leaf_records(pool, edition) == pool::records_of(pool)
 }
 
 // ---- the owners
 
-// Req 07: "Each leaf entry gains an owner, 1 or 2". A slot that is no leaf has no record, and so none whose owner is asked. The loop over
-// the entries has no branch, as that of `look`.
-fn leaf_owners_sound(pool: &[i32], s: SlotNumber) -> bool
-    requires { ⌜ InPool (now pool) s ⌝ }
-    ensures { λ r. ⌜ r ≡ ownedNode (P.nodeAt (L.read (now (pool .entry))) s) ⌝ }
+// Req 07: "Each leaf entry gains an owner, 1 or 2, as a sixth word (zero in inner entries ..)": the owner's word of an entry of a leaf, or of
+// another node.
+fn owner_fits(leaf: bool, owner: i32) -> bool
+    ensures { λ r. ⌜ r ≡ ownerFits leaf owner ⌝ }
 {
-    if pool::level_of(pool, s) != 1 {
-        return true;
+    if leaf {
+        return pool::good_owner(Owner(owner));
     }
-    let n = pool::count_of(pool, s);
+    geometry::same(0, owner)
+}
+
+// .. of each entry of a slot. The loop has no branch, as that of `look`.
+fn slot_owners_sound(pool: &[i32], edition: Edition, s: SlotNumber) -> bool
+    requires { ⌜ InPool (now pool) s ⌝ }
+    requires { ⌜ edition ≡ L.editionOf (now pool) ⌝ }
+    ensures { λ r. ⌜ r ≡ ownersFit (now (pool .entry)) s ⌝ }
+{
+    let leaf = pool::level_in(pool, edition, s) == 1;
+    let n = pool::count_in(pool, edition, s);
     let mut all = true;
     let mut i: usize = 0;
     while i < n {
-        let owner = pool::owner_at(pool, pool::spot(pool, s, i));
-        all = geometry::and(all, pool::good_owner(Owner(owner)));
+        let owner = pool::tidy::owner_in(pool, edition, pool::spot_in(edition, s, i));
+        all = geometry::and(all, owner_fits(leaf, owner));
         i += 1;
     }
     all
 }
 
-fn leaves_owners_sound(pool: &[i32]) -> bool
+fn slots_owners_sound(pool: &[i32], edition: Edition) -> bool
     requires { ⌜ L.validLength (now pool) ≡ true ⌝ }
-    ensures { λ r. ⌜ r ≡ every ownedNode (L.read (now (pool .entry)) .slots) ⌝ }
+    requires { ⌜ edition ≡ L.editionOf (now pool) ⌝ }
+    ensures { λ r. ⌜ r ≡ every (ownersFit (now (pool .entry))) (P.slotNumbers (L.read (now (pool .entry)))) ⌝ }
 {
     let n = pool::slot_count(pool);
-    let mut s: usize = 1;
-    while s <= n {
-        if !leaf_owners_sound(pool, SlotNumber(s)) {
+    let mut i: usize = 0;
+    while i < n {
+        if !slot_owners_sound(pool, edition, SlotNumber(i + 1)) {
             return false;
         }
-        s += 1;
+        i += 1;
     }
     true
 }
 
 // "anything else and the pool isn't sound". An entry of edition 1 has no word for an owner: there is nothing to look at.
-fn owners_sound(pool: &[i32]) -> bool
+fn owners_sound(pool: &[i32], edition: Edition) -> bool
     requires { ⌜ L.validLength (now pool) ≡ true ⌝ }
-    ensures { λ r. ⌜ r ≡ S.ownersSound (L.read (now (pool .entry))) ⌝ }
+    requires { ⌜ edition ≡ L.editionOf (now pool) ⌝ }
+    ensures { λ r. ⌜ r ≡ (S.ownersSound (L.read (now (pool .entry))) && every (innerUnowned (now (pool .entry))) (P.slotNumbers (L.read (now (pool .entry))))) ⌝ }
 {
-    match pool::edition_of(pool) {
+    match edition {
         Edition::One => true,
-        Edition::Two => leaves_owners_sound(pool),
+        Edition::Two => slots_owners_sound(pool, Edition::Two),
     }
 }
 
@@ -322,15 +419,24 @@ pub fn sound(pool: &[i32]) -> bool
     if !head_sound(pool) {
         return false;
     }
-    let mut seen = [0u32; MOST_SLOTS];
-    if !root_sound(pool, &mut seen, pool::height_of(pool), pool::root_of(pool)) {
+    let edition = pool::edition_of(pool);
+    let slots = pool::slot_count(pool);
+    let mut seen = [0u8; MOST_SLOTS];
+    if !root_sound(
+        pool,
+        &mut seen,
+        edition,
+        slots,
+        pool::height_of(pool),
+        pool::root_of(pool),
+    ) {
         return false;
     }
-    if !rest_zero(pool, &seen) {
+    if !rest_zero(pool, edition, &seen) {
         return false;
     }
-    if !records_sound(pool) {
+    if !records_sound(pool, edition) {
         return false;
     }
-    owners_sound(pool)
+    owners_sound(pool, edition)
 }

@@ -25,39 +25,39 @@ record Turn (es : List Entry) (n : ℕ) (cover : Rect) (plain : Bool) (i : ℕ) 
   asked : (plain && every uprightEntry (drop i es)) ≡ every uprightEntry es
 
 abbrev Inv-loop : tie.InvT-loop
-Inv-loop pool s n cover₀ plain₀ i₀ cover plain i = Turn (entriesAt (read pool) s) n cover plain i
+Inv-loop pool edition s n cover₀ plain₀ i₀ cover plain i = Turn (entriesAt (read pool) s) n cover plain i
 
 abbrev μ-loop : tie.MeasureT-loop
-μ-loop pool s n cover₀ plain₀ i₀ cover plain i = n - i
+μ-loop pool edition s n cover₀ plain₀ i₀ cover plain i = n - i
 
-count-of-requires : tie.Need-count-of-requires Inv-loop μ-loop
-count-of-requires c κs = c .pre .0
+count-in-requires : tie.Need-count-in-requires Inv-loop μ-loop
+count-in-requires c κs = (c .pre .0, c .pre .1 .0)
 
-rect-of-requires : tie.Need-rect-of-requires Inv-loop μ-loop
-rect-of-requires c κs = (c .before .pre .0, omega (arith, c .before .pre .1))
+rect-in-requires : tie.Need-rect-in-requires Inv-loop μ-loop
+rect-in-requires c κs = let start = c .before in (start .pre .0, (start .pre .1 .0, omega (arith, start .pre .1 .1)))
 
 loop-holds : tie.Need-loop-holds Inv-loop μ-loop
 loop-holds c = let es = entriesAt (read (c .before .before .args .pool .now)) (c .before .before .args .s) in
-    record { size = c .before .count-of .ensures .0; rest = rw (c .rect-of .ensures) (twice es (c .before .before .pre .1)); asked = refl }
+    record { size = c .before .count-in .ensures .0; rest = rw (c .rect-in .ensures) (twice es (c .before .before .pre .1 .1)); asked = refl }
 
-rect-of-requires-2 : tie.Need-rect-of-requires-2 Inv-loop μ-loop
-rect-of-requires-2 c κs =
+rect-in-requires-2 : tie.Need-rect-in-requires-2 Inv-loop μ-loop
+rect-in-requires-2 c κs =
     let start = c .before .before .before .before in
-    (start .pre .0, omega (arith, c .loop-test .taken, c .before .loop .inv .size))
+    (start .pre .0, (start .pre .1 .0, omega (arith, c .loop-test .taken, c .before .loop .inv .size)))
 
 numbered-requires : tie.Need-numbered-requires Inv-loop μ-loop
 numbered-requires c κs =
     let start = c .before .before .before .before .before .before .before in
     let loop = c .before .before .before .before .loop in
     let loop-test = c .before .before .before .loop-test in
-    (start .pre .0, omega (arith, loop-test .taken, loop .inv .size))
+    (start .pre .0, (start .pre .1 .0, omega (arith, loop-test .taken, loop .inv .size)))
 
 loop-again : tie.Need-loop-again Inv-loop μ-loop
 loop-again c =
     let start = c .before .before .before .before .before .before .before .before .before .before in
     let loop = c .before .before .before .before .before .before .before .loop in
     let loop-test = c .before .before .before .before .before .before .loop-test in
-    let rect-of2 = c .before .before .before .before .before .rect-of2 in
+    let rect-in2 = c .before .before .before .before .before .rect-in2 in
     let cover = c .before .before .before .before .cover in
     let low-to-high = c .before .before .before .low-to-high in
     let numbered = c .before .before .numbered in
@@ -67,11 +67,11 @@ loop-again c =
     let es = entriesAt p s in
     let here : loop .i < length es = omega (arith, loop-test .taken, loop .inv .size) in
     let next = step es (loop .cover) (loop .i) here in
-    let good = upright-at p s (loop .i) (rect-of2 .result) (rect-of2 .ensures) (low-to-high .result) (numbered .result) (and .result)
+    let good = upright-at p s (loop .i) (rect-in2 .result) (rect-in2 .ensures) (low-to-high .result) (numbered .result) (and .result)
     (low-to-high .ensures) (numbered .ensures) (and .ensures) in
     record {
       size = loop .inv .size;
-      rest = rw (cover .ensures, rect-of2 .ensures) (sym next ∙ loop .inv .rest);
+      rest = rw (cover .ensures, rect-in2 .ensures) (sym next ∙ loop .inv .rest);
       asked = asked-more uprightEntry es (loop .i) (loop .plain) noEntry here (and .result) (c .and2 .result) good (c .and2 .ensures)
           (loop .inv .asked);
     }
@@ -86,7 +86,7 @@ returns c =
     let done : length es ≤ loop .i = omega (arith, loop-test .left, loop .inv .size) in
     let cover-is = sym (last es (loop .cover) (loop .i) done) ∙ loop .inv .rest in
     let plain-is = asked-end uprightEntry es (loop .i) (loop .plain) done (loop .inv .asked) in
-    (cover-is, c .and3 .ensures ∙ ap₂ _&&_ plain-is (c .before .valid .ensures ∙ ap valid cover-is) ∙ plain-all es (start .pre .1))
+    (cover-is, c .and3 .ensures ∙ ap₂ _&&_ plain-is (c .before .valid .ensures ∙ ap valid cover-is) ∙ plain-all es (start .pre .1 .1))
 
 pub look-spec : {M : Type 1} → statement M
 look-spec =
@@ -94,10 +94,10 @@ look-spec =
     (tie.spec
     Inv-loop
     μ-loop
-    count-of-requires
-    rect-of-requires
+    count-in-requires
+    rect-in-requires
     loop-holds
-    rect-of-requires-2
+    rect-in-requires-2
     (λ c κs. search needs)
     (λ c κs. search needs)
     numbered-requires

@@ -11,16 +11,16 @@ returns : tie.Need-returns
 unfolding entriesAt
 returns c =
     let start = c .before .before .before in
-    let level-of = c .before .before .level-of in (
-      c .count-of .ensures .0
-          ∙ leaf-records (nodeAt (read (start .args .pool .now)) (start .args .s)) (sym (level-of .ensures) ∙ c .before .if1 .taken),
-      c .count-of .ensures .1,
+    let level-in = c .before .before .level-in in (
+      c .count-in .ensures .0
+          ∙ leaf-records (nodeAt (read (start .args .pool .now)) (start .args .s)) (sym (level-in .ensures) ∙ c .before .if1 .taken),
+      c .count-in .ensures .1,
     )
 
 returns-2 : tie.Need-returns-2
 returns-2 c =
     let start = c .before .before in (
-      no-records (nodeAt (read (start .args .pool .now)) (start .args .s)) (λ e. c .if1 .left (c .before .level-of .ensures ∙ e)),
+      no-records (nodeAt (read (start .args .pool .now)) (start .args .s)) (λ e. c .if1 .left (c .before .level-in .ensures ∙ e)),
       omega arith,
     )
 

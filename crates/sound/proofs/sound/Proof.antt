@@ -4,7 +4,8 @@ use Prim.Native.Nat.{ℕ}
 use lib.ListN.{length-replicate}
 use Rattle.rules.specs.Numbers.{mostSlots}
 use Rattle.rules_laws.proofs.Bools.{not-true, not-false}
-use Rattle.sound.proofs.Tops.{head-asks, head-refused, root-refused, rest-refused, records-refused, owners-last}
+use Rattle.pool.proofs.Lengths.{some-word}
+use Rattle.sound.proofs.Tops.{mark-none, head-asks, head-refused, root-refused, rest-refused, records-refused, owners-last}
 use borrow.Author.Needs.{needs}
 use Rattle.sound.proofs.sound.Statement.{statement}
 use Rattle.sound.proofs.sound.Tie as tie
@@ -14,17 +15,30 @@ returns c =
     let start = c .before .before in
     head-refused (start .args .pool .now) (start .pre) (sym (c .before .head-sound .ensures) ∙ not-true _ (c .if1 .taken))
 
+edition-of-requires : tie.Need-edition-of-requires
+edition-of-requires c κs = let start = c .before .before in some-word (start .args .pool .now) (start .pre)
+
 root-sound-requires : tie.Need-root-sound-requires
 root-sound-requires c κs =
-    let start = c .before .before .before .before .before in
-    let head-sound = c .before .before .before .before .head-sound in
-    let if1 = c .before .before .before .if1 in
+    let start = c .before .before .before .before .before .before .before in
+    let head-sound = c .before .before .before .before .before .before .head-sound in
+    let if1 = c .before .before .before .before .before .if1 in
     let h = head-asks (start .args .pool .now) (start .pre) (sym (head-sound .ensures) ∙ not-false _ (if1 .left)) in
-    (rw (c .root-of .ensures) (h .0), (length-replicate {A = ℕ} mostSlots 0, rw (c .before .height-of .ensures) (h .1)))
+    let edition-of = c .before .before .before .before .edition-of in
+    let slot-count = c .before .before .before .slot-count in (
+      rw (c .root-of .ensures) (h .0),
+      (
+        edition-of .ensures,
+        (
+          slot-count .ensures,
+          (length-replicate {A = ℕ} mostSlots 0, (mark-none (c .root-of .result), rw (c .before .height-of .ensures) (h .1))),
+        ),
+      ),
+    )
 
 returns-2 : tie.Need-returns-2
 returns-2 c =
-    let start = c .before .before .before .before .before .before .before in
+    let start = c .before .before .before .before .before .before .before .before .before in
     let height-of = c .before .before .before .height-of in
     let root-of = c .before .before .root-of in
     root-refused (start .args .pool .now) (start .pre) (rw (height-of .ensures, root-of .ensures) at (c .before .root-sound .ensures))
@@ -32,13 +46,16 @@ returns-2 c =
 
 rest-zero-requires : tie.Need-rest-zero-requires
 rest-zero-requires c κs =
-    let start = c .before .before .before .before .before .before .before .before in
+    let start = c .before .before .before .before .before .before .before .before .before .before in
     let root-sound = c .before .before .root-sound in
-    (start .pre, root-sound .ensures .marked (not-false _ (c .before .if2 .left)) .size ∙ length-replicate {A = ℕ} mostSlots 0)
+    let edition-of = c .before .before .before .before .before .before .before .edition-of in (
+      start .pre,
+      (edition-of .ensures, root-sound .ensures .marked (not-false _ (c .before .if2 .left)) .size ∙ length-replicate {A = ℕ} mostSlots 0),
+    )
 
 returns-3 : tie.Need-returns-3
 returns-3 c =
-    let start = c .before .before .before .before .before .before .before .before .before .before in
+    let start = c .before .before .before .before .before .before .before .before .before .before .before .before in
     let height-of = c .before .before .before .before .before .before .height-of in
     let root-of = c .before .before .before .before .before .root-of in
     let root-sound = c .before .before .before .before .root-sound in
@@ -48,14 +65,14 @@ returns-3 c =
 
 returns-4 : tie.Need-returns-4
 returns-4 c =
-    let start = c .before .before .before .before .before .before .before .before .before .before .before .before in
+    let start = c .before .before .before .before .before .before .before .before .before .before .before .before .before .before in
     records-refused (start .args .pool .now) (start .pre) (sym (c .before .records-sound .ensures) ∙ not-true _ (c .if4 .taken))
 
 returns-5 : tie.Need-returns-5
 returns-5 c =
-    let start = c .before .before .before .before .before .before .before .before .before .before .before .before .before in
-    let head-sound = c .before .before .before .before .before .before .before .before .before .before .before .before .head-sound in
-    let if1 = c .before .before .before .before .before .before .before .before .before .before .before .if1 in
+    let start = c .before .before .before .before .before .before .before .before .before .before .before .before .before .before .before in
+    let head-sound = c .before .before .before .before .before .before .before .before .before .before .before .before .before .before .head-sound in
+    let if1 = c .before .before .before .before .before .before .before .before .before .before .before .before .before .if1 in
     let height-of = c .before .before .before .before .before .before .before .before .before .height-of in
     let root-of = c .before .before .before .before .before .before .before .before .root-of in
     let root-sound = c .before .before .before .before .before .before .before .root-sound in
@@ -75,6 +92,8 @@ sound-spec =
     (tie.spec
     (λ c κs. search needs)
     returns
+    edition-of-requires
+    (λ c κs. search needs)
     (λ c κs. search needs)
     (λ c κs. search needs)
     root-sound-requires
