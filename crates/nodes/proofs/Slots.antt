@@ -1,5 +1,5 @@
--- Nodes by any slot number: number 0 is read as 1, and beyond the last slot nothing stands. So where an entry stands, there is a slot.
-use mathlib.Core.Path.{_≡_, ap, subst⁻¹}
+-- Slots of a pool and of its words. By any slot number a node has at most eight entries: number 0 is read as 1, and beyond the last slot nothing stands.
+use mathlib.Core.Path.{_≡_, ap}
 use mathlib.Core.Bool.{true}
 use mathlib.Core.List.{List, []}
 use Prim.Native.Nat.{ℕ, _-_, _≤_, _<_}
@@ -9,9 +9,8 @@ use lib.ListN.{length, getD, List·getD-eq-default}
 use lib.IntN.{ℤ}
 use borrow.Author.Tests.{leb-true}
 use Rattle.rules.specs.declared.SlotNumber.{SlotNumber}
-use Rattle.rules.specs.declared.Entry.{Entry}
 use Rattle.rules.specs.Numbers.{mostSlots}
-use Rattle.rules.specs.Pool.{Node, Pool, slot, freeNode, nodeAt, entriesAt, entryFrom, entryAt}
+use Rattle.rules.specs.Pool.{Node, Pool, slot, freeNode, nodeAt, entriesAt}
 use Rattle.rules.specs.Layout.{validLength, slotCount, read}
 use Rattle.rules.specs.Sound.{isSlot}
 use Rattle.rules_laws.proofs.Bools.{and-both}
@@ -36,34 +35,13 @@ asked-within w s r e =
 -- ---- any slot number
 
 -- two numbers of one place
-pub same-entries : (p : Pool) (s t : SlotNumber) → s .0 - 1 ≡ t .0 - 1 → entriesAt p s ≡ entriesAt p t
+same-entries : (p : Pool) (s t : SlotNumber) → s .0 - 1 ≡ t .0 - 1 → entriesAt p s ≡ entriesAt p t
 unfolding entriesAt nodeAt
 same-entries p s t e = ap (λ (i : ℕ). getD (p .slots) i freeNode .entries) e
 
-pub same-entry : (p : Pool) (s t : SlotNumber) (i : ℕ) → s .0 - 1 ≡ t .0 - 1 → entryAt p s i ≡ entryAt p t i
-unfolding entryAt
-same-entry p s t i e = ap (λ (es : List Entry). entryFrom es i) (same-entries p s t e)
-
-pub none-beyond : (w : List ℤ) (s : SlotNumber) → slotCount w < s .0 → entriesAt (read w) s ≡ []
+none-beyond : (w : List ℤ) (s : SlotNumber) → slotCount w < s .0 → entriesAt (read w) s ≡ []
 unfolding entriesAt nodeAt
 none-beyond w s h = ap (λ (n : Node). n .entries) (List·getD-eq-default (read w .slots) freeNode (omega (arith, read-slots w)))
-
--- where an entry stands, there is a slot
-pub some-within : (w : List ℤ) (s : SlotNumber) (i : ℕ) → validLength w ≡ true → 1 ≤ s .0 → i < length (entriesAt (read w) s) → InPool w s
-some-within w s i r l h = record { right = r; low = l; high = go (decLe (s .0) (slotCount w)) }
-  where
-    go : Dec (s .0 ≤ slotCount w) → s .0 ≤ slotCount w
-    go (yes q) = q
-    go (no q) = absurd (omega (arith, ap length (none-beyond w s (omega arith))))
-
--- the slot t that is read for the number s, at an entry's place
-module _ (w : List ℤ) (s t : SlotNumber) (i : ℕ) (r : validLength w ≡ true) (low : 1 ≤ t .0) (same : t .0 - 1 ≡ s .0 - 1)
-    (h : i < length (entriesAt (read w) s)) where
-  pub read-there : i < length (entriesAt (read w) t)
-  read-there = subst⁻¹ (λ (es : List Entry). i < length es) (same-entries (read w) t s same) h
-
-  pub read-within : InPool w t
-  read-within = some-within w t i r low read-there
 
 -- ---- at most eight
 

@@ -1,9 +1,6 @@
-// The node reader: what a slot number and an entry stand for, a node's cover, an entry's rectangle made tight. The walks of soundness, search
-// and FindLeaf read nodes by it and by `pool` alone.
+// Nodes: what a slot number and an entry stand for, a node's cover, an entry's rectangle made tight.
 ghost use mathlib.Core.Path.{_≡_};
-ghost use mathlib.Core.Bool.{true};
-ghost use Prim.Native.Nat.{_-_, _<_, _≤_};
-ghost use lib.ListN.{length};
+ghost use Prim.Native.Nat.{_<_};
 ghost use Rattle.rules.specs.Layout as L;
 ghost use Rattle.rules.specs.Pool as P;
 ghost use Rattle.rules.specs.Sound as S;
@@ -28,18 +25,6 @@ pub fn is_slot(pool: &[i32], s: SlotNumber) -> bool
         return false;
     }
     n <= pool::slot_count(pool)
-}
-
-// The slot that is read for a number: slots are counted from 1, and the definitions read 0 as 1. No sound pool names slot 0.
-pub fn slot_read(s: SlotNumber) -> SlotNumber
-    ensures low { λ r. ⌜ 1 ≤ r .0 ⌝ }
-    ensures same { λ r. ⌜ r .0 - 1 ≡ s .0 - 1 ⌝ }
-{
-    let n = s.0;
-    if n == 0 {
-        return SlotNumber(1);
-    }
-    s
 }
 
 // ---- what an entry stands for
@@ -77,18 +62,6 @@ pub fn record_of(e: Entry) -> Record
         number,
         rect,
     }
-}
-
-// ---- nodes read, whatever the slot number
-
-// The record number of the entry at place i. Its rectangle is not read.
-pub fn number_at(pool: &[i32], s: SlotNumber, i: usize) -> RecordNumber
-    requires { ⌜ L.validLength (now pool) ≡ true ⌝ }
-    requires { ⌜ i < length (P.entriesAt (L.read (now pool)) s) ⌝ }
-    ensures { λ r. ⌜ r ≡ P.numberOf (P.entryAt (L.read (now (pool .entry))) s i) ⌝ }
-{
-    let p = pool::entry_pointer(pool, slot_read(s), i);
-    pointed_number(p)
 }
 
 // ---- covers
