@@ -1,13 +1,13 @@
 -- The node check and the entry check, a step at a time, as the code has them. A tree is its top, met first, and the trees that its entries
 -- lead to, met one after the other.
-use mathlib.Core.Path.{_≡_, refl, sym, ap, subst, _∙_}
+use mathlib.Core.Path.{_≡_, refl, sym, subst, _∙_}
 use mathlib.Core.Logic.{_⊎_, inl, inr}
 use mathlib.Core.Bool.{Bool, true, false, _&&_}
 use mathlib.Core.List.{List, [], _∷_, _++_, List·Memᴰ·head, List·Memᴰ·tail, List·Memᴰ·not-nil, List·Memᴰ·cases-cons, List·Memᴰ·eq-of-singleton}
 use Prim.Native.Nat.{ℕ, zero, suc, _+_, _-_, _≤_, _<_}
 use native.Mathlib.Omega.{arith}
 use native.Mathlib.Numerals.{add-one}
-use lib.Dec.{leb, eqb}
+use lib.Dec.{eqb}
 use lib.ListN.{length, set, drop, drop-of-length-le}
 use lib.Seq.{drop-cons}
 use lib.IntN.{ℤ}
@@ -19,9 +19,8 @@ use Rattle.rules.specs.Lists.{every}
 use Rattle.rules.specs.Pool.{Node, Pool, noEntry, nodeAt, entriesAt, entryAt, entryFrom, childOf, rects, coverOf, isLeaf}
 use Rattle.rules.specs.Numbers.{least, mostSlots}
 use Rattle.rules.specs.Geometry.{sameRect}
-use Rattle.rules.specs.Layout.{slotCount, read}
+use Rattle.rules.specs.Layout.{read}
 use Rattle.rules.specs.Choose.{rectFrom}
-use Rattle.rules.specs.Sound.{isSlot}
 use Rattle.rules_laws.proofs.Bools.{and-both, both-and}
 use Rattle.rules_laws.proofs.Orders.{never-both}
 use Rattle.rules_laws.proofs.Everies.{every-is}
@@ -31,9 +30,8 @@ use Rattle.layout_laws.specs.Slots.{InPool}
 use Rattle.pool.specs.Standing.{tidyAround}
 use Rattle.layout_laws.proofs.Parts.{few, slot-few, rect-entry}
 use Rattle.layout_laws.proofs.Written.{read-slots}
-use Rattle.sound_laws.specs.Tree.{slotsIn, NodeIn}
+use Rattle.sound_laws.specs.Tree.{slotsIn, Slot, NodeIn}
 use Rattle.sound_laws.proofs.Same.{same-rect}
-use Rattle.sound_laws.proofs.Tests.{slot-is}
 use Rattle.sound_laws.proofs.Walk.{slots-leaf, slots-inner, leaf-of, inner-of, leaf-tree, inner-tree, tree-node, top-among, below-among, among-cases}
 use Rattle.sound.specs.Walked.{plainEntry, slotsBelow, markOf, Unmet, Answers, Fitting, TidyTree, SoundNode, SoundEntries, NodeAnswer, EntriesAnswer, RootAnswer}
 use Rattle.sound.proofs.Looks.{leaf-plain, tree-plain, plain-leaf}
@@ -110,11 +108,6 @@ pub entry-rect : (p : Pool) (s : SlotNumber) (i : ℕ) → rectFrom (rects (entr
 unfolding entryAt entryFrom
 entry-rect p s i = rect-entry (entriesAt p s) i
 
--- a slot from 1 on, of as many as there are
-pub among-is : (w : List ℤ) (n : ℕ) (c : SlotNumber) → n ≡ slotCount w → (leb 1 (c .0) && leb (c .0) n) ≡ isSlot (read w) c
-unfolding isSlot
-among-is w n c e = ap (λ (k : ℕ). leb 1 (c .0) && leb (c .0) k) (e ∙ sym (read-slots w))
-
 module _ (w : List ℤ) (below : ℕ) (s : SlotNumber) (i : ℕ) where
   -- what is asked of the entries from place j on, answered by r
   abbrev pub EntriesFrom : ℕ → List ℕ → List ℕ → Bool → Type 0
@@ -130,10 +123,10 @@ module _ (w : List ℤ) (below : ℕ) (s : SlotNumber) (i : ℕ) where
 
     -- e leads to the slot c, by the rectangle r
     module _ (c : SlotNumber) (is : c ≡ childOf (entryAt (read w) s i)) where
-      pub entry-no-slot : isSlot (read w) c ≡ false → (a : List ℕ) → EntriesFrom i a a false
+      pub entry-no-slot : (Slot (read w) c → ⊥) → (a : List ℕ) → EntriesFrom i a a false
       entry-no-slot n a = rw here (refused (λ h u.
           let d = h (entryAt (read w) s i) (List·Memᴰ·head refl) .below .tree in
-          never-both (slot-is (read w) c .1 (rw is (tree-node (read w) below (childOf (entryAt (read w) s i)) d .slot))) n))
+          n (rw is (tree-node (read w) below (childOf (entryAt (read w) s i)) d .slot))))
 
       module _ (r : Rect) (rect : r ≡ entryAt (read w) s i .rect) {a b : List ℕ} {q : Bool} (n : NodeAnswer w below c r a b q) where
         node-here : NodeAnswer w below (childOf (entryAt (read w) s i)) (entryAt (read w) s i .rect) a b q

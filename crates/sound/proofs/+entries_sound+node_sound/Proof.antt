@@ -9,9 +9,9 @@ use Rattle.rules.specs.Pool.{entriesAt}
 use Rattle.rules.specs.Layout.{read}
 use Rattle.rules_laws.proofs.Bools.{not-true, not-false}
 use Rattle.layout_laws.proofs.Parts.{slot-few}
-use Rattle.nodes.proofs.Slots.{asked-within}
+use Rattle.layout_laws.proofs.Written.{read-slots}
 use Rattle.sound.proofs.Nodes.{refused-part, entries-end, entry-rect, entry-no-slot, entry-refused, entry-goes, not-met}
-use Rattle.sound.proofs.Nodes.{leaf-answers, inner-answers, too-few, not-plain, not-tight, as-node, no-leaf, among-is}
+use Rattle.sound.proofs.Nodes.{leaf-answers, inner-answers, too-few, not-plain, not-tight, as-node, no-leaf}
 use Prim.Native.Nat.{ℕ, _<_}
 use borrow.Fn.Kinds.{In}
 use borrow.Fn.PlainCycle.{Measures, is, falls, and}
@@ -25,7 +25,6 @@ use Rattle.geometry.proofs.same_rect.Reads as same-rect-reads
 use Rattle.pool.proofs.child_in.Reads as child-in-reads
 use Rattle.pool.proofs.count_in.Reads as count-in-reads
 use Rattle.pool.proofs.rect_in.Reads as rect-in-reads
-use Rattle.sound.proofs.among_slots.Reads as among-slots-reads
 use Rattle.sound.proofs.look.Reads as look-reads
 use Rattle.sound.proofs.meet.Reads as meet-reads
 use Rattle.sound.proofs.+entries_sound+node_sound.{statement}
@@ -61,8 +60,6 @@ abbrev entries-sound-calls : ℕ → entries-sound-lts.Claims
 entries-sound-calls t = (
   child-in-reads.Asked,
   child-in-reads.Learnt,
-  among-slots-reads.Asked,
-  among-slots-reads.Learnt,
   rect-in-reads.Asked,
   rect-in-reads.Learnt,
   node-sound-below t,
@@ -96,12 +93,20 @@ entries-sound-child-in-requires t c κs =
     let start = c .before in
     (start .pre .1 .0, (start .pre .1 .1 .0, (omega (arith, start .pre .1 .1 .1 .1 .1 .1 .1, c .if1 .left), start .pre .1 .1 .1 .1 .1 .1 .0)))
 
-entries-sound-among-slots-requires : (t : ℕ)
-    → entries-sound-lts.Need-among-slots-requires (entries-sound-calls t) (entries-sound-at t) entries-sound.Post
-entries-sound-among-slots-requires t c κs = search needs
-
 entries-sound-returns-2 : (t : ℕ) → entries-sound-lts.Need-returns-2 (entries-sound-calls t) (entries-sound-at t) entries-sound.Post
 entries-sound-returns-2 t c =
+    let start = c .before .before .before in
+    let if1 = c .before .before .if1 in
+    let child-in = c .before .child-in in
+    let w = start .args .pool .now in
+    let s = start .args .s in
+    let i = start .args .i in
+    let here : i < length (entriesAt (read w) s) = omega (arith, start .pre .1 .1 .1 .1 .1 .1 .1, if1 .left) in
+    entry-no-slot w (start .args .below) s i here (child-in .result) (child-in .ensures) (λ k. omega (arith, k .low, c .if2 .taken))
+    (start .args .seen .now)
+
+entries-sound-returns-3 : (t : ℕ) → entries-sound-lts.Need-returns-3 (entries-sound-calls t) (entries-sound-at t) entries-sound.Post
+entries-sound-returns-3 t c =
     let start = c .before .before .before .before in
     let if1 = c .before .before .before .if1 in
     let child-in = c .before .before .child-in in
@@ -110,9 +115,7 @@ entries-sound-returns-2 t c =
     let i = start .args .i in
     let here : i < length (entriesAt (read w) s) = omega (arith, start .pre .1 .1 .1 .1 .1 .1 .1, if1 .left) in
     entry-no-slot w (start .args .below) s i here (child-in .result) (child-in .ensures)
-    (sym (among-is w (start .args .slots) (child-in .result) (start .pre .1 .1 .1 .0))
-    ∙ sym (c .before .among-slots .ensures)
-    ∙ not-true _ (c .if2 .taken)) (start .args .seen .now)
+    (λ k. omega (arith, k .high, read-slots w, start .pre .1 .1 .1 .0, c .if3 .taken)) (start .args .seen .now)
 
 entries-sound-rect-in-requires : (t : ℕ) → entries-sound-lts.Need-rect-in-requires (entries-sound-calls t) (entries-sound-at t) entries-sound.Post
 entries-sound-rect-in-requires t c κs =
@@ -124,22 +127,21 @@ entries-sound-node-sound-requires : (t : ℕ)
     → entries-sound-lts.Need-node-sound-requires (entries-sound-calls t) (entries-sound-at t) entries-sound.Post
 entries-sound-node-sound-requires t c κs =
     let start = c .before .before .before .before .before .before in
-    let child-in = c .before .before .before .before .child-in in
-    let among-slots = c .before .before .before .among-slots in
-    let if2 = c .before .before .if2 in
-    let w = start .args .pool .now in
-    let slot = sym (among-is w (start .args .slots) (child-in .result) (start .pre .1 .1 .1 .0))
-    ∙ sym (among-slots .ensures)
-    ∙ not-false _ (if2 .left) in (
+    let if2 = c .before .before .before .if2 in
+    let if3 = c .before .before .if3 in (
       omega (arith, start .pre .0, start .pre .1 .1 .1 .1 .1 .0),
       (
-        asked-within w (child-in .result) (start .pre .1 .0 .right) slot,
+        record {
+          right = start .pre .1 .0 .right;
+          low = omega (arith, if2 .left);
+          high = omega (arith, if3 .left, start .pre .1 .1 .1 .0);
+        },
         (start .pre .1 .1 .0, (start .pre .1 .1 .1 .0, (start .pre .1 .1 .1 .1 .0, omega (arith, start .pre .1 .1 .1 .1 .1 .0)))),
       ),
     )
 
-entries-sound-returns-3 : (t : ℕ) → entries-sound-lts.Need-returns-3 (entries-sound-calls t) (entries-sound-at t) entries-sound.Post
-entries-sound-returns-3 t c =
+entries-sound-returns-4 : (t : ℕ) → entries-sound-lts.Need-returns-4 (entries-sound-calls t) (entries-sound-at t) entries-sound.Post
+entries-sound-returns-4 t c =
     let start = c .before .before .before .before .before .before .before .before in
     let if1 = c .before .before .before .before .before .before .before .if1 in
     let child-in = c .before .before .before .before .before .before .child-in in
@@ -149,7 +151,7 @@ entries-sound-returns-3 t c =
     let i = start .args .i in
     let here : i < length (entriesAt (read w) s) = omega (arith, start .pre .1 .1 .1 .1 .1 .1 .1, if1 .left) in
     entry-refused w (start .args .below) s i here (child-in .result) (child-in .ensures) (rect-in .result)
-    (rect-in .ensures ∙ entry-rect (read w) s i) (c .before .node-sound .ensures) (not-true _ (c .if3 .taken))
+    (rect-in .ensures ∙ entry-rect (read w) s i) (c .before .node-sound .ensures) (not-true _ (c .if4 .taken))
 
 entries-sound-add-entries-sound : (t : ℕ) → entries-sound-lts.Need-add-entries-sound (entries-sound-calls t) (entries-sound-at t) entries-sound.Post
 entries-sound-add-entries-sound t c =
@@ -171,7 +173,7 @@ entries-sound-entries-sound-requires t c κs =
           (
             start .pre .1 .1 .1 .0,
             (
-              node-sound .ensures .marked (not-false _ (c .before .if3 .left)) .size ∙ start .pre .1 .1 .1 .1 .0,
+              node-sound .ensures .marked (not-false _ (c .before .if4 .left)) .size ∙ start .pre .1 .1 .1 .1 .0,
               start .pre .1 .1 .1 .1 .1,
             ),
           ),
@@ -179,20 +181,20 @@ entries-sound-entries-sound-requires t c κs =
       ),
     )
 
-entries-sound-returns-4 : (t : ℕ) → entries-sound-lts.Need-returns-4 (entries-sound-calls t) (entries-sound-at t) entries-sound.Post
-entries-sound-returns-4 t c =
+entries-sound-returns-5 : (t : ℕ) → entries-sound-lts.Need-returns-5 (entries-sound-calls t) (entries-sound-at t) entries-sound.Post
+entries-sound-returns-5 t c =
     let start = c .before .before .before .before .before .before .before .before .before .before in
     let if1 = c .before .before .before .before .before .before .before .before .before .if1 in
     let child-in = c .before .before .before .before .before .before .before .before .child-in in
     let rect-in = c .before .before .before .before .before .rect-in in
     let node-sound = c .before .before .before .node-sound in
-    let if3 = c .before .before .if3 in
+    let if4 = c .before .before .if4 in
     let w = start .args .pool .now in
     let s = start .args .s in
     let i = start .args .i in
     let here : i < length (entriesAt (read w) s) = omega (arith, start .pre .1 .1 .1 .1 .1 .1 .1, if1 .left) in
     entry-goes w (start .args .below) s i here (child-in .result) (child-in .ensures) (rect-in .result)
-    (rect-in .ensures ∙ entry-rect (read w) s i) (node-sound .ensures) (not-false _ (if3 .left)) (c .entries-sound .ensures)
+    (rect-in .ensures ∙ entry-rect (read w) s i) (node-sound .ensures) (not-false _ (if4 .left)) (c .entries-sound .ensures)
 
 node-sound-meet-requires : (t : ℕ) → node-sound-lts.Need-meet-requires (node-sound-calls t) (node-sound-at t) node-sound.Post
 node-sound-meet-requires t c κs = (c .before .pre .1 .0, (c .before .pre .1 .1 .0, c .before .pre .1 .1 .1 .1 .0))
@@ -292,14 +294,14 @@ pub +entries-sound+node-sound-spec : {M : Type 1} → statement M
     entries-sound.Post
     (entries-sound-returns t)
     (entries-sound-child-in-requires t)
-    (entries-sound-among-slots-requires t)
     (entries-sound-returns-2 t)
+    (entries-sound-returns-3 t)
     (entries-sound-rect-in-requires t)
     (entries-sound-node-sound-requires t)
-    (entries-sound-returns-3 t)
+    (entries-sound-returns-4 t)
     (entries-sound-add-entries-sound t)
     (entries-sound-entries-sound-requires t)
-    (entries-sound-returns-4 t))
+    (entries-sound-returns-5 t))
     λ t. node-sound-lts.spec (node-sound-calls t)
     (node-sound-at t)
     node-sound.Post
