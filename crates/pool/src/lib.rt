@@ -357,16 +357,23 @@ pub fn rect_of(pool: &[i32], s: SlotNumber, i: usize) -> Rect
     rect_in(pool, edition_of(pool), s, i)
 }
 
-// The owner of an entry whose words begin at a place; an entry of edition 1 has none, 0.
+// The owner's word of an entry of an edition, whose words begin at a place; an entry of edition 1 has none, 0.
+pub fn owner_in(pool: &[i32], edition: Edition, at: usize) -> i32
+    requires { ⌜ at + L.entrySize edition ≤ length (now pool) ⌝ }
+    ensures { λ r. ⌜ r ≡ L.ownerAt edition (drop at (now (pool .entry))) ⌝ }
+{
+    match edition {
+        Edition::One => 0,
+        Edition::Two => word(pool, at + OWNER_PLACE),
+    }
+}
+
 pub fn owner_at(pool: &[i32], at: usize) -> i32
     requires { ⌜ 1 ≤ length (now pool) ⌝ }
     requires { ⌜ at + L.entrySize (L.editionOf (now pool)) ≤ length (now pool) ⌝ }
     ensures { λ r. ⌜ r ≡ L.ownerAt (L.editionOf (now (pool .entry))) (drop at (now (pool .entry))) ⌝ }
 {
-    match edition_of(pool) {
-        Edition::One => 0,
-        Edition::Two => word(pool, at + OWNER_PLACE),
-    }
+    owner_in(pool, edition_of(pool), at)
 }
 
 // A leaf's pointer is a record number, with its owner, any other a child slot: here words become one of them.

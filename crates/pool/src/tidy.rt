@@ -5,7 +5,7 @@
 ghost use mathlib.Core.Path.{_≡_};
 ghost use mathlib.Core.Bool.{true, _&&_};
 ghost use Prim.Native.Nat.{_+_, _-_, _<_, _≤_, min};
-ghost use lib.ListN.{length, replicate, drop};
+ghost use lib.ListN.{length, replicate};
 ghost use lib.IntN.{pos};
 ghost use lib.Signed.{leZ};
 ghost use Rattle.rules.specs.Lists as Li;
@@ -17,7 +17,6 @@ ghost use Rattle.pool.specs.Standing.{stand, tidyAround, zeroFrom};
 use crate::EDITION_PLACE;
 use crate::HEAD_SIZE;
 use crate::HEIGHT_PLACE;
-use crate::OWNER_PLACE;
 use crate::RECORDS_PLACE;
 use crate::RECT_SIZE;
 use crate::ROOT_PLACE;
@@ -25,6 +24,7 @@ use crate::UNUSED_PLACE;
 use crate::count_in;
 use crate::edition_number;
 use crate::edition_of;
+use crate::owner_in;
 use crate::slot_size;
 use crate::spot_in;
 use crate::start_in;
@@ -101,17 +101,6 @@ pub fn tidy_head(pool: &[i32]) -> bool
 }
 
 // ---- a slot
-
-// The owner's word of an entry of an edition, whose words begin at a place; an entry of edition 1 has none, 0.
-pub fn owner_in(pool: &[i32], edition: Edition, at: usize) -> i32
-    requires { ⌜ at + L.entrySize edition ≤ length (now pool) ⌝ }
-    ensures { λ r. ⌜ r ≡ L.ownerAt edition (drop at (now (pool .entry))) ⌝ }
-{
-    match edition {
-        Edition::One => 0,
-        Edition::Two => word(pool, at + OWNER_PLACE),
-    }
-}
 
 // The bits of all words of an entry: none is set where each word is zero.
 fn entry_bits(pool: &[i32], edition: Edition, at: usize) -> i32

@@ -349,7 +349,7 @@ fn slot_owners_sound(pool: &[i32], edition: Edition, s: SlotNumber) -> bool
     let mut all = true;
     let mut i: usize = 0;
     while i < n {
-        let owner = pool::tidy::owner_in(pool, edition, pool::spot_in(edition, s, i));
+        let owner = pool::owner_in(pool, edition, pool::spot_in(edition, s, i));
         all = geometry::and(all, owner_fits(leaf, owner));
         i += 1;
     }

@@ -1,62 +1,23 @@
-use mathlib.Core.Path.{_≡_, sym, ap, subst, _∙_}
-use mathlib.Core.List.{List}
-use Prim.Native.Nat.{ℕ, _+_, _≤_, _<_}
-use native.Mathlib.Omega.{arith}
+use mathlib.Core.Path.{ap, subst⁻¹, _∙_}
+use Prim.Native.Nat.{_+_, _≤_}
 use lib.ListN.{length, drop}
-use lib.IntN.{ℤ, pos}
-use borrow.Author.Needs.{sfits-of}
 use Rattle.rules.specs.declared.Edition.{Edition}
-use Rattle.rules.specs.declared.Edition.the-variants.{One, Two}
-use Rattle.rules.specs.Layout.{entrySize, editionOf, wordAt, ownerAt}
-use Rattle.layout_laws.proofs.Parts.{drop-word}
+use Rattle.rules.specs.Layout.{entrySize, ownerAt}
+use borrow.Author.Needs.{needs, sfits-of}
 use Rattle.pool.proofs.Naturals.{word-read}
-use borrow.Author.Needs.{needs}
 use Rattle.pool.proofs.owner_at.Statement.{statement}
 use Rattle.pool.proofs.owner_at.Tie as tie
 
--- by the edition that was told
-owner-none : (w : List ℤ) (at : ℕ) (e : Edition) → e ≡ One → pos 0 ≡ ownerAt e (drop at w)
-unfolding ownerAt
-owner-none w at e q = ap (λ (x : Edition). ownerAt x (drop at w)) (sym q)
-
-owner-there : (w : List ℤ) (at : ℕ) (e : Edition) → e ≡ Two → wordAt w (at + 5) ≡ ownerAt e (drop at w)
-unfolding ownerAt
-owner-there w at e q = sym (drop-word w at 5) ∙ ap (λ (x : Edition). ownerAt x (drop at w)) (sym q)
-
-fits-there : (w : List ℤ) (at : ℕ) → editionOf w ≡ Two → at + entrySize (editionOf w) ≤ length w → at + 5 < length w
-fits-there w at q l = let k : at + entrySize Two ≤ length w = subst (λ (e : Edition). at + entrySize e ≤ length w) q l in omega arith
-
-add-word : tie.Need-add-word
-add-word c =
-    let start = c .before .before .before in
-    let two = sym (c .before .before .edition-of .ensures) ∙ c .enum-told2 .given .1 in
-    let there = fits-there (start .args .pool .now) (start .args .at) two (start .pre .1) in
-    search needs
-
-word-requires : tie.Need-word-requires
-word-requires c κs =
-    let start = c .before .before .before in
-    fits-there (start .args .pool .now) (start .args .at) (sym (c .before .before .edition-of .ensures) ∙ c .enum-told2 .given .1) (start .pre .1)
+owner-in-requires : tie.Need-owner-in-requires
+owner-in-requires c κs =
+    let start = c .before in
+    subst⁻¹ (λ (e : Edition). start .args .at + entrySize e ≤ length (start .args .pool .now)) (c .edition-of .ensures) (start .pre .1)
 
 returns : tie.Need-returns
 returns c =
-    let start = c .before .before .before in
-    owner-none (start .args .pool .now) (start .args .at) _ (sym (c .before .before .edition-of .ensures) ∙ c .enum-told .given .1)
-
-returns-2 : tie.Need-returns-2
-returns-2 c =
-    let start = c .before .before .before .before in
-    word-read (sfits-of (c .word .ok)) (c .word .ensures)
-    ∙ owner-there (start .args .pool .now) (start .args .at) _ (sym (c .before .before .before .edition-of .ensures) ∙ c .before .enum-told2 .given .1)
+    let start = c .before .before in
+    word-read (sfits-of (c .owner-in .ok)) (c .owner-in .ensures)
+    ∙ ap (λ (e : Edition). ownerAt e (drop (start .args .at) (start .args .pool .now))) (c .before .edition-of .ensures)
 
 pub owner-at-spec : {M : Type 1} → statement M
-owner-at-spec =
-    tie.close
-    (tie.spec
-    (λ c κs. search needs)
-    (λ c. search needs)
-    (λ c. search needs)
-    add-word
-    word-requires
-    returns
-    returns-2)
+owner-at-spec = tie.close (tie.spec (λ c κs. search needs) owner-in-requires returns)

@@ -10,8 +10,8 @@ use Rattle.rules.specs.declared.Edition.the-variants.{One, Two}
 use Rattle.rules.specs.Layout.{entrySize, wordAt, ownerAt}
 use Rattle.layout_laws.proofs.Parts.{drop-word}
 use Rattle.pool.proofs.Naturals.{word-read}
-use Rattle.pool.proofs.tidy.owner_in.Statement.{statement}
-use Rattle.pool.proofs.tidy.owner_in.Tie as tie
+use Rattle.pool.proofs.owner_in.Statement.{statement}
+use Rattle.pool.proofs.owner_in.Tie as tie
 
 owner-none : (w : List ℤ) (at : ℕ) (e : Edition) → e ≡ One → pos 0 ≡ ownerAt e (drop at w)
 unfolding ownerAt
