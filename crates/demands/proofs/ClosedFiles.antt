@@ -18,7 +18,7 @@ use Rattle.rules.specs.Lists.{those, every}
 use Rattle.rules.specs.Owners.{editionTold, owner, nobody, ofOwner}
 use Rattle.rules.specs.Geometry.{samePair}
 use Rattle.rules.specs.Pool.{blankPool, noRecord, stored}
-use Rattle.rules.specs.Layout.{slotsIn, validSize, words, read}
+use Rattle.rules.specs.Layout.{slotsFitting, validSize, words, read}
 use Rattle.rules.specs.Answers.{answer}
 use Rattle.rules.specs.Call.{Lent, call}
 use Rattle.rules.specs.File.{fileBytes, recordsCarried, writeFile, readFileAs}
@@ -148,7 +148,7 @@ office-right : validSize (read home .edition) (length (office .pool)) ≡ true
 unfolding document01 office home fill
 office-right = refl
 
-office-slots : slotsIn (read home .edition) (length (office .pool)) ≡ 1
+office-slots : slotsFitting (read home .edition) (length (office .pool)) ≡ 1
 unfolding document01 office home fill
 office-slots = refl
 

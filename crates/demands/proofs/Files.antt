@@ -19,7 +19,7 @@ use Rattle.rules.specs.Lists.{those, same}
 use Rattle.rules.specs.Owners.{editionTold}
 use Rattle.rules.specs.Geometry.{samePair}
 use Rattle.rules.specs.Pool.{Pool, freeNode, stored, blankPool}
-use Rattle.rules.specs.Layout.{headSize, slotSize, slotsIn, validSize, validLength, words, read}
+use Rattle.rules.specs.Layout.{headSize, slotSize, slotsFitting, validSize, validLength, words, read}
 use Rattle.rules.specs.Sound.{ownersSound, sound}
 use Rattle.rules.specs.Insert.{ours}
 use Rattle.rules.specs.File.{fileNumber, fileBytes, recordsCarried, poolFile, fileRecords, WriteLeft, Loaded, loadFile, ReadLeft, readFile, readFileAs}
@@ -90,7 +90,7 @@ record Taken {file : List ℕ} (r : ReadOf file) : Type 0 where
   edition : Edition
   told : editionTold (r .edition) (r .rule) ≡ some edition
   pool : Pool
-  loaded : loadFile ours edition (blankPool edition (slotsIn edition (length (r .pool)) - 1)) file ≡ Loaded pool
+  loaded : loadFile ours edition (blankPool edition (slotsFitting edition (length (r .pool)) - 1)) file ≡ Loaded pool
   left : r .left ≡ words pool
   workspace : r .workspace ≡ words pool
   right : validSize edition (length (r .pool)) ≡ true
@@ -129,7 +129,7 @@ module _ {file : List ℕ} (r : ReadOf file) where
     abbrev AsTaken : ReadLeft → Type 0
     AsTaken o =
         o .number ≡ pos 0
-        → (q : Pool) × (loadFile ours e (blankPool e (slotsIn e (length w) - 1)) file ≡ Loaded q) × (o .pool ≡ words q) × (o .workspace ≡ words q)
+        → (q : Pool) × (loadFile ours e (blankPool e (slotsFitting e (length w) - 1)) file ≡ Loaded q) × (o .pool ≡ words q) × (o .workspace ≡ words q)
 
     taken-by : AsTaken (readFile e w (r .work) file)
     taken-by =
@@ -166,7 +166,7 @@ module _ {file : List ℕ} (r : ReadOf file) where
     e = t .edition
 
     abbrev m : ℕ
-    m = slotsIn e (length w) - 1
+    m = slotsFitting e (length w) - 1
 
     holds : Holds ours ours-lawful e m file (t .pool)
     holds = subst (IfLoaded (Holds ours ours-lawful e m file)) (t .loaded) (file-loads ours ours-lawful e m file)
@@ -174,7 +174,7 @@ module _ {file : List ℕ} (r : ReadOf file) where
     read-back : read (r .left) ≡ t .pool
     read-back = ap read (t .left) ∙ holds-reads (t .pool) (fileRecords e file) (holds .records)
 
-    blank-slots : length (blankPool e m .slots) ≡ slotsIn e (length w)
+    blank-slots : length (blankPool e m .slots) ≡ slotsFitting e (length w)
     unfolding blankPool
     blank-slots = omega (arith, length-replicate m freeNode, sized e (length w) (t .right) .1)
 
@@ -308,7 +308,7 @@ module _ (w : Write) (z : w .number ≡ pos 0) (words-fit : Each Word (w .pool))
   module _ (r : ReadOf (fileOf w)) (told : editionTold (r .edition) (r .rule) ≡ some (p .edition)) (v : validSize (p .edition) (length (r .pool)) ≡ true)
       (u : length (r .work) ≡ length (r .pool)) where
     abbrev slots : ℕ
-    slots = slotsIn (p .edition) (length (r .pool))
+    slots = slotsFitting (p .edition) (length (r .pool))
 
     pub carried-over : length rs < 2147483648 → length rs ≤ 2 * slots + 1 → CarriedOver rs r
     unfolding taken-told

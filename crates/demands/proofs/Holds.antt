@@ -15,7 +15,7 @@ use Rattle.rules.specs.Lists.{same}
 use Rattle.rules.specs.Pool.{Pool, blankPool}
 use Rattle.rules.specs.Owners.{editionTold}
 use Rattle.rules.specs.Sound.{sound}
-use Rattle.rules.specs.Layout.{Blanked, validSize, slotsIn, words, read, blank, blankAs}
+use Rattle.rules.specs.Layout.{Blanked, validSize, slotsFitting, words, read, blank, blankAs}
 use Rattle.rules.specs.Insert.{ours}
 use Rattle.rules.specs.Answers.{verdictNumber}
 use Rattle.rules.specs.Call.{Lent, Left, callFault, refused, served, batchOwner, callBy, call}
@@ -39,7 +39,7 @@ use Rattle.in_force_laws.proofs.Call.{callBy-refused, callBy-served, no-fault, 
 -- ---- what blanking leaves
 
 module _ (e : Edition) (w : List ℤ) where
-  blank-done : validSize e (length w) ≡ true → blank e w ≡ record { number = pos 0; pool = words (blankPool e (slotsIn e (length w) - 1)) }
+  blank-done : validSize e (length w) ≡ true → blank e w ≡ record { number = pos 0; pool = words (blankPool e (slotsFitting e (length w) - 1)) }
   unfolding blank
   blank-done h = rw (h, blank)
 
@@ -48,7 +48,7 @@ module _ (e : Edition) (w : List ℤ) where
   blank-left h = rw (h, blank)
 
   -- a blank pool where it is accepted, otherwise the words as they were
-  pub blank-cases : (P : Blanked → Type 0) → P (record { number = pos 0; pool = words (blankPool e (slotsIn e (length w) - 1)) })
+  pub blank-cases : (P : Blanked → Type 0) → P (record { number = pos 0; pool = words (blankPool e (slotsFitting e (length w) - 1)) })
       → P (record { number = pos 1; pool = w }) → P (blank e w)
   blank-cases P done left = go (validSize e (length w)) refl
     where
@@ -66,7 +66,7 @@ module _ (edition rule : ℤ) where
   unfolding blankAs
   blank-untold h w = rw (blankAs, h)
 
-  blank-as : (w : List ℤ) (P : Blanked → Type 0) → ((e : Edition) → P (record { number = pos 0; pool = words (blankPool e (slotsIn e (length w) - 1)) }))
+  blank-as : (w : List ℤ) (P : Blanked → Type 0) → ((e : Edition) → P (record { number = pos 0; pool = words (blankPool e (slotsFitting e (length w) - 1)) }))
       → P (record { number = pos 1; pool = w }) → P (record { number = negsuc 0; pool = w }) → P (blankAs edition rule w)
   blank-as w P done left untold = go (editionTold edition rule) refl
     where
@@ -165,7 +165,7 @@ module _ (w : List ℤ) (steps : List Step) (now : Holding w (inForceAfter steps
       blank-step =
           subst (λ (v : List ℤ). Holding v (byTest (same (b .number) (pos 0)) [] (inForceAfter steps))) (sym (k .pool))
           (subst (λ (z : ℤ). Holding (blankAs edition rule w .pool) (byTest (same z (pos 0)) [] (inForceAfter steps))) (sym (k .number))
-          (blank-as edition rule w Blanked-so (λ e. blanked e (slotsIn e (length w) - 1)) (kept (pos 1) [] one-no) (kept (negsuc 0) [] untold-no)))
+          (blank-as edition rule w Blanked-so (λ e. blanked e (slotsFitting e (length w) - 1)) (kept (pos 1) [] one-no) (kept (negsuc 0) [] untold-no)))
 
     module _ (u : List ℤ) (file : List ℕ) (o : ReadLeft) (k : ReadsAs edition rule w u file (o .number) (o .pool) (o .workspace)) where
       abbrev Read-so : ReadLeft → Type 0
@@ -182,7 +182,7 @@ module _ (w : List ℤ) (steps : List Step) (now : Holding w (inForceAfter steps
       read-so (some e) h =
           subst Read-so (sym (read-told edition rule e h w u file))
           (read-cases e w u file Read-so (kept (pos 1) (recordsTold edition rule file) one-no)
-          (λ f. kept (fileNumber f) (recordsTold edition rule file) (some-fault f)) (λ q l. taken e h (slotsIn e (length w) - 1) q l))
+          (λ f. kept (fileNumber f) (recordsTold edition rule file) (some-fault f)) (λ q l. taken e h (slotsFitting e (length w) - 1) q l))
 
       read-step : Holding (o .pool) (inForceAfter (Read edition rule u file o ∷ steps))
       unfolding inForceAfter

@@ -7,29 +7,29 @@ use mathlib.Core.Option.{Option, none, some}
 use Prim.Native.Nat.{ℕ, suc}
 use lib.ListN.{length, length-append}
 use lib.Dec.{ltb}
-use lib.IntN.{pos}
 use Rattle.rules.specs.declared.Rect.{Rect}
 use Rattle.rules.specs.declared.Owner.{Owner}
 use Rattle.rules.specs.declared.FoundRecord.{FoundRecord}
 use Rattle.rules.specs.declared.Reply.the-variants.{Listed, BadRectangle, NoRoom}
 use Rattle.rules.specs.declared.Request.{Request}
 use Rattle.rules.specs.declared.Asked.{Asked}
-use Rattle.rules.specs.declared.Asked.the-variants.{Insert, Delete, Update, Search}
-use Rattle.rules.specs.declared.Mode.the-variants.{Meeting, OnlyInside, OnlyEnclosing}
+use Rattle.rules.specs.declared.Asked.the-variants.{Search}
+use Rattle.rules.specs.declared.Mode.the-variants.{Meeting, OnlyInside}
 use Rattle.rules.specs.declared.Verdict.{Verdict}
-use Rattle.rules.specs.Lists.{every, same}
+use Rattle.rules.specs.Lists.{every}
 use Rattle.rules.specs.Owners.{nobody}
 use Rattle.rules.specs.Geometry.{valid}
 use Rattle.rules.specs.Pool.{Pool}
 use Rattle.rules.specs.Search.{opened}
 use Rattle.rules.specs.Insert.{ours}
 use Rattle.rules.specs.Answers.{row, firstRow}
-use Rattle.rules.specs.Request.{Turn, turn, pairIn, asked, searchFault, request}
+use Rattle.rules.specs.Request.{Turn, turn, asked, searchFault, request}
 use Rattle.rules.specs.Call.{Lent, Left, Batch, isRequest, callFault, refused, served, call, afterTurn, doRequest, doRequests, batchOwner, starting}
 use Rattle.sound_laws.specs.Tree.{Whole}
 use Rattle.search_laws.specs.Window.{wholeSite}
 use Rattle.search_laws.proofs.Site.{whole-site}
-use Rattle.in_force_laws.proofs.Faults.{EachGiven, no-row, no-rows, row-passed}
+use Rattle.in_force_laws.proofs.Asks.{none-for}
+use Rattle.in_force_laws.proofs.Faults.{EachGiven}
 use Rattle.in_force_laws.proofs.Call.{callBy-refused, callBy-served}
 use Rattle.promises.specs.Calls.{Allowed}
 use Rattle.promises.proofs.Once.{allowed, once}
@@ -49,19 +49,6 @@ same-turn : (p : Pool) → Whole p → (w : Owner) (filled room : ℕ)
     → request ours p filled room (Search w OnlyInside wholeSite) ≡ request ours p filled room (Search w Meeting wholeSite)
 unfolding request searchFault turnBy
 same-turn p h w filled room = ap (turnBy p filled room wholeSite) (whole-site p h w)
-
--- what asks nothing for one owner asks nothing for another
-none-for : (w v : Owner) (q : Request) → asked w q ≡ none → asked v q ≡ none
-unfolding asked
-none-for w v q h =
-    let r1 = no-row (same (q .kind) (pos 1)) (Insert (pairIn w q)) _ h in
-    let r2 = no-row (same (q .kind) (pos 2)) (Delete (pairIn w q)) _ (r1 .1) in
-    let r3 = no-row (same (q .kind) (pos 3)) (Update (pairIn w q) (q .second)) _ (r2 .1) in
-    let r4 = no-row (same (q .kind) (pos 4)) (Search w Meeting (q .first)) _ (r3 .1) in
-    let r5 = no-row (same (q .kind) (pos 5)) (Search w OnlyInside (q .first)) _ (r4 .1) in
-    let r6 = no-row (same (q .kind) (pos 6)) (Search w OnlyEnclosing (q .first)) _ (r5 .1) in
-    row-passed _ _ _ (r1 .0) (row-passed _ _ _ (r2 .0) (row-passed _ _ _ (r3 .0)
-    (row-passed _ _ _ (r4 .0) (row-passed _ _ _ (r5 .0) (row-passed _ _ _ (r6 .0) no-rows)))))
 
 request-is : (w : Owner) (x : Request) (a : Asked) → asked w x ≡ some a → isRequest x ≡ true
 request-is w x a e = go (asked nobody x) refl

@@ -10,7 +10,7 @@ use borrow.Author.Tests.{eq-eqb, ne-eqb}
 use Rattle.rules.specs.declared.Edition.{Edition}
 use Rattle.rules.specs.Lists.{same}
 use Rattle.rules.specs.Pool.{Pool, blankPool}
-use Rattle.rules.specs.Layout.{slotsIn, validSize, validLength, words, read, blank}
+use Rattle.rules.specs.Layout.{slotsFitting, validSize, validLength, words, read, blank}
 use Rattle.rules.specs.Insert.{ours}
 use Rattle.rules.specs.File.{Load, Loaded, Fails, loadFile, ReadLeft, readFile}
 use Rattle.rules_laws.proofs.Orders.{never-both}
@@ -45,14 +45,14 @@ module _ (ed : Edition) (w u : List ℤ) (bs : List ℕ) where
     right = ap (validSize ed) as-long ∙ s
 
     abbrev blanked : Pool
-    blanked = blankPool ed (slotsIn ed (length w) - 1)
+    blanked = blankPool ed (slotsFitting ed (length w) - 1)
 
     blank-is : blank ed u .pool ≡ words blanked
     unfolding blank
-    blank-is = rw (blank, right) (ap (λ (n : ℕ). words (blankPool ed (slotsIn ed n - 1))) as-long)
+    blank-is = rw (blank, right) (ap (λ (n : ℕ). words (blankPool ed (slotsFitting ed n - 1))) as-long)
 
     pub blank-pool : {v : List ℤ} → v ≡ blank ed u .pool → read v ≡ blanked
-    blank-pool e = ap read (e ∙ blank-is) ∙ holds-reads blanked [] (blank-holds ed (slotsIn ed (length w) - 1))
+    blank-pool e = ap read (e ∙ blank-is) ∙ holds-reads blanked [] (blank-holds ed (slotsFitting ed (length w) - 1))
 
     pub blank-edition : {v : List ℤ} → v ≡ blank ed u .pool → read v .edition ≡ ed
     blank-edition e = ap (λ (p : Pool). p .edition) (blank-pool e) ∙ (unfold blankPool in refl)
@@ -64,7 +64,7 @@ module _ (ed : Edition) (w u : List ℤ) (bs : List ℕ) where
     }
 
     pub blank-tree : {v : List ℤ} → v ≡ blank ed u .pool → Whole (read v)
-    blank-tree e = subst Whole (sym (blank-pool e)) (blank-whole ed (slotsIn ed (length w) - 1))
+    blank-tree e = subst Whole (sym (blank-pool e)) (blank-whole ed (slotsFitting ed (length w) - 1))
 
     module _ {v : List ℤ} (e : v ≡ blank ed u .pool) (n : ℤ) (x : List ℤ) (d : Loads (loadFile ours ed (read v) bs) n x) where
       loads : Loads (loadFile ours ed blanked bs) n x

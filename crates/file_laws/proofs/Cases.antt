@@ -14,7 +14,7 @@ use Rattle.rules.specs.declared.FileFault.{FileFault}
 use Rattle.rules.specs.declared.FileFault.the-variants.{BadLength, NotSound, BadRectangle, BadNumber, BadOwner, NoSlot, ShortBuffer, BadFrame, NotAfter}
 use Rattle.rules.specs.Lists.{same}
 use Rattle.rules.specs.Pool.{Pool, blankPool}
-use Rattle.rules.specs.Layout.{validLength, validSize, slotsIn, words, read}
+use Rattle.rules.specs.Layout.{validLength, validSize, slotsFitting, words, read}
 use Rattle.rules.specs.Sound.{sound}
 use Rattle.rules.specs.Insert.{ours}
 use Rattle.rules.specs.Answers.{firstRow}
@@ -95,29 +95,29 @@ module _ (ed : Edition) (w u : List ℤ) (bs : List ℕ) where
   read-short h = rw (readFile, h)
 
   module _ (h : lengths-wrong ed w u ≡ false) where
-    pub read-goes : (l : Load) → loadFile ours ed (blankPool ed (slotsIn ed (length w) - 1)) bs ≡ l → readFile ed w u bs ≡ afterLoad w l
+    pub read-goes : (l : Load) → loadFile ours ed (blankPool ed (slotsFitting ed (length w) - 1)) bs ≡ l → readFile ed w u bs ≡ afterLoad w l
     unfolding readFile
     read-goes l e = rw (readFile, h, e)
 
-    pub read-in : (q : Pool) → loadFile ours ed (blankPool ed (slotsIn ed (length w) - 1)) bs ≡ Loaded q → readFile ed w u bs ≡ record { number = pos 0; pool = words q; workspace = words q }
+    pub read-in : (q : Pool) → loadFile ours ed (blankPool ed (slotsFitting ed (length w) - 1)) bs ≡ Loaded q → readFile ed w u bs ≡ record { number = pos 0; pool = words q; workspace = words q }
     unfolding afterLoad
     read-in q e = read-goes (Loaded q) e
 
-    pub read-out : (f : FileFault) → loadFile ours ed (blankPool ed (slotsIn ed (length w) - 1)) bs ≡ Fails f
+    pub read-out : (f : FileFault) → loadFile ours ed (blankPool ed (slotsFitting ed (length w) - 1)) bs ≡ Fails f
         → readFile ed w u bs ≡ record { number = fileNumber f; pool = w; workspace = w }
     unfolding afterLoad
     read-out f e = read-goes (Fails f) e
 
   pub read-cases : (P : ReadLeft → Type 0) → P (record { number = pos 1; pool = w; workspace = u })
       → ((f : FileFault) → P (record { number = fileNumber f; pool = w; workspace = w }))
-      → ((q : Pool) → loadFile ours ed (blankPool ed (slotsIn ed (length w) - 1)) bs ≡ Loaded q → P (record { number = pos 0; pool = words q; workspace = words q }))
+      → ((q : Pool) → loadFile ours ed (blankPool ed (slotsFitting ed (length w) - 1)) bs ≡ Loaded q → P (record { number = pos 0; pool = words q; workspace = words q }))
       → P (readFile ed w u bs)
   read-cases P short refused done = go (lengths-wrong ed w u) refl
     where
-      load : lengths-wrong ed w u ≡ false → (l : Load) → loadFile ours ed (blankPool ed (slotsIn ed (length w) - 1)) bs ≡ l → P (readFile ed w u bs)
+      load : lengths-wrong ed w u ≡ false → (l : Load) → loadFile ours ed (blankPool ed (slotsFitting ed (length w) - 1)) bs ≡ l → P (readFile ed w u bs)
       load h (Loaded q) e = subst P (sym (read-in h q e)) (done q e)
       load h (Fails f) e = subst P (sym (read-out h f e)) (refused f)
 
       go : (b : Bool) → lengths-wrong ed w u ≡ b → P (readFile ed w u bs)
       go true h = subst P (sym (read-short h)) short
-      go false h = load h (loadFile ours ed (blankPool ed (slotsIn ed (length w) - 1)) bs) refl
+      go false h = load h (loadFile ours ed (blankPool ed (slotsFitting ed (length w) - 1)) bs) refl

@@ -12,7 +12,7 @@ use Rattle.rules.specs.declared.FileFault.{FileFault}
 use Rattle.rules.specs.declared.FileFault.the-variants.{BadRectangle, BadNumber, BadOwner, NoSlot, BadFrame, NotAfter}
 use Rattle.rules.specs.Lists.{same}
 use Rattle.rules.specs.Pool.{Pool, blankPool}
-use Rattle.rules.specs.Layout.{slotsIn}
+use Rattle.rules.specs.Layout.{slotsFitting}
 use Rattle.rules.specs.Insert.{Choice, ours}
 use Rattle.rules.specs.File.{fileNumber, countIn, recordFault, Load, Loaded, Fails, loadFile, ReadLeft, readFile}
 use Rattle.rules_laws.proofs.Orders.{never-both}
@@ -51,7 +51,7 @@ file-past c ed p bs =
     (countIn (d .words)) none p (d .after))
 
 pub past-one : (ed : Edition) (w u : List ℤ) (bs : List ℕ) → lengths-wrong ed w u ≡ false → readFile ed w u bs .number ≡ pos 1 → ⊥
-past-one ed w u bs h e = go (loadFile ours ed (blankPool ed (slotsIn ed (length w) - 1)) bs) refl (file-past ours ed (blankPool ed (slotsIn ed (length w) - 1)) bs)
+past-one ed w u bs h e = go (loadFile ours ed (blankPool ed (slotsFitting ed (length w) - 1)) bs) refl (file-past ours ed (blankPool ed (slotsFitting ed (length w) - 1)) bs)
   where
     one : (z : ℤ) → z ≡ pos 1 → same z (pos 1) ≡ false → ⊥
     one z a b = never-both (same-is z (pos 1) .1 a) b
@@ -59,6 +59,6 @@ past-one ed w u bs h e = go (loadFile ours ed (blankPool ed (slotsIn ed (length 
     zero-past : same (pos 0) (pos 1) ≡ false
     zero-past = unfold same in refl
 
-    go : (l : Load) → loadFile ours ed (blankPool ed (slotsIn ed (length w) - 1)) bs ≡ l → FailsPast (loadFile ours ed (blankPool ed (slotsIn ed (length w) - 1)) bs) → ⊥
+    go : (l : Load) → loadFile ours ed (blankPool ed (slotsFitting ed (length w) - 1)) bs ≡ l → FailsPast (loadFile ours ed (blankPool ed (slotsFitting ed (length w) - 1)) bs) → ⊥
     go (Loaded q) f k = one (pos 0) (sym (ap (λ (o : ReadLeft). o .number) (read-in ed w u bs h q f)) ∙ e) zero-past
     go (Fails x) f k = one (fileNumber x) (sym (ap (λ (o : ReadLeft). o .number) (read-out ed w u bs h x f)) ∙ e) (subst FailsPast f k)

@@ -17,7 +17,7 @@ use Rattle.in_force_laws.specs.Force.{askedBy}
 use Rattle.in_force_laws.proofs.Faults.{EachGiven, given-none, given-row, no-row, no-rows, row-passed}
 
 -- what asks nothing for one owner asks nothing for another
-none-for : (o w : Owner) (q : Request) → asked o q ≡ none → asked w q ≡ none
+pub none-for : (o w : Owner) (q : Request) → asked o q ≡ none → asked w q ≡ none
 unfolding asked
 none-for o w q h =
     let r1 = no-row (same (q .kind) (pos 1)) (Insert (pairIn o q)) _ h in

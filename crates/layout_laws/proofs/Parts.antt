@@ -19,7 +19,7 @@ use Rattle.rules.specs.Choose.{rectFrom}
 use Rattle.rules.specs.Pool.{Node, Pool, rectangle, entry, noEntry, freeNode, nodeAt, entriesAt, entryFrom, entryAt, rects}
 use Rattle.rules.specs.Numbers.{most, mostSlots}
 use Rattle.rules.specs.Layout.{headSize, rectSize, entrySize, slotHead, slotSize, slotStart, levelPlace, countPlace, entryPlace, pointerPlace}
-use Rattle.rules.specs.Layout.{slotsIn, validSize, editionOf, slotCount, validLength, natural, wordAt, runs, rectOf, ownerAt, entryOf, nodeOf, read, pointerOf}
+use Rattle.rules.specs.Layout.{slotsFitting, validSize, editionOf, slotCount, validLength, natural, wordAt, runs, rectOf, ownerAt, entryOf, nodeOf, read, pointerOf}
 use Rattle.rules_laws.proofs.Bools.{and-both}
 use Rattle.rules_laws.proofs.Places.{getD-any}
 use Rattle.layout_laws.specs.Slots.{InPool}
@@ -50,12 +50,12 @@ length-rects es = length-map es _
 
 -- so many words of an edition
 module _ (e : Edition) (n : ℕ) (r : validSize e n ≡ true) where
-  pub sized : (n ≡ headSize + slotSize e * slotsIn e n) × (1 ≤ slotsIn e n) × (slotsIn e n ≤ mostSlots)
+  pub sized : (n ≡ headSize + slotSize e * slotsFitting e n) × (1 ≤ slotsFitting e n) × (slotsFitting e n ≤ mostSlots)
   unfolding validSize
   sized =
       let a = and-both _ _ r in
       let b = and-both _ _ (a .0) in
-      (eqb-true n (headSize + slotSize e * slotsIn e n) (b .0), leb-true 1 (slotsIn e n) (b .1), leb-true (slotsIn e n) mostSlots (a .1))
+      (eqb-true n (headSize + slotSize e * slotsFitting e n) (b .0), leb-true 1 (slotsFitting e n) (b .1), leb-true (slotsFitting e n) mostSlots (a .1))
 
 module _ (w : List ℤ) (r : validLength w ≡ true) where
   sizes : (length w ≡ headSize + slotSize (editionOf w) * slotCount w) × (1 ≤ slotCount w) × (slotCount w ≤ mostSlots)

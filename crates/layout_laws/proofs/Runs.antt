@@ -4,7 +4,6 @@ use mathlib.Core.Path.{_≡_, refl, sym, ap, ap₂, _∙_}
 use mathlib.Core.List.{List, [], _∷_, _++_, map, append-assoc, append-nil}
 use Prim.Native.Nat.{ℕ, zero, suc, _+_, _*_, _-_, _≤_, _<_}
 use native.Mathlib.Nat.{add-zero, add-suc, suc-add, mul-zero, mul-suc}
-use native.Mathlib.Numerals.{towards-suc}
 use native.Mathlib.Omega.{arith}
 use lib.ListN.{length, getD, set, take, drop, replicate, length-append, length-map, length-replicate, length-take, length-drop, replicate-append-replicate}
 use lib.Seq.{sets, length-sets, length-take-le, set-append-left, set-set, set-comm, getD-set-other, take-at, drop-at, take-suc, take-append-le, drop-append-le, drop-append-add}
@@ -202,7 +201,3 @@ pub joined-snoc : (ls : List (List ℤ)) (l : List ℤ) → joined (ls ++ l ∷ 
 unfolding joined
 joined-snoc [] l = append-nil l
 joined-snoc (x ∷ ls) l = ap (λ (r : List ℤ). x ++ r) (joined-snoc ls l) ∙ sym (append-assoc x (joined ls) l)
-
--- five stores, one after the other
-pub five : {A : Type 0} (w : List A) (p : ℕ) (a b c d e : A) → set (set (set (set (set w p a) (p + 1) b) (p + 2) c) (p + 3) d) (p + 4) e ≡ sets w p (a ∷ b ∷ c ∷ d ∷ e ∷ [])
-five w p a b c d e = simp towards-suc

@@ -22,7 +22,7 @@ use Rattle.rules.specs.Numbers.{most}
 use Rattle.rules.specs.Lists.{same}
 use Rattle.rules.specs.Owners.{editionNumber, owner}
 use Rattle.rules.specs.Layout.{headSize, editionPlace, rootPlace, heightPlace, recordsPlace, rectSize, entrySize, slotHead, slotSize, slotStart}
-use Rattle.rules.specs.Layout.{slotsIn, validSize, editionOf, slotCount, validLength, pointerWord, ownerWord, ownerWords, entryWords}
+use Rattle.rules.specs.Layout.{slotsFitting, validSize, editionOf, slotCount, validLength, pointerWord, ownerWord, ownerWords, entryWords}
 use Rattle.rules.specs.Layout.{padded, nodeWords, headWords, words, natural, wordAt, runs, rectOf, pointerOf, ownerAt, entryOf, nodeOf, read}
 use Rattle.rules_laws.proofs.Places.{Each}
 use Rattle.layout_laws.specs.Slots.{InPool, Fit, ownerKept, KindOf, KindAll}
@@ -118,8 +118,8 @@ pub words-edition : (p : Pool) → editionOf (words p) ≡ p .edition
 words-edition p = edition-back (p .edition) (words p) (edition-word p)
 
 -- as many slots as fit
-slots-fit : (e : Edition) (n m : ℕ) → n ≡ headSize + slotSize e * m → slotsIn e n ≡ m
-unfolding slotsIn
+slots-fit : (e : Edition) (n m : ℕ) → n ≡ headSize + slotSize e * m → slotsFitting e n ≡ m
+unfolding slotsFitting
 slots-fit One n m q = omega arith
 slots-fit Two n m q = omega arith
 
@@ -142,7 +142,7 @@ module _ (p : Pool) where
 
   pub words-slots : slotCount (words p) ≡ length (p .slots)
   unfolding slotCount
-  words-slots = ap (λ (e : Edition). slotsIn e (length (words p))) (words-edition p) ∙ slots-fit (p .edition) (length (words p)) (length (p .slots)) words-size
+  words-slots = ap (λ (e : Edition). slotsFitting e (length (words p))) (words-edition p) ∙ slots-fit (p .edition) (length (words p)) (length (p .slots)) words-size
 
   slots-back : AllFine p → (e : Edition) → e ≡ p .edition → map (nodeOf e) (runs (slotSize e) (slotCount (words p)) (drop headSize (words p))) ≡ p .slots
   slots-back f e q =

@@ -13,7 +13,7 @@ use Rattle.rules.specs.declared.Edition.the-variants.{One, Two}
 use Rattle.rules.specs.Lists.{joined}
 use Rattle.rules.specs.Owners.{editionNumber}
 use Rattle.rules.specs.Pool.{node, freeNode, blankPool}
-use Rattle.rules.specs.Layout.{headSize, editionPlace, rootPlace, heightPlace, slotSize, slotsIn, validSize, padded, nodeWords, headWords, words, Blanked, blank}
+use Rattle.rules.specs.Layout.{headSize, editionPlace, rootPlace, heightPlace, slotSize, slotsFitting, validSize, padded, nodeWords, headWords, words, Blanked, blank}
 use Rattle.layout_laws.proofs.Parts.{sized}
 use Rattle.layout_laws.proofs.Runs.{zeros, sets-all, sets-more}
 
@@ -60,14 +60,14 @@ blanked n w = record { number = n; pool = w }
 pub blank-valid : (e : Edition) (w : List ℤ) → validSize e (length w) ≡ true → blank e w ≡ record { number = pos 0; pool = marked e (length w) }
 unfolding blank
 blank-valid e w r =
-    let n = slotsIn e (length w) in
+    let n = slotsFitting e (length w) in
     let q : headSize + slotSize e * suc (n - 1) ≡ length w = blank-long e (length w) r in
     rw (blank, r) (ap (λ (l : List ℤ). blanked (pos 0) l) (sym (blank-words e (n - 1)) ∙ ap (marked e) q))
   where
-    blank-long : (e : Edition) (n : ℕ) → validSize e n ≡ true → headSize + slotSize e * suc (slotsIn e n - 1) ≡ n
+    blank-long : (e : Edition) (n : ℕ) → validSize e n ≡ true → headSize + slotSize e * suc (slotsFitting e n - 1) ≡ n
     blank-long e n r =
         let s = sized e n r in
-        let again : suc (slotsIn e n - 1) ≡ slotsIn e n = omega (arith, s .1) in
+        let again : suc (slotsFitting e n - 1) ≡ slotsFitting e n = omega (arith, s .1) in
         ap (λ (k : ℕ). headSize + slotSize e * k) again ∙ sym (s .0)
 
 pub blank-wrong : (e : Edition) (w : List ℤ) → validSize e (length w) ≡ false → blank e w ≡ record { number = pos 1; pool = w }

@@ -12,26 +12,26 @@ use Rattle.rules.specs.declared.Edition.{Edition}
 use Rattle.rules.specs.declared.Edition.the-variants.{One, Two}
 use Rattle.rules.specs.declared.SlotNumber.{SlotNumber}
 use Rattle.rules.specs.Numbers.{most, mostSlots}
-use Rattle.rules.specs.Layout.{headSize, entrySize, slotSize, slotStart, entryPlace, slotsIn, validSize, editionOf, slotCount, validLength}
+use Rattle.rules.specs.Layout.{headSize, entrySize, slotSize, slotStart, entryPlace, slotsFitting, validSize, editionOf, slotCount, validLength}
 use Rattle.layout_laws.specs.Slots.{InPool}
 use Rattle.layout_laws.proofs.Parts.{sized, right-size, few}
 
 module _ (e : Edition) (n : ℕ) where
-  pub no-slots : slotsIn e n < 1 → validSize e n ≡ false
+  pub no-slots : slotsFitting e n < 1 → validSize e n ≡ false
   unfolding validSize
-  no-slots h = rw (lt-leb 1 (slotsIn e n) h, and-false)
+  no-slots h = rw (lt-leb 1 (slotsFitting e n) h, and-false)
 
-  pub many-slots : mostSlots < slotsIn e n → validSize e n ≡ false
+  pub many-slots : mostSlots < slotsFitting e n → validSize e n ≡ false
   unfolding validSize
-  many-slots h = rw (lt-leb (slotsIn e n) mostSlots h, and-false)
+  many-slots h = rw (lt-leb (slotsFitting e n) mostSlots h, and-false)
 
-  pub by-length : 1 ≤ slotsIn e n → slotsIn e n ≤ mostSlots → validSize e n ≡ eqb n (headSize + slotSize e * slotsIn e n)
+  pub by-length : 1 ≤ slotsFitting e n → slotsFitting e n ≤ mostSlots → validSize e n ≡ eqb n (headSize + slotSize e * slotsFitting e n)
   unfolding validSize
-  by-length l h = simp (le-leb 1 (slotsIn e n) l, le-leb (slotsIn e n) mostSlots h, and-true)
+  by-length l h = simp (le-leb 1 (slotsFitting e n) l, le-leb (slotsFitting e n) mostSlots h, and-true)
 
 -- fewer words than a head has no slot
-pub short-none : (e : Edition) (n : ℕ) → n < headSize → slotsIn e n ≡ 0
-unfolding slotsIn
+pub short-none : (e : Edition) (n : ℕ) → n < headSize → slotsFitting e n ≡ 0
+unfolding slotsFitting
 short-none One n h = omega arith
 short-none Two n h = omega arith
 
@@ -77,7 +77,7 @@ start-most {w} {s} i = omega (arith, size-most w (s .0 - 1) (omega (arith, few i
 
 -- the head and a slot at least
 pub valid-long : (e : Edition) (n : ℕ) → validSize e n ≡ true → headSize + slotSize e ≤ n
-valid-long e n r = let s = sized e n r in omega (arith, s .0, size-some e (slotsIn e n) (s .1))
+valid-long e n r = let s = sized e n r in omega (arith, s .0, size-some e (slotsFitting e n) (s .1))
 
 module _ (w : List ℤ) (r : validLength w ≡ true) where
   pub some-word : 1 ≤ length w

@@ -19,8 +19,8 @@ use Rattle.rules.specs.Pool.{Node, Pool, node, entry, noEntry, rectangle, rects
 use Rattle.rules.specs.Numbers.{most}
 use Rattle.rules.specs.Layout.{editionOf, rectSize, entrySize, slotHead, slotSize, slotStart, countPlace, entryPlace}
 use Rattle.rules.specs.Layout.{pointerWord, ownerWords, entryWords, nodeWords, headWords, words, wordAt, rectOf, read}
-use Rattle.rules_laws.proofs.Places.{Each, each-append, each-at, each-among}
-use Rattle.rules_laws.proofs.Parts.{length-without, among-without}
+use Rattle.rules_laws.proofs.Places.{each-append, each-without, each-at}
+use Rattle.rules_laws.proofs.Parts.{length-without}
 use Rattle.layout_laws.specs.Slots.{InPool, Fit, KindOf}
 use Rattle.layout_laws.proofs.Parts.{room, entry-ends, places-end, slot-rect, rect-entry}
 use Rattle.layout_laws.proofs.Runs.{sets-right, sets-taken, sets-over, after-sets, zeros, shifted, length-shifted, shifted-right, wide-set, map-set, sets-joined, part-joined}
@@ -206,10 +206,6 @@ words-after Two s i n h = omega arith
 places-after : (e : Edition) (k n : ℕ) → entrySize e * (k + suc n) ≡ entrySize e * k + entrySize e + entrySize e * n
 places-after One k n = omega arith
 places-after Two k n = omega arith
-
-each-without : (P : Entry → Type 0) (xs : List Entry) (k : ℕ) → Each P xs → Each P (without k xs)
-each-without P xs k a =
-    each-among P (without k xs) (λ x m. let at = among-without xs k x m in subst P (at .3 x) (each-at P xs (at .0) x (at .1) a))
 
 -- ---- the pool
 

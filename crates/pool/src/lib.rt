@@ -146,8 +146,8 @@ fn pointer_place(pool: &[i32], s: SlotNumber, i: usize) -> usize
 
 // How many slots of an edition fit into so many words. Each division is by a number that the compiler knows: it is asked at every node, and
 // a division by any other is slow.
-fn slots_in(edition: Edition, n: usize) -> usize
-    ensures { λ r. ⌜ r ≡ L.slotsIn edition n ⌝ }
+fn slots_fitting(edition: Edition, n: usize) -> usize
+    ensures { λ r. ⌜ r ≡ L.slotsFitting edition n ⌝ }
 {
     if n < HEAD_SIZE {
         return 0;
@@ -162,7 +162,7 @@ fn slots_in(edition: Edition, n: usize) -> usize
 pub fn valid_size(edition: Edition, n: usize) -> bool
     ensures { λ r. ⌜ r ≡ L.validSize edition n ⌝ }
 {
-    let slots = slots_in(edition, n);
+    let slots = slots_fitting(edition, n);
     if slots < 1 {
         return false;
     }
@@ -180,7 +180,7 @@ pub fn slot_count(pool: &[i32]) -> usize
     if n < HEAD_SIZE {
         return 0;
     }
-    slots_in(edition_of(pool), n)
+    slots_fitting(edition_of(pool), n)
 }
 
 // Whether its length is valid, measured by its own edition.

@@ -20,7 +20,7 @@ use Rattle.rules.specs.Numbers.{goodNumber}
 use Rattle.rules.specs.Owners.{editionNumber, editionTold, owner, nobody, ownerSound, ownersOf, ownedBy, asFound, ofOwner}
 use Rattle.rules.specs.Geometry.{valid, sameFound}
 use Rattle.rules.specs.Pool.{Pool, number, stored, blankPool}
-use Rattle.rules.specs.Layout.{natural, wordAt, slotsIn, validSize, validLength, words, read}
+use Rattle.rules.specs.Layout.{natural, wordAt, slotsFitting, validSize, validLength, words, read}
 use Rattle.rules.specs.Sound.{sound}
 use Rattle.rules.specs.Search.{before, ordered}
 use Rattle.rules.specs.Insert.{Choice, ours, Done, NoneFree, insertRecord}
@@ -251,7 +251,7 @@ unfoldable pub readFile : Edition → List ℤ → List ℤ → List ℕ → Rea
 readFile e pool work bs =
     elim (not (validSize e (length pool)) || not (eqb (length work) (length pool))) [
       | true ↦ record { number = fileNumber BadLength; pool = pool; workspace = work }
-      | false ↦ afterLoad pool (loadFile ours e (blankPool e (slotsIn e (length pool) - 1)) bs)
+      | false ↦ afterLoad pool (loadFile ours e (blankPool e (slotsFitting e (length pool) - 1)) bs)
     ]
 
 -- .. by the numbers of an edition and a rule; where they tell no edition the number is one that is not in the table, -1

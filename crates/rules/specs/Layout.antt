@@ -56,12 +56,12 @@ abbrev pub slotSize : Edition → ℕ
 slotSize e = slotHead + most * entrySize e
 
 -- how many slots fit after the head in so many words
-unfoldable pub slotsIn : Edition → ℕ → ℕ
-slotsIn e n = (n - headSize) / slotSize e
+unfoldable pub slotsFitting : Edition → ℕ → ℕ
+slotsFitting e n = (n - headSize) / slotSize e
 
 -- "A pool is 8 + 42N signed 32-bit words", N from 1 to 4,096; "length 8 + 50N"
 unfoldable pub validSize : Edition → ℕ → Bool
-validSize e n = eqb n (headSize + slotSize e * slotsIn e n) && leb 1 (slotsIn e n) && leb (slotsIn e n) mostSlots
+validSize e n = eqb n (headSize + slotSize e * slotsFitting e n) && leb 1 (slotsFitting e n) && leb (slotsFitting e n) mostSlots
 
 -- ---- words measured
 
@@ -73,7 +73,7 @@ unfoldable pub editionOf : List ℤ → Edition
 editionOf w = elim (same (wordAt w editionPlace) (pos 2)) [ true ↦ Two | false ↦ One ]
 
 unfoldable pub slotCount : List ℤ → ℕ
-slotCount w = slotsIn (editionOf w) (length w)
+slotCount w = slotsFitting (editionOf w) (length w)
 
 unfoldable pub validLength : List ℤ → Bool
 validLength w = validSize (editionOf w) (length w)
@@ -193,7 +193,7 @@ pub record Blanked : Type 0 where
 unfoldable pub blank : Edition → List ℤ → Blanked
 blank e w =
     elim (validSize e (length w)) [
-      | true ↦ record { number = pos 0; pool = words (blankPool e (slotsIn e (length w) - 1)) }
+      | true ↦ record { number = pos 0; pool = words (blankPool e (slotsFitting e (length w) - 1)) }
       | false ↦ record { number = pos 1; pool = w }
     ]
 

@@ -4,7 +4,7 @@ use mathlib.Core.List.{List, [], _∷_, _++_, map, List·Memᴰ, List·Memᴰ·h
 use Prim.Native.Nat.{ℕ, zero, suc, _+_, _-_, _≤_, _<_}
 use native.Mathlib.Omega.{arith}
 use lib.ListN.{length, getD, replicate}
-use Rattle.rules.specs.Lists.{upFrom}
+use Rattle.rules.specs.Lists.{without, upFrom}
 
 module _ {A : Type 0} where
   -- x is a member
@@ -80,6 +80,12 @@ module _ {A : Type 0} (P : A → Type 0) where
   pub each-append : (xs ys : List A) → Each xs → Each ys → Each (xs ++ ys)
   each-append [] ys a b = b
   each-append (x ∷ xs) ys a b = (a .0, each-append xs ys (a .1) b)
+
+  pub each-without : (xs : List A) (k : ℕ) → Each xs → Each (without k xs)
+  unfolding without
+  each-without [] k a = a
+  each-without (x ∷ xs) zero a = a .1
+  each-without (x ∷ xs) (suc k) a = (a .0, each-without xs k (a .1))
 
   pub each-at : (xs : List A) (k : ℕ) (d : A) → k < length xs → Each xs → P (getD xs k d)
   each-at [] k d h a = absurd (omega arith)

@@ -16,7 +16,7 @@ use Rattle.rules.specs.Geometry.{enlargement}
 use Rattle.rules.specs.Choose.{rectFrom}
 use Rattle.rules.specs.Split as S
 use Rattle.rules_laws.proofs.Parts.{length-without}
-use Rattle.rules_laws.proofs.Places.{Each, each-append, each-at, each-also, each-upFrom, Ordered, ordered-upFrom, getD-upFrom}
+use Rattle.rules_laws.proofs.Places.{Each, each-append, each-without, each-at, each-also, each-upFrom, Ordered, ordered-upFrom, getD-upFrom}
 use Rattle.split.specs.State.{ClosedUp, Left, Grows}
 
 -- ---- one left out of a list
@@ -35,12 +35,6 @@ module _ {A : Type 0} where
   getD-after (x ∷ xs) zero k d h = refl
   getD-after (x ∷ xs) (suc b) zero d h = absurd (omega arith)
   getD-after (x ∷ xs) (suc b) (suc k) d h = getD-after xs b k d (omega arith)
-
-  each-without : (P : A → Type 0) (xs : List A) (b : ℕ) → Each P xs → Each P (without b xs)
-  unfolding without
-  each-without P [] b a = a
-  each-without P (x ∷ xs) zero a = a .1
-  each-without P (x ∷ xs) (suc b) a = (a .0, each-without P xs b (a .1))
 
   ordered-without : (R : A → A → Type 0) (xs : List A) (b : ℕ) → Ordered R xs → Ordered R (without b xs)
   unfolding without

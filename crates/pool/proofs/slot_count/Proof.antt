@@ -2,7 +2,7 @@ use mathlib.Core.Path.{sym, ap, _∙_}
 use native.Mathlib.Omega.{arith}
 use lib.ListN.{length}
 use Rattle.rules.specs.declared.Edition.{Edition}
-use Rattle.rules.specs.Layout.{slotsIn, slotCount}
+use Rattle.rules.specs.Layout.{slotsFitting, slotCount}
 use Rattle.pool.proofs.Lengths.{short-count}
 use borrow.Author.Needs.{needs}
 use Rattle.pool.proofs.slot_count.Statement.{statement}
@@ -18,7 +18,7 @@ returns-2 : tie.Need-returns-2
 unfolding slotCount
 returns-2 c =
     let start = c .before .before .before in
-    c .slots-in .ensures ∙ ap (λ (e : Edition). slotsIn e (length (start .args .pool .now))) (c .before .edition-of .ensures)
+    c .slots-fitting .ensures ∙ ap (λ (e : Edition). slotsFitting e (length (start .args .pool .now))) (c .before .edition-of .ensures)
 
 pub slot-count-spec : {M : Type 1} → statement M
 slot-count-spec =
