@@ -15,7 +15,7 @@ use Rattle.rules.specs.Owners.{editionNumber}
 use Rattle.rules.specs.Pool.{node, freeNode, blankPool}
 use Rattle.rules.specs.Layout.{headSize, editionPlace, rootPlace, heightPlace, slotSize, slotsFitting, validSize, padded, nodeWords, headWords, words, Blanked, blank}
 use Rattle.layout_laws.proofs.Parts.{sized}
-use Rattle.layout_laws.proofs.Runs.{zeros, sets-all, sets-more}
+use Rattle.layout_laws.proofs.Runs.{zeros, sets-all}
 
 -- a free slot's words are zero
 pub free-words : (e : Edition) → nodeWords e freeNode ≡ zeros (slotSize e)
@@ -74,12 +74,7 @@ pub blank-wrong : (e : Edition) (w : List ℤ) → validSize e (length w) ≡ fa
 unfolding blank
 blank-wrong e w r = rw (blank, r)
 
--- ---- zeros, a word at a time
-
-pub zeros-stored : (w : List ℤ) (i : ℕ) → set (sets w 0 (zeros i)) i (pos 0) ≡ sets w 0 (zeros (i + 1))
-zeros-stored w i =
-    let e : i ≡ 0 + length (zeros i) = omega (arith, length-replicate i (pos 0)) in
-    ap (λ (k : ℕ). set (sets w 0 (zeros i)) k (pos 0)) e ∙ sets-more (zeros i) (zeros 1) w 0 ∙ ap (sets w 0) (replicate-append-replicate i 1 (pos 0))
+-- ---- zeros for all words
 
 pub zeros-all : (w : List ℤ) → sets w 0 (zeros (length w)) ≡ zeros (length w)
 zeros-all w = sets-all w (zeros (length w)) (length-replicate (length w) (pos 0))

@@ -9,17 +9,15 @@ use crate::HEIGHT_PLACE;
 use crate::ROOT_PLACE;
 use crate::edition_number;
 use crate::valid_size;
+use crate::zero_words;
 use rules::Edition;
 
 // "all else zero": every word is zeroed, and blanking writes the others after that.
 fn zero_all(pool: &mut [i32])
     ensures { λ _. ⌜ now (pool .exit) ≡ replicate (length (now (pool .entry))) (pos 0) ⌝ }
 {
-    let mut i: usize = 0;
-    while i < pool.len() {
-        pool[i] = 0;
-        i += 1;
-    }
+    let n = pool.len();
+    zero_words(pool, 0, n);
 }
 
 // "Blanking writes edition 1, root 1, height 1, records 0, slot 1 as an empty leaf, all else zero." It "knows only 1, for the pool's
