@@ -14,7 +14,7 @@ REQUESTS = Slice("requests", "q", False, REQUEST, "qs", 2)
 ANSWERS = Slice("answers", "r", True, ANSWER, "rs", 3)
 FOUND = Slice("found", "f", True, FOUND_RECORD, "fs", 4)
 ALL_ASKED = Callee("batch", "all_asked", "all-asked")
-REFUSAL = Callee("batch", "refusal", "refusal")
+REFUSAL = Callee("refusal", "refusal", "refusal")
 SERVE = Callee("batch", "serve", "serve")
 COPY = Callee("pool", "copy", "copy")
 
@@ -38,7 +38,8 @@ Rattle.rules.specs.Lists: every
 Rattle.rules.specs.Owners: owner
 Rattle.rules.specs.Call: Lent isRequest callFault
 Rattle.promises.specs.Calls: lent=lentOf left Allowed
-Rattle.batch.specs.Batching: refusalOf batchOf Batched
+Rattle.refusal.specs.Refusing: refusalOf
+Rattle.batch.specs.Batching: batchOf Batched
 Rattle.batch.proofs.Batches: fine
 Rattle.batch.proofs.Calls: not-refused is-refused left-alone left-served
 """
@@ -74,7 +75,7 @@ def asks():
 def refuses():
     """`refusal` gives the number."""
     walk = Walk(ASKED, 10)
-    walk.note("let n = refusal(pool, owner, work.len(), requests.len(), answers.len(), all);")
+    walk.note("let n = refusal::refusal(pool, owner, work.len(), requests.len(), answers.len(), all);")
     counts = [Given(USIZE, f"length {s.list}", f"{s.room} .0") for s in (WORK, REQUESTS, ANSWERS)]
     call = Call(REFUSAL, [Lent(POOL, 0, "ps", "room-p", shared=True), Given(I32, "who", "who-fits"), *counts, Given(BOOL, "all", None)], I32, 8)
     promise = "z ≡ refusalOf ps who (length ws) (length qs) (length rs) all"

@@ -17,8 +17,10 @@ use Rattle.rules.specs.Answers.{verdictNumber}
 use Rattle.rules.specs.Call.{Lent, Left, isRequest, callFault, refused, served}
 use Rattle.in_force_laws.proofs.Faults.{EachGiven, given-none, given-row}
 use Rattle.promises.specs.Calls.{left, Allowed}
-use Rattle.batch.specs.Batching.{faultNumber, refusalOf, batchOf, Batched}
-use Rattle.batch.proofs.Refusals.{refusal-is, call-number, call-refused, call-served}
+use Rattle.refusal.specs.Refusing.{faultNumber, refusalOf}
+use Rattle.refusal.proofs.Refusals.{refusal-is}
+use Rattle.batch.specs.Batching.{batchOf, Batched}
+use Rattle.batch.proofs.Refusals.{call-number, call-refused, call-served}
 
 -- ---- the number
 

@@ -1,70 +1,26 @@
--- The rows that refuse a call, from the top: what each of them makes of the number that comes back.
+-- What a call is that a row refuses, or none; and what is a request.
 use mathlib.Core.Path.{_≡_, refl, sym, _∙_, ap}
-use mathlib.Core.Bool.{Bool, true, false, not, _&&_, _||_}
+use mathlib.Core.Bool.{Bool, true, false, _&&_}
 use mathlib.Core.List.{List, [], _∷_}
 use mathlib.Core.Option.{Option, none, some}
 use Prim.Native.Nat.{ℕ, zero, suc, _≤_}
 use native.Mathlib.Omega.{arith}
 use lib.IntN.{ℤ, pos, negsuc}
 use lib.ListN.{length}
-use lib.Dec.{ltb, eqb}
 use lib.Signed.{leZ}
 use borrow.Author.Tests.{le-leb, lt-leb}
 use Rattle.rules.specs.declared.Request.{Request}
 use Rattle.rules.specs.declared.Verdict.{Verdict}
-use Rattle.rules.specs.Numbers.{mostRequests, goodOwner}
-use Rattle.rules.specs.Owners.{owner}
 use Rattle.rules.specs.Lists.{every, oneOf, same}
-use Rattle.rules.specs.Layout.{validLength}
-use Rattle.rules.specs.Sound.{sound}
 use Rattle.rules.specs.Answers.{Row, firstRow, verdictNumber}
 use Rattle.rules.specs.Request.{asked}
 use Rattle.rules.specs.Insert.{ours}
 use Rattle.rules.specs.Call.{Lent, Left, call, callFault, refused, served, isRequest}
 use Rattle.in_force_laws.proofs.Call.{callBy-refused, callBy-served}
 use Rattle.promises.specs.Calls.{nothingAsked}
-use Rattle.batch.specs.Batching.{faultNumber, refusalOf, batchOf}
-
-module _ (w : List ℤ) (who : ℤ) (ws qs rs : ℕ) (all : Bool) where
-  abbrev lists : Bool
-  lists = ltb mostRequests qs || not (eqb rs qs)
-
-  abbrev lengths : Bool
-  lengths = not (validLength w) || not (eqb ws (length w))
-
-  pub bad-lists : lists ≡ true → refusalOf w who ws qs rs all ≡ pos 9
-  unfolding refusalOf firstRow faultNumber verdictNumber
-  bad-lists a = rw (refusalOf, a)
-
-  pub bad-owner : lists ≡ false → goodOwner (owner who) ≡ false → refusalOf w who ws qs rs all ≡ pos 13
-  unfolding refusalOf firstRow faultNumber verdictNumber
-  bad-owner a o = rw (refusalOf, a, o)
-
-  module _ (a : lists ≡ false) (o : goodOwner (owner who) ≡ true) where
-    pub bad-length : lengths ≡ true → refusalOf w who ws qs rs all ≡ pos 1
-    unfolding refusalOf firstRow faultNumber verdictNumber
-    bad-length b = rw (refusalOf, a, o, b)
-
-    pub not-sound : lengths ≡ false → sound w ≡ false → refusalOf w who ws qs rs all ≡ pos 2
-    unfolding refusalOf firstRow faultNumber verdictNumber
-    not-sound b c = rw (refusalOf, a, o, b, c)
-
-    pub no-request : lengths ≡ false → sound w ≡ true → all ≡ false → refusalOf w who ws qs rs all ≡ negsuc 0
-    unfolding refusalOf firstRow faultNumber verdictNumber
-    no-request b c d = rw (refusalOf, a, o, b, c, d)
-
-    pub none-refuses : lengths ≡ false → sound w ≡ true → all ≡ true → refusalOf w who ws qs rs all ≡ pos 0
-    unfolding refusalOf firstRow faultNumber verdictNumber
-    none-refuses b c d = rw (refusalOf, a, o, b, c, d)
-
-pub right-first : (a b : Bool) → (not a || not b) ≡ false → a ≡ true
-right-first true b h = refl
-right-first false b h = sym h
-
--- the number of a call, by the row that refuses it
-pub refusal-is : (l : Lent) → refusalOf (l .pool) (l .owner .0) (length (l .workspace)) (length (l .requests)) (length (l .answers)) (every isRequest (l .requests)) ≡ faultNumber (callFault l)
-unfolding refusalOf callFault
-refusal-is l = refl
+use Rattle.refusal.specs.Refusing.{faultNumber, refusalOf}
+use Rattle.refusal.proofs.Refusals.{refusal-is}
+use Rattle.batch.specs.Batching.{batchOf}
 
 -- a call that a row refuses, and one that none does
 pub call-refused : (l : Lent) (v : Verdict) → callFault l ≡ some v → call l ≡ refused l v

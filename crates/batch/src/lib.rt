@@ -1,9 +1,8 @@
-// A batch of requests over lent lists: what refuses a call, and the requests done one after another.
+// A batch of requests over lent lists: whether everything asked is a request, and the requests done one after another; and a whole call.
 ghost use mathlib.Core.Path.{_≡_};
-ghost use mathlib.Core.Bool.{not, _||_, _&&_, true};
+ghost use mathlib.Core.Bool.{_&&_, true};
 ghost use mathlib.Core.Option.{none};
 ghost use Prim.Native.Nat.{_+_, _*_, _≤_};
-ghost use lib.Dec.{ltb, eqb};
 ghost use lib.ListN.{length};
 ghost use lib.Seq.{sets};
 ghost use Rattle.rules.specs.Lists.{every};
@@ -13,13 +12,11 @@ ghost use Rattle.rules.specs.Layout as L;
 ghost use Rattle.rules.specs.Call as C;
 ghost use Rattle.found_items.specs.Items.{shownFrom, Pointing};
 ghost use Rattle.promises.specs.Calls.{lent, left, Allowed};
-ghost use Rattle.batch.specs.Batching.{refusalOf, Begun, stepOf, batchOf, Batched};
+ghost use Rattle.batch.specs.Batching.{Begun, stepOf, batchOf, Batched};
 use free_slots::FreeSlots;
 use request::Served;
 use rules::Answer;
 use rules::FoundRecord;
-use rules::MOST_REQUESTS;
-use rules::Owner;
 use rules::Request;
 
 // How far a batch has come: the requests done, the places of the found list filled, and what is known of the free slots.
@@ -36,49 +33,6 @@ struct Stepped {
     listed: usize,
     start: usize,
     next: Progress,
-}
-
-// False where 9 is given: "more than 1,024 requests, or answer list of another length than the request list".
-fn lists_fit(requests: usize, answers: usize) -> bool
-    ensures { λ r. ⌜ not r ≡ (ltb mostRequests requests || not (eqb answers requests)) ⌝ }
-{
-    if MOST_REQUESTS < requests {
-        return false;
-    }
-    answers == requests
-}
-
-// "The table's order is the order of checks.": 9, then 13 for another owner, 1, 2; last, -1 for a list that holds something which is no
-// request. 0 where nothing refuses.
-pub fn refusal(
-    pool: &[i32],
-    owner: i32,
-    workspace: usize,
-    requests: usize,
-    answers: usize,
-    asked: bool,
-) -> i32
-    ensures { λ r. ⌜ r ≡ refusalOf (now (pool .entry)) owner workspace requests answers asked ⌝ }
-{
-    let lists = lists_fit(requests, answers);
-    let known = pool::good_owner(Owner(owner));
-    let lengths = pool::lengths_fit(pool, workspace);
-    if !lists {
-        return 9;
-    }
-    if !known {
-        return 13;
-    }
-    if !lengths {
-        return 1;
-    }
-    if !sound::sound(pool) {
-        return 2;
-    }
-    if !asked {
-        return -1;
-    }
-    0
 }
 
 // "A request is of one of the four kinds"; a search is of kind 4, 5 or 6, by its mode.
@@ -203,7 +157,7 @@ pub fn one_call(
     ensures { λ r. ⌜ Allowed (lent (O.owner owner) (now (pool .entry)) (now (work .entry)) (now (requests .entry)) (now (answers .entry)) (now (found .entry))) (left r (now (pool .exit)) (now (work .exit)) (now (answers .exit)) (now (found .exit))) ⌝ }
 {
     let all = all_asked(requests);
-    let n = refusal(pool, owner, work.len(), requests.len(), answers.len(), all);
+    let n = refusal::refusal(pool, owner, work.len(), requests.len(), answers.len(), all);
     if n != 0 {
         return n;
     }

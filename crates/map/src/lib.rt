@@ -69,7 +69,7 @@ pub extern "C" fn dustmap_check(pool: &[i32]) -> i32
     ensures { λ r. ⌜ r ≡ C.call (nothingAsked (now (pool .entry))) .number ⌝ }
 {
     let n = pool.len();
-    batch::refusal(pool, 1, n, 0, 0, true)
+    refusal::refusal(pool, 1, n, 0, 0, true)
 }
 
 // One call: a batch of an owner over lent lists. For any input at all, the number, the pool, the workspace, the answers and the found list

@@ -62,17 +62,18 @@ use Rattle.rules.specs.Lists.{every}
 use Rattle.rules.specs.Owners.{owner}
 use Rattle.rules.specs.Call.{Lent, isRequest, callFault}
 use Rattle.promises.specs.Calls.{lent as lentOf, left, Allowed}
-use Rattle.batch.specs.Batching.{refusalOf, batchOf, Batched}
+use Rattle.refusal.specs.Refusing.{refusalOf}
+use Rattle.batch.specs.Batching.{batchOf, Batched}
 use Rattle.batch.proofs.Batches.{fine}
 use Rattle.batch.proofs.Calls.{not-refused, is-refused, left-alone, left-served}
 use Rattle.batch.proofs.all_asked as all-asked
 use Rattle.batch.proofs.all_asked.Symbol as all-asked-def
 use Rattle.batch.proofs.all_asked.Symbol.{name as #batch·all-asked}
 use Rattle.batch.proofs.all_asked.Met as all-asked-thm
-use Rattle.batch.proofs.refusal as refusal
-use Rattle.batch.proofs.refusal.Symbol as refusal-def
-use Rattle.batch.proofs.refusal.Symbol.{name as #batch·refusal}
-use Rattle.batch.proofs.refusal.Met as refusal-thm
+use Rattle.refusal.proofs.refusal as refusal
+use Rattle.refusal.proofs.refusal.Symbol as refusal-def
+use Rattle.refusal.proofs.refusal.Symbol.{name as #refusal·refusal}
+use Rattle.refusal.proofs.refusal.Met as refusal-thm
 use Rattle.batch.proofs.serve as serve
 use Rattle.batch.proofs.serve.Symbol as serve-def
 use Rattle.batch.proofs.serve.Symbol.{name as #batch·serve}
@@ -234,7 +235,7 @@ module _ {M : Type 1} (𝓤 : URA M) (H : Heap 𝓤) (A : Atoms 𝓤) (W : Given
 
   module _ (𝓣 : Tables 𝓤 H)
       (known-all-asked : Triple 𝓤 (𝓣 .C #batch·all-asked) (AllAskedC 𝓤 H A mem run))
-      (known-refusal : Triple 𝓤 (𝓣 .C #batch·refusal) (RefusalC 𝓤 H A mem run))
+      (known-refusal : Triple 𝓤 (𝓣 .C #refusal·refusal) (RefusalC 𝓤 H A mem run))
       (known-serve : Triple 𝓤 (𝓣 .C #batch·serve) (ServeC 𝓤 H A mem run))
       (known-copy : Triple 𝓤 (𝓣 .C #pool·copy) (CopyC 𝓤 H A mem run)) where
     module _ (l₀ l₁ l₂ l₃ l₄ l₅ l₆ l₇ l₈ l₉ l₁₀ l₁₁ l₁₂ l₁₃ l₁₄ l₁₅ l₁₆ l₁₇ l₁₈ l₁₉ l₂₀ l₂₁ l₂₂ l₂₃ l₂₄ l₂₅ l₂₆ l₂₇ : ℕ) where
@@ -394,7 +395,7 @@ module _ {M : Type 1} (𝓤 : URA M) (H : Heap 𝓤) (A : Atoms 𝓤) (W : Given
       refuses : (all : Bool) → all ≡ every isRequest qs → Sq W (lists ps ws rs fs ++ holding ((7, vbool all) ∷ (10, sliceVal (bp, op) (length ps))
           ∷ (11, vint w64 (length ws)) ∷ (12, vint w64 (length qs)) ∷ (13, vint w64 (length rs)) ∷ [])) (runs (𝓣 .C) (𝓣 .Λ) E mir.t-7 (atRet E Post))
       refuses all asked =
-          -- let n = refusal(pool, owner, work.len(), requests.len(), answers.len(), all);
+          -- let n = refusal::refusal(pool, owner, work.len(), requests.len(), answers.len(), all);
           lent-shr ! tt i32 (named 0) (named 0) bp op γp ps room-p (λ ν δ.
           calls ! (fmOf 𝓤 H (W .laws) 𝓣) 2 refusal.ended (refusal.clauses 𝓤 H A mem run) known-refusal (
             (ν ∷ [], tt),
@@ -483,7 +484,7 @@ module _ {M : Type 1} (𝓤 : URA M) (H : Heap 𝓤) (A : Atoms 𝓤) (W : Given
 
 module _ {M : Type 1} (𝓤 : URA M) (H : Heap 𝓤) (A : Atoms 𝓤) (W : Given 𝓤 H A) (mem : Memory → SProp 𝓤) (run : Routine → Fun 𝓤) where
   -- the walk, whatever the caller passes
-  one-call-walks : (𝓣 : Tables 𝓤 H) → Triple 𝓤 (𝓣 .C #batch·all-asked) (AllAskedC 𝓤 H A mem run) → Triple 𝓤 (𝓣 .C #batch·refusal)
+  one-call-walks : (𝓣 : Tables 𝓤 H) → Triple 𝓤 (𝓣 .C #batch·all-asked) (AllAskedC 𝓤 H A mem run) → Triple 𝓤 (𝓣 .C #refusal·refusal)
       (RefusalC 𝓤 H A mem run) → Triple 𝓤 (𝓣 .C #batch·serve) (ServeC 𝓤 H A mem run) → Triple 𝓤 (𝓣 .C #pool·copy) (CopyC 𝓤 H A mem run)
       → Walks 𝓤 H A one-call′.ended stayed (WpFn 𝓤 H (𝓣 .C) (𝓣 .Λ) code.function) (one-call′.clauses 𝓤 H A mem run)
   one-call-walks 𝓣 known-all-asked known-refusal known-serve known-copy =
@@ -518,9 +519,9 @@ module _ {M : Type 1} (𝓤 : URA M) (H : Heap 𝓤) (A : Atoms 𝓤) (W : Given
 
 -- what is had at exit gives what the contract says
 one-call-meets : {M : Type 1} (𝓤 : URA M) (H : Heap 𝓤) (A : Atoms 𝓤) → Given 𝓤 H A → (mem : Memory → SProp 𝓤) (run : Routine → Fun 𝓤) (𝓣 : Tables 𝓤 H)
-    → Triple 𝓤 (𝓣 .C #batch·all-asked) (AllAskedC 𝓤 H A mem run) → Triple 𝓤 (𝓣 .C #batch·refusal) (RefusalC 𝓤 H A mem run) → Triple 𝓤 (𝓣 .C #batch·serve)
-    (ServeC 𝓤 H A mem run) → Triple 𝓤 (𝓣 .C #pool·copy) (CopyC 𝓤 H A mem run) → Meets 𝓤 H A one-call′.signature (WpFn 𝓤 H (𝓣 .C) (𝓣 .Λ) code.function)
-    (one-call′.spec 𝓤 H A mem run)
+    → Triple 𝓤 (𝓣 .C #batch·all-asked) (AllAskedC 𝓤 H A mem run) → Triple 𝓤 (𝓣 .C #refusal·refusal) (RefusalC 𝓤 H A mem run)
+    → Triple 𝓤 (𝓣 .C #batch·serve) (ServeC 𝓤 H A mem run) → Triple 𝓤 (𝓣 .C #pool·copy) (CopyC 𝓤 H A mem run) → Meets 𝓤 H A one-call′.signature
+    (WpFn 𝓤 H (𝓣 .C) (𝓣 .Λ) code.function) (one-call′.spec 𝓤 H A mem run)
 one-call-meets 𝓤 H A W mem run 𝓣 known-all-asked known-refusal known-serve known-copy =
     walk-meets 𝓤 H A one-call′.ended stayed W (
       goes-slice 𝓤 H A W 5 0 tt (plain (λ _. i32)),
@@ -553,7 +554,7 @@ one-call-spec 𝓤 H 𝓜 𝓖 𝓡 =
     (one-call-meets 𝓤 H (𝓖 .A) (givenOf 𝓤 H 𝓜 𝓖) (𝓜 .mem) (𝓡 .run) (tablesOf 𝓤 H 𝓜 (tables 𝓤 H 𝓜 𝓡 code.env))
     (cited 𝓤 H (AllAskedC 𝓤 H (𝓖 .A) (𝓜 .mem) (𝓡 .run)) 𝓜 𝓡 code.env #batch·all-asked all-asked-def.routine code.calls-batch·all-asked
     (all-asked-thm.met 𝓤 H 𝓜 𝓖 𝓡))
-    (cited 𝓤 H (RefusalC 𝓤 H (𝓖 .A) (𝓜 .mem) (𝓡 .run)) 𝓜 𝓡 code.env #batch·refusal refusal-def.routine code.calls-batch·refusal
+    (cited 𝓤 H (RefusalC 𝓤 H (𝓖 .A) (𝓜 .mem) (𝓡 .run)) 𝓜 𝓡 code.env #refusal·refusal refusal-def.routine code.calls-refusal·refusal
     (refusal-thm.met 𝓤 H 𝓜 𝓖 𝓡))
     (cited 𝓤 H (ServeC 𝓤 H (𝓖 .A) (𝓜 .mem) (𝓡 .run)) 𝓜 𝓡 code.env #batch·serve serve-def.routine code.calls-batch·serve (serve-thm.met 𝓤 H 𝓜 𝓖 𝓡))
     (cited 𝓤 H (CopyC 𝓤 H (𝓖 .A) (𝓜 .mem) (𝓡 .run)) 𝓜 𝓡 code.env #pool·copy copy-def.routine code.calls-pool·copy (copy-thm.met 𝓤 H 𝓜 𝓖 𝓡)))

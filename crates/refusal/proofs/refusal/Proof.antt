@@ -4,10 +4,10 @@ use lib.Dec.{eqb}
 use lib.ListN.{length}
 use Rattle.rules.specs.Layout.{validLength}
 use Rattle.rules_laws.proofs.Bools.{not-true, not-false}
-use Rattle.batch.proofs.Refusals.{bad-lists, bad-owner, bad-length, right-first, not-sound, no-request, none-refuses}
+use Rattle.refusal.proofs.Refusals.{bad-lists, bad-owner, bad-length, right-first, not-sound, no-request, none-refuses}
 use borrow.Author.Needs.{needs}
-use Rattle.batch.proofs.refusal.Statement.{statement}
-use Rattle.batch.proofs.refusal.Tie as tie
+use Rattle.refusal.proofs.refusal.Statement.{statement}
+use Rattle.refusal.proofs.refusal.Tie as tie
 
 -- the lists do not fit
 returns : tie.Need-returns

@@ -1,7 +1,7 @@
 use native.Mathlib.Omega.{arith}
 use borrow.Author.Tests.{lt-ltb, le-ltb}
-use Rattle.batch.proofs.lists_fit.Statement.{statement}
-use Rattle.batch.proofs.lists_fit.Tie as tie
+use Rattle.refusal.proofs.lists_fit.Statement.{statement}
+use Rattle.refusal.proofs.lists_fit.Tie as tie
 
 returns : tie.Need-returns
 returns c = rw (lt-ltb 1024 (c .before .args .requests) (c .if1 .taken))

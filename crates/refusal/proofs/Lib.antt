@@ -1,0 +1,2 @@
+-- Laws of what refuses a call.
+pub mod Refusals

@@ -1,0 +1,2 @@
+-- What refuses a call.
+pub mod Refusing
