@@ -3,7 +3,7 @@
 #include <signal.h>
 #include <stdint.h>
 
-/* reads frames from standard input and prints their lines; crate `program` */
+/* reads frames from standard input and prints their lines; crate `dustmap_run` */
 int32_t dustmap_run(void);
 
 int main(void)

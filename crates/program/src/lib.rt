@@ -445,8 +445,7 @@ fn report(status: i32) {
 }
 
 // The whole program. Its result is the status that it ends with.
-#[no_mangle]
-pub extern "C" fn dustmap_run() -> i32
+pub fn whole_run() -> i32
     ensures { λ r. ⌜ Runs r ⌝ }
 {
     let status = answer_all();
