@@ -38,7 +38,13 @@ pub record Stands (pool : List ℤ) (input out : List ℕ) (r : Run) : Type 0 wh
   pub high : r .end ≤ length input
   pub room : r .filled ≤ length out
 
--- .. and has come here from the run before it, with nothing printed that is not to be, and nothing left out
+-- a run at its start: no frame was before, no byte has come and none is printed
+pub record Begins (pool : List ℤ) (r : Run) : Type 0 where
+  pub counted : r .before ≡ 0
+  pub stands : (input out : List ℕ) → Stands pool input out r
+  pub claims : (input out : List ℕ) → Claims pool input out r [] []
+
+-- the run may go on, and has come here from the run before it, with nothing printed that is not to be, and nothing left out
 pub record Comes (before : List ℤ) (input out : List ℕ) (r : Run) (pool : List ℤ) (now : List ℕ) (s : Run) : Type 0 where
   pub stands : Stands pool input now s
   pub counted : s .before ≤ suc (r .before)

@@ -11,7 +11,7 @@ ghost use Rattle.rules.specs.Call.{isRequest};
 ghost use Rattle.found_items.specs.Items.{shownFrom, Pointing};
 ghost use Rattle.request.specs.Serving.{Ready};
 ghost use Rattle.program.specs.Moving.{mostRounds, again, movedBy, heldUpTo, Sends, Flushes, Receives};
-ghost use Rattle.program.specs.Running.{poolSize, Stands, Onward, Replies, Drains, Closes, Ending, Waited, Rounds, Runs};
+ghost use Rattle.program.specs.Running.{poolSize, Begins, Stands, Onward, Replies, Drains, Closes, Ending, Waited, Rounds, Runs};
 use frames::Framed;
 use free_slots::FreeSlots;
 use libc::STDIN_FILENO;
@@ -401,6 +401,22 @@ fn round(pool: &mut [i32], work: &mut [i32], input: &mut [u8], out: &mut [u8], r
     }
 }
 
+// The pool blank, and the run at its start.
+fn first_run(pool: &mut [i32]) -> Run
+    requires { ⌜ length (now pool) ≡ poolSize ⌝ }
+    ensures { λ r. ⌜ Begins (now (pool .exit)) r ⌝ }
+{
+    pool::blank::blank(pool, Edition::One);
+    let free = free_slots::free_slots(pool);
+    Run {
+        before: 0,
+        free,
+        at: 0,
+        end: 0,
+        filled: 0,
+    }
+}
+
 // Reads and answers frame after frame. Nothing says that the input ends, and a loop has to: so the rounds are counted down, from a number
 // that no run uses up.
 fn answer_all() -> i32
@@ -410,15 +426,7 @@ fn answer_all() -> i32
     let mut work = [0i32; WORDS];
     let mut input = io::large_buffer();
     let mut out = io::large_buffer();
-    pool::blank::blank(&mut pool, Edition::One);
-    let free = free_slots::free_slots(&pool);
-    let mut run = Run {
-        before: 0,
-        free,
-        at: 0,
-        end: 0,
-        filled: 0,
-    };
+    let mut run = first_run(&mut pool);
     let mut rounds = u64::MAX;
     while rounds > 0 {
         match round(&mut pool, &mut work, &mut input, &mut out, run) {

@@ -1,21 +1,16 @@
 -- `answer_all`: the claim holds at the start, goes through each round, and says at the end what was printed. The rounds that are left fall.
 use Rattle.program.proofs.Rests.{step-goes, step-ends, run-endless, finished-fits}
 use mir.Facts.{toZ-ofZ}
-use mathlib.Core.Path.{_≡_, sym, ap, subst, _∙_}
+use mathlib.Core.Path.{_≡_, _∙_}
 use mathlib.Core.List.{List, [], _++_}
 use Prim.Native.Nat.{ℕ, _+_, _≤_}
 use native.Mathlib.Omega.{arith}
 use lib.ListN.{length}
 use lib.IntN.{ℤ}
 use borrow.Author.Needs.{needs}
-use Rattle.rules.specs.Layout.{validLength}
-use Rattle.rules.specs.Sound.{sound}
-use Rattle.frames.specs.Said.{Said}
-use Rattle.frames.proofs.Pieces.{said-start}
 use Rattle.program.specs.declared.Run.{Run}
 use Rattle.program.specs.Moving.{mostRounds}
 use Rattle.program.specs.Running.{poolSize, Claims, Stands}
-use Rattle.program.proofs.First.{first-long, first-right, first-sound}
 use Rattle.program.proofs.answer_all.Statement.{statement}
 use Rattle.program.proofs.answer_all.Tie as tie
 
@@ -39,33 +34,21 @@ Inv-loop pool₀ work₀ input₀ out₀ run₀ rounds₀ pool work input out ru
 abbrev μ-loop : tie.MeasureT-loop
 μ-loop pool₀ work₀ input₀ out₀ run₀ rounds₀ pool work input out run rounds = rounds
 
-free-slots-requires : tie.Need-free-slots-requires Inv-loop μ-loop
-free-slots-requires c κs = ap validLength (c .before .before .blank .ensures .1) ∙ first-right
-
 loop-holds : tie.Need-loop-holds Inv-loop μ-loop
 loop-holds c =
-    let blank = c .before .before .before .blank in
+    let begins = c .before .first-run .ensures in
     record {
-      words = ap length (blank .ensures .1) ∙ first-long;
+      words = search needs;
       space = search needs;
       inputs = search needs;
       outs = search needs;
-      stands = record {
-        ready = record {
-          right = ap validLength (blank .ensures .1) ∙ first-right;
-          sound = ap sound (blank .ensures .1) ∙ first-sound;
-          known = c .free-slots .ensures;
-        };
-        low = omega arith;
-        high = omega arith;
-        room = omega arith;
-      };
-      counted = omega arith;
+      stands = begins .stands _ _;
+      counted = omega (arith, begins .counted);
       done = 0;
       all = omega arith;
       arrived = [];
       printed = [];
-      claims = subst (λ (p : List ℤ). Said [] [] 0 p []) (sym (blank .ensures .1)) said-start;
+      claims = begins .claims _ _;
     }
 
 round-requires : tie.Need-round-requires Inv-loop μ-loop
@@ -124,8 +107,6 @@ answer-all-spec =
     (λ c κs. search needs)
     (λ c. search needs)
     (λ c κs. search needs)
-    (λ c. search needs)
-    free-slots-requires
     loop-holds
     (λ c. search needs)
     (λ c. search needs)
