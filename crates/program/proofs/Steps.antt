@@ -19,7 +19,7 @@ use Rattle.frames.proofs.Pieces.{said-asks, said-bad, asks-within}
 use Rattle.program.specs.declared.Run.{Run}
 use Rattle.program.specs.declared.Then.the-variants.{Goes, Waits, Full, Ends}
 use Rattle.program.specs.Moving.{heldIn}
-use Rattle.program.specs.Running.{Stands, Comes, Onward, Replies}
+use Rattle.program.specs.Running.{Stands, Comes, Onward, Replies, passedBy}
 
 -- ---- lists
 
@@ -72,11 +72,10 @@ module _ {pool : List ℤ} {input out : List ℕ} {r : Run} (s : Stands pool inp
   pub asks-in : (q : Request) (n : ℕ) → framed (heldIn input r) ≡ F.Asks q n → r .at + n ≤ r .end
   asks-in q n e = omega (arith, asks-within (heldIn input r) q n e, held-length, s .low)
 
-  pub onward-goes : (q : Request) (n : ℕ) {left : List ℤ} {now : List ℕ} {free : FreeSlots} {filled : ℕ} → framed (heldIn input r) ≡ F.Asks q n
+  goes : (q : Request) (n : ℕ) {left : List ℤ} {now : List ℕ} {free : FreeSlots} {filled : ℕ} → framed (heldIn input r) ≡ F.Asks q n
       → r .filled + 7124 ≤ length out → Replies pool q (r .before) out (r .filled) left now free filled
-      → Onward pool input out r left now (Goes (record { before = r .before + 1; free = free; at = r .at + n; end = r .end; filled = filled }))
-  unfolding Onward
-  onward-goes q n {left} {now} {free} {filled} e room w =
+      → Comes pool input out r left now (passedBy r n free filled)
+  goes q n {left} {now} {free} {filled} e room w =
       let k = asks-in q n e in
       let z = wrote-length (w .wrote) in
       let f = wrote-front (w .wrote) (omega (arith, w .short)) in
@@ -88,6 +87,12 @@ module _ {pool : List ℤ} {input out : List ℕ} {r : Run} (s : Stands pool inp
             (held-less input (r .at) (r .end) n (s .low) (omega arith))
             (said-asks a (p ++ take (r .filled) out) (r .before) pool (heldIn input r) c q n e);
       }
+
+  pub onward-goes : (q : Request) (n : ℕ) (then : Run) {left : List ℤ} {now : List ℕ} → framed (heldIn input r) ≡ F.Asks q n
+      → r .filled + 7124 ≤ length out → Replies pool q (r .before) out (r .filled) left now (then .free) (then .filled)
+      → then ≡ passedBy r n (then .free) (then .filled) → Onward pool input out r left now (Goes then)
+  unfolding Onward
+  onward-goes q n then {left} {now} e room w is = subst (λ (x : Run). Comes pool input out r left now x) (sym is) (goes q n e room w)
 
   pub onward-ends : (then : Run) {now : List ℕ} → framed (heldIn input r) ≡ F.Bad → then .filled ≤ length out
       → Wrote out (r .filled) (badLine (suc (r .before))) now (then .filled) → Onward pool input out r pool now (Ends then)

@@ -68,6 +68,10 @@ pub record Replies (pool : List ℤ) (q : Request) (before : ℕ) (out : List �
   pub wrote : Wrote out at (replyShown before pool q) now filled
   pub short : filled ≤ at + 7124
 
+-- the run past a frame of so many bytes, with what is known of the free slots then, and so much of the output filled
+abbrev pub passedBy : Run → ℕ → FreeSlots → ℕ → Run
+passedBy r size free filled = record { before = r .before + 1; free = free; at = r .at + size; end = r .end; filled = filled }
+
 -- ---- the ends of a run
 
 -- how a run ends, by its status, when `arrived` has been read and `printed` written

@@ -3,15 +3,17 @@
 // to read and to write is in `receive` and `send` alone.
 ghost use mathlib.Core.Path.{_≡_};
 ghost use mathlib.Core.Bool.{true};
-ghost use Prim.Native.Nat.{_+_, _-_, _≤_, _<_, min};
+ghost use Prim.Native.Nat.{suc, _+_, _-_, _≤_, _<_, min};
 ghost use lib.ListN.{length, replicate};
 ghost use lib.Seq.{sets};
 ghost use Rattle.rules.specs.Pool.{number, noRecord};
 ghost use Rattle.rules.specs.Call.{isRequest};
+ghost use Rattle.rules.specs.Frames.{badLine};
 ghost use Rattle.found_items.specs.Items.{shownFrom, Pointing};
 ghost use Rattle.request.specs.Serving.{Ready};
+ghost use Rattle.frames.specs.Writing.{Wrote};
 ghost use Rattle.program.specs.Moving.{mostRounds, again, movedBy, heldUpTo, Sends, Flushes, Receives};
-ghost use Rattle.program.specs.Running.{poolSize, Begins, Stands, Onward, Replies, Drains, Closes, Ending, Waited, Rounds, Runs};
+ghost use Rattle.program.specs.Running.{poolSize, Begins, Stands, Onward, Replies, passedBy, Drains, Closes, Ending, Waited, Rounds, Runs};
 use frames::Framed;
 use free_slots::FreeSlots;
 use libc::STDIN_FILENO;
@@ -57,12 +59,6 @@ enum Then {
     Ends(Run),
 }
 
-// What a frame's call leaves besides its lines.
-struct Answered {
-    free: FreeSlots,
-    filled: usize,
-}
-
 // A place of the found list before anything is found.
 fn no_record() -> FoundRecord
     ensures { λ r. ⌜ r ≡ noRecord ⌝ }
@@ -101,30 +97,56 @@ fn found_list(pool: &[i32], work: &[i32], listed: usize) -> [FoundRecord; 64]
     found
 }
 
-// "Each frame is a batch of one with a found list of 64."
+// "Each frame is a batch of one with a found list of 64." The run has passed the frame then, and its lines wait to be written.
 fn answer(
     pool: &mut [i32],
     work: &mut [i32],
     q: Request,
-    free: FreeSlots,
-    before: u64,
+    size: usize,
+    run: Run,
     out: &mut [u8],
-    at: usize,
-) -> Answered
-    requires ready { ⌜ Ready (now pool) free ⌝ }
+) -> Run
+    requires ready { ⌜ Ready (now pool) (run .free) ⌝ }
     requires words { ⌜ length (now pool) ≡ poolSize ⌝ }
     requires space { ⌜ length (now work) ≡ poolSize ⌝ }
     requires asks { ⌜ isRequest q ≡ true ⌝ }
-    requires room { ⌜ at + 7124 ≤ length (now out) ⌝ }
-    requires counted { ⌜ before < mostRounds ⌝ }
-    ensures { λ r. ⌜ Replies (now (pool .entry)) q before (now (out .entry)) at (now (pool .exit)) (now (out .exit)) (r .free) (r .filled) ⌝ }
+    requires room { ⌜ run .filled + 7124 ≤ length (now out) ⌝ }
+    requires counted { ⌜ run .before < mostRounds ⌝ }
+    requires within { ⌜ run .at + size ≤ run .end ⌝ }
+    ensures reply { λ r. ⌜ Replies (now (pool .entry)) q (run .before) (now (out .entry)) (run .filled) (now (pool .exit)) (now (out .exit)) (r .free) (r .filled) ⌝ }
+    ensures passed { λ r. ⌜ r ≡ passedBy run size (r .free) (r .filled) ⌝ }
 {
+    let free = run.free;
+    let before = run.before;
     let served = request::one_request(pool, work, 1, q, 0, 64, free);
     let left = served.free;
     let a = served.answer;
     let found = found_list(pool, work, served.listed);
-    let filled = frames::reply_lines(out, at, before, a, found);
-    Answered { free: left, filled }
+    let filled = frames::reply_lines(out, run.filled, before, a, found);
+    Run {
+        before: before + 1,
+        free: left,
+        at: run.at + size,
+        end: run.end,
+        filled,
+    }
+}
+
+// The line of a bad frame, after those that wait.
+fn bad_frame(out: &mut [u8], run: Run) -> Run
+    requires room { ⌜ run .filled + 31 ≤ length (now out) ⌝ }
+    requires counted { ⌜ run .before < mostRounds ⌝ }
+    ensures { λ r. ⌜ Wrote (now (out .entry)) (run .filled) (badLine (suc (run .before))) (now (out .exit)) (r .filled) × (r .filled ≤ length (now (out .entry))) ⌝ }
+{
+    let free = run.free;
+    let filled = frames::bad_line(out, run.filled, run.before);
+    Run {
+        before: run.before,
+        free,
+        at: run.at,
+        end: run.end,
+        filled,
+    }
 }
 
 // The frame that the bytes begin, if it is here.
@@ -137,35 +159,13 @@ fn turn(pool: &mut [i32], work: &mut [i32], input: &[u8], run: Run, out: &mut [u
 {
     let at = run.at;
     let end = run.end;
-    let free = run.free;
-    let filled = run.filled;
-    let before = run.before;
-    if out.len() - filled < ROOM {
+    if out.len() - run.filled < ROOM {
         return Then::Full(run);
     }
     match frames::read_frame(&input[at..end]) {
-        Framed::Asks { request, size } => {
-            let reply = answer(pool, work, request, free, before, out, filled);
-            let left = reply.free;
-            Then::Goes(Run {
-                before: before + 1,
-                free: left,
-                at: at + size,
-                end,
-                filled: reply.filled,
-            })
-        }
+        Framed::Asks { request, size } => Then::Goes(answer(pool, work, request, size, run, out)),
         Framed::Waits => Then::Waits(run),
-        Framed::Bad => {
-            let last = frames::bad_line(out, filled, before);
-            Then::Ends(Run {
-                before,
-                free,
-                at,
-                end,
-                filled: last,
-            })
-        }
+        Framed::Bad => Then::Ends(bad_frame(out, run)),
     }
 }
 

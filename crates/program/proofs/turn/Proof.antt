@@ -27,54 +27,41 @@ answer-requires c κs =
           start .pre .1 .1 .0,
           (
             asks-request (heldIn (start .args .input .now) (start .args .run)) (request .given .0 .0) (request .given .0 .1 .0) e,
-            (omega (arith, if1 .left, start .pre .0 .room), start .pre .1 .1 .1),
+            (
+              omega (arith, if1 .left, start .pre .0 .room),
+              (start .pre .1 .1 .1, asks-in (start .pre .0) (request .given .0 .0) (request .given .0 .1 .0) e),
+            ),
           ),
         ),
       ),
     )
 
-add-t30 : tie.Need-add-t30
-add-t30 c =
-    let start = c .before .before .before .before .before .before .before .before .before .before .before .before .before .before .before .before .before .before in
-    omega (arith, start .pre .1 .1 .1)
-
-add-t31 : tie.Need-add-t31
-add-t31 c =
-    let at-request = c .before .before .before .before .before .before .before .before .before .before in
-    let start = at-request .before .before .before .before .before .before .before .before in
-    let read-frame = at-request .before .before .read-frame in
-    let request = at-request .request in
-    let e = sym (read-frame .ensures) ∙ request .given .1 in
-    omega (arith, asks-in (start .pre .0) (request .given .0 .0) (request .given .0 .1 .0) e, start .pre .0 .high)
-
 returns-2 : tie.Need-returns-2
 returns-2 c =
-    let at-request = c .before .before .before .before .before .before .before .before .before .before in
+    let at-request = c .before .before .before .before .before .before .before .before .before in
     let start = at-request .before .before .before .before .before .before .before .before in
     let if1 = at-request .before .before .before .before .if1 in
     let read-frame = at-request .before .before .read-frame in
     let request = at-request .request in
-    let answer = c .before .before .before .before .before .answer in
+    let answer = c .before .before .before .before .answer in
     let e = sym (read-frame .ensures) ∙ request .given .1 in
-    onward-goes (start .pre .0) (request .given .0 .0) (request .given .0 .1 .0) e (omega (arith, if1 .left, start .pre .0 .room))
-    (answer .ensures)
+    onward-goes (start .pre .0) (request .given .0 .0) (request .given .0 .1 .0) (answer .result) e
+    (omega (arith, if1 .left, start .pre .0 .room)) (answer .ensures .0) (answer .ensures .1)
 
 returns-3 : tie.Need-returns-3
 returns-3 c =
     let start = c .before .before .before .before .before .before .before .before in
     let read-frame = c .before .before .read-frame in
-    let e = sym (read-frame .ensures) ∙ c .enum-told .given .1 in
-    onward-waits (start .pre .0) e
+    onward-waits (start .pre .0) (sym (read-frame .ensures) ∙ c .enum-told .given .1)
 
 returns-4 : tie.Need-returns-4
 returns-4 c =
     let start = c .before .before .before .before .before .before .before .before .before .before .before .before in
-    let if1 = c .before .before .before .before .before .before .before .before .if1 in
     let read-frame = c .before .before .before .before .before .before .read-frame in
     let enum-told2 = c .before .before .before .before .enum-told2 in
-    let bad-line = c .before .before .bad-line in
-    let e = sym (read-frame .ensures) ∙ enum-told2 .given .1 in
-    onward-ends (start .pre .0) _ e (omega (arith, if1 .left, bad-line .ensures .1, start .pre .0 .room)) (bad-line .ensures .0)
+    let bad-frame = c .before .before .bad-frame in
+    onward-ends (start .pre .0) (bad-frame .result) (sym (read-frame .ensures) ∙ enum-told2 .given .1) (bad-frame .ensures .1)
+    (bad-frame .ensures .0)
 
 pub turn-spec : {M : Type 1} → statement M
 turn-spec =
@@ -88,8 +75,6 @@ turn-spec =
     (λ c κs. search needs)
     (λ c. search needs)
     answer-requires
-    add-t30
-    add-t31
     (λ c. search needs)
     (λ c. search needs)
     (λ c κs. search needs)
