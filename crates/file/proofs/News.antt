@@ -12,7 +12,7 @@ use Rattle.rules.specs.declared.FoundRecord.{FoundRecord}
 use Rattle.rules.specs.Lists.{those}
 use Rattle.rules.specs.Owners.{ownedBy, asFound, ofOwner}
 use Rattle.rules.specs.Pool.{stored}
-use Rattle.rules.specs.Layout.{rectSize, read}
+use Rattle.rules.specs.Layout.{rectSize, editionOf, read}
 use Rattle.rules.specs.Search.{before}
 use Rattle.rules.specs.File.{distinct, carriedOf, recordFrame}
 use Rattle.rules_laws.proofs.Joins.{joined-more, joined-none, joined-append}
@@ -23,8 +23,9 @@ use Rattle.found_items.proofs.Words as I
 use Rattle.frames.specs.Writing.{Wrote}
 use Rattle.frames.proofs.Texts.{nothing-wrote, wrote-then, wrote-as, wrote-length}
 use Rattle.file_laws.proofs.Distinct.{distinct-none, distinct-new, distinct-next, distinct-ascending}
-use Rattle.file.specs.Items.{Listed, InOrder, isNew, newFrom}
+use Rattle.file.specs.Items.{Listed, InOrder, isNew, newFrom, firstOwner, secondCarried, CountsFile}
 use Rattle.file.specs.Filling.{ownFrames}
+use Rattle.file.proofs.Listing.{count-two}
 
 -- the frame of a record that is shown, of its owner
 abbrev frame : Edition → Owner → FoundRecord → List ℕ
@@ -149,9 +150,22 @@ module _ (pool items : List ℤ) where
         (joined-more (frame e o) (shownAt pool items k) [] ∙ ap (λ (l : List ℕ). frame e o (shownAt pool items k) ++ l) (joined-none (frame e o))
         ∙ append-nil (frame e o (shownAt pool items k)))
 
--- the owner by another name
-pub in-order-of : {pool items : List ℤ} {n : ℕ} {o v : Owner} → o ≡ v → InOrder pool o items n → InOrder pool v items n
-in-order-of {pool} {items} {n} q h = subst (λ (x : Owner). InOrder pool x items n) q h
+-- ---- the count of a file
+
+module _ (pool items : List ℤ) {o : Owner} (whose : o ≡ firstOwner (editionOf pool)) {n : ℕ} where
+  -- the first owner's items are listed, and the new ones and the others' records counted
+  pub counts-file : {new others : ℕ} → InOrder pool o items n → new ≡ length (newFrom pool items 0 n) → new ≤ n
+      → others ≡ length (secondCarried (editionOf pool) (read pool)) → others ≤ 32768 → CountsFile pool items n (new + others)
+  counts-file {new} {others} h a few b most =
+      record {
+        first = subst (λ (x : Owner). InOrder pool x items n) whose h;
+        is = count-two pool whose (new-carried pool items o n h) a b;
+        few = omega (arith, few, h .listed .few, most);
+      }
+
+  pub first-carried : {count : ℕ} → CountsFile pool items n count → newFrom pool items 0 n ≡ carriedOf (read pool) o
+  first-carried c =
+      new-carried pool items (firstOwner (editionOf pool)) n (c .first) ∙ ap (carriedOf (read pool)) (sym whose)
 
 -- so many of the n items are left, from item k on
 pub record Left (n k : ℕ) : Type 0 where

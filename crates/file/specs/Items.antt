@@ -13,9 +13,9 @@ use Rattle.rules.specs.declared.FoundRecord.{FoundRecord}
 use Rattle.rules.specs.Lists.{those}
 use Rattle.rules.specs.Owners.{owner, nobody, ownedBy, asFound, ofOwner}
 use Rattle.rules.specs.Pool.{Pool, stored}
-use Rattle.rules.specs.Layout.{read}
+use Rattle.rules.specs.Layout.{editionOf, read}
 use Rattle.rules.specs.Search.{before, ordered}
-use Rattle.rules.specs.File.{carriedOf}
+use Rattle.rules.specs.File.{carriedOf, recordsCarried}
 use Rattle.found_items.specs.Items.{shownAt, shownFrom, Pointing}
 
 -- two words for each item, and as many again, for 8 records in each of 4,096 slots
@@ -51,3 +51,9 @@ firstOwner Two = owner (pos 1)
 unfoldable pub secondCarried : Edition → Pool → List Record
 secondCarried One p = []
 secondCarried Two p = map (ofOwner (owner (pos 2))) (carriedOf p (owner (pos 2)))
+
+-- the records of a pool's file are counted, and the items there are the first owner's
+pub record CountsFile (pool items : List ℤ) (n count : ℕ) : Type 0 where
+  pub first : InOrder pool (firstOwner (editionOf pool)) items n
+  pub is : count ≡ length (recordsCarried (read pool))
+  pub few : count ≤ 65536

@@ -19,7 +19,7 @@ ghost use Rattle.free_slots.specs.Known.{Known};
 ghost use Rattle.sound_laws.specs.Tree.{Whole};
 ghost use Rattle.search_laws.specs.Window.{wholeSite};
 ghost use Rattle.frames.specs.Writing.{Wrote};
-ghost use Rattle.file.specs.Items.{Listed, InOrder, isNew, newFrom, itemWords, firstOwner, secondCarried};
+ghost use Rattle.file.specs.Items.{Listed, InOrder, isNew, newFrom, itemWords, firstOwner, secondCarried, CountsFile};
 ghost use Rattle.promises.specs.Files.{Writes, Reads};
 ghost use Rattle.file.specs.Filling.{ownerBytes, ownFrames, Fills};
 ghost use Rattle.file.specs.Loading.{isDue, recordBytes, placeOf, pairFrom, recordAt, lastAt, faultAt, Took, tookAt, Loads, endFault};
@@ -51,8 +51,7 @@ const OWNED_BYTES: usize = 28;
 // "kind 18 last with no words"
 const END_BYTES: usize = 4;
 
-// Two words for the item of every record that a pool has room for, and as many again as scratch for the order. The writer is lent no
-// workspace, so they are its own.
+// Two words for the item of every record that a pool has room for, and as many again as scratch for the order.
 const ITEM_WORDS: usize = 4 * MOST * MOST_SLOTS;
 
 // ---- what an edition has of its own
@@ -318,8 +317,7 @@ fn put_second(pool: &[i32], items: &mut [i32], file: &mut [u8], at: usize) -> us
 fn put_file(pool: &[i32], items: &mut [i32], n: usize, count: usize, file: &mut [u8])
     requires { ⌜ L.validLength (now pool) ≡ true ⌝ }
     requires { ⌜ Whole (L.read (now pool)) ⌝ }
-    requires { ⌜ InOrder (now pool) (firstOwner (L.editionOf (now pool))) (now items) n ⌝ }
-    requires { ⌜ (count ≡ length (F.recordsCarried (L.read (now pool)))) × (count ≤ 65536) ⌝ }
+    requires { ⌜ CountsFile (now pool) (now items) n count ⌝ }
     requires { ⌜ length (F.poolFile (L.read (now pool))) ≤ length (now file) ⌝ }
     ensures { λ _. ⌜ now (file .exit) ≡ sets (now (file .entry)) 0 (F.poolFile (L.read (now (pool .entry)))) ⌝ }
 {
@@ -333,26 +331,53 @@ fn put_file(pool: &[i32], items: &mut [i32], n: usize, count: usize, file: &mut 
 
 // ---- the writer
 
-// "8 if its buffer is short": how many bytes there will be is known before the first is written. The first owner's records are counted last,
-// so that they are the items there when writing begins.
-fn fill(pool: &[i32], file: &mut [u8], size: &mut u64) -> i32
+// What is known before the first byte is written: n items of the first owner, and how many records the file has in all.
+pub struct FileCount {
+    pub n: usize,
+    pub count: usize,
+}
+
+// Counts the records before the first is written. The first owner's are listed last, so that they are the items there when writing begins.
+fn count_file(pool: &[i32], items: &mut [i32]) -> FileCount
+    requires { ⌜ L.validLength (now pool) ≡ true ⌝ }
+    requires { ⌜ Whole (L.read (now pool)) ⌝ }
+    requires { ⌜ length (now items) ≡ itemWords ⌝ }
+    ensures { λ c. ⌜ CountsFile (now (pool .entry)) (now (items .exit)) (c .n) (c .count) ⌝ }
+{
+    let others = count_second(pool, items);
+    let owner = first_owner(pool::edition_of(pool));
+    let n = list_all(pool, owner, items);
+    let count = count_new(pool, items, n) + others;
+    FileCount { n, count }
+}
+
+// "8 if its buffer is short": how many bytes there will be is known before the first is written.
+fn fill(pool: &[i32], items: &mut [i32], file: &mut [u8], size: &mut u64) -> i32
+    requires { ⌜ L.validLength (now pool) ≡ true ⌝ }
+    requires { ⌜ Whole (L.read (now pool)) ⌝ }
+    requires { ⌜ length (now items) ≡ itemWords ⌝ }
+    ensures { λ r. ⌜ Fills (now (pool .entry)) (now (file .entry)) r (now (file .exit)) (now (size .exit)) ⌝ }
+{
+    let c = count_file(pool, items);
+    let count = c.count;
+    let bytes = place_of(pool::edition_of(pool), count) + END_BYTES;
+    if file.len() < bytes {
+        *size = 0;
+        return 8;
+    }
+    put_file(pool, items, c.n, count, file);
+    *size = bytes as u64;
+    0
+}
+
+// Of a sound pool only 8 is left to refuse. The writer is lent no workspace, so the words of the items are its own.
+fn write_sound(pool: &[i32], file: &mut [u8], size: &mut u64) -> i32
     requires { ⌜ L.validLength (now pool) ≡ true ⌝ }
     requires { ⌜ Whole (L.read (now pool)) ⌝ }
     ensures { λ r. ⌜ Fills (now (pool .entry)) (now (file .entry)) r (now (file .exit)) (now (size .exit)) ⌝ }
 {
     let mut items = [0i32; ITEM_WORDS];
-    let edition = pool::edition_of(pool);
-    let others = count_second(pool, &mut items[..]);
-    let n = list_all(pool, first_owner(edition), &mut items[..]);
-    let count = count_new(pool, &items[..], n) + others;
-    let bytes = place_of(edition, count) + END_BYTES;
-    if file.len() < bytes {
-        *size = 0;
-        return 8;
-    }
-    put_file(pool, &mut items[..], n, count, file);
-    *size = bytes as u64;
-    0
+    fill(pool, &mut items[..], file, size)
 }
 
 // Writes the file of a pool to the front of a buffer, and how many bytes that are; or refuses, and the buffer stays.
@@ -366,7 +391,7 @@ pub fn write(pool: &[i32], file: &mut [u8], size: &mut u64) -> i32
     if !sound::sound(pool) {
         return 2;
     }
-    fill(pool, file, size)
+    write_sound(pool, file, size)
 }
 
 // ---- frames read

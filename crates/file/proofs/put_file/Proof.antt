@@ -1,12 +1,10 @@
-use mathlib.Core.Path.{sym, ap, _∙_}
+use mathlib.Core.Path.{ap, _∙_}
 use native.Mathlib.Omega.{arith}
-use Rattle.rules.specs.Layout.{editionOf, read}
-use Rattle.rules.specs.File.{carriedOf}
 use Rattle.pool.proofs.Lengths.{some-word}
 use Rattle.frames.proofs.Texts.{wrote-then, wrote-as, wrote-length}
 use Rattle.file.specs.Items.{firstOwner}
 use Rattle.file.proofs.Sizes.{head-next}
-use Rattle.file.proofs.News.{new-carried}
+use Rattle.file.proofs.News.{first-carried}
 use Rattle.file.proofs.Frames.{file-text, file-parts}
 use borrow.Author.Needs.{needs}
 use Rattle.file.proofs.put_file.Statement.{statement}
@@ -22,14 +20,12 @@ put-head-requires c κs =
     let first-owner = c .before .first-owner in (
       omega (
         arith,
-        start .pre .1 .1 .1 .1,
+        start .pre .1 .1 .1,
         file-parts (start .args .pool .now) (edition-of .ensures) (first-owner .ensures ∙ ap firstOwner (edition-of .ensures))
-            (new-carried (start .args .pool .now) (start .args .items .now) (firstOwner (editionOf (start .args .pool .now))) (start .args .n)
-            (start .pre .1 .1 .0)
-            ∙ ap (carriedOf (read (start .args .pool .now))) (sym (first-owner .ensures ∙ ap firstOwner (edition-of .ensures))))
-            (start .pre .1 .1 .1 .0 .0),
+            (first-carried (start .args .pool .now) (start .args .items .now) (first-owner .ensures ∙ ap firstOwner (edition-of .ensures))
+            (start .pre .1 .1 .0)) (start .pre .1 .1 .0 .is),
       ),
-      omega (arith, start .pre .1 .1 .1 .0 .1, start .pre .1 .1 .0 .listed .few),
+      omega (arith, start .pre .1 .1 .0 .few),
     )
 
 put-records-requires : tie.Need-put-records-requires
@@ -38,15 +34,13 @@ put-records-requires c κs =
     let edition-of = c .before .before .before .before .before .before .before .edition-of in
     let first-owner = c .before .before .before .before .before .before .first-owner in
     let put-head = c .before .before .before .before .put-head in (
-      start .pre .1 .1 .0 .listed,
+      start .pre .1 .1 .0 .first .listed,
       omega (
         arith,
-        start .pre .1 .1 .1 .1,
+        start .pre .1 .1 .1,
         file-parts (start .args .pool .now) (edition-of .ensures) (first-owner .ensures ∙ ap firstOwner (edition-of .ensures))
-            (new-carried (start .args .pool .now) (start .args .items .now) (firstOwner (editionOf (start .args .pool .now))) (start .args .n)
-            (start .pre .1 .1 .0)
-            ∙ ap (carriedOf (read (start .args .pool .now))) (sym (first-owner .ensures ∙ ap firstOwner (edition-of .ensures))))
-            (start .pre .1 .1 .1 .0 .0),
+            (first-carried (start .args .pool .now) (start .args .items .now) (first-owner .ensures ∙ ap firstOwner (edition-of .ensures))
+            (start .pre .1 .1 .0)) (start .pre .1 .1 .0 .is),
         head-next _ _ (put-head .ensures),
         put-head .kept .0,
       ),
@@ -64,15 +58,13 @@ put-second-requires c κs =
       (
         start .pre .1 .0,
         (
-          start .pre .1 .1 .0 .listed .long,
+          start .pre .1 .1 .0 .first .listed .long,
           omega (
             arith,
-            start .pre .1 .1 .1 .1,
+            start .pre .1 .1 .1,
             file-parts (start .args .pool .now) (edition-of .ensures) (first-owner .ensures ∙ ap firstOwner (edition-of .ensures))
-                (new-carried (start .args .pool .now) (start .args .items .now) (firstOwner (editionOf (start .args .pool .now)))
-                (start .args .n) (start .pre .1 .1 .0)
-                ∙ ap (carriedOf (read (start .args .pool .now))) (sym (first-owner .ensures ∙ ap firstOwner (edition-of .ensures))))
-                (start .pre .1 .1 .1 .0 .0),
+                (first-carried (start .args .pool .now) (start .args .items .now) (first-owner .ensures ∙ ap firstOwner (edition-of .ensures))
+                (start .pre .1 .1 .0)) (start .pre .1 .1 .0 .is),
             head-next _ _ (put-head .ensures),
             put-head .kept .0,
             put-records .ensures .place,
@@ -93,12 +85,10 @@ put-start-requires c κs =
     let put-second = c .before .before .before .before .put-second in (
       omega (
         arith,
-        start .pre .1 .1 .1 .1,
+        start .pre .1 .1 .1,
         file-parts (start .args .pool .now) (edition-of .ensures) (first-owner .ensures ∙ ap firstOwner (edition-of .ensures))
-            (new-carried (start .args .pool .now) (start .args .items .now) (firstOwner (editionOf (start .args .pool .now))) (start .args .n)
-            (start .pre .1 .1 .0)
-            ∙ ap (carriedOf (read (start .args .pool .now))) (sym (first-owner .ensures ∙ ap firstOwner (edition-of .ensures))))
-            (start .pre .1 .1 .1 .0 .0),
+            (first-carried (start .args .pool .now) (start .args .items .now) (first-owner .ensures ∙ ap firstOwner (edition-of .ensures))
+            (start .pre .1 .1 .0)) (start .pre .1 .1 .0 .is),
         head-next _ _ (put-head .ensures),
         put-head .kept .0,
         put-records .ensures .place,
@@ -120,10 +110,8 @@ returns c =
     let put-second = c .before .before .before .before .before .before .before .put-second in
     let put-start = c .before .before .put-start in
     wrote-as (file-text (start .args .pool .now) (edition-of .ensures) (first-owner .ensures ∙ ap firstOwner (edition-of .ensures))
-    (new-carried (start .args .pool .now) (start .args .items .now) (firstOwner (editionOf (start .args .pool .now))) (start .args .n)
-    (start .pre .1 .1 .0)
-    ∙ ap (carriedOf (read (start .args .pool .now))) (sym (first-owner .ensures ∙ ap firstOwner (edition-of .ensures))))
-    (start .pre .1 .1 .1 .0 .0))
+    (first-carried (start .args .pool .now) (start .args .items .now) (first-owner .ensures ∙ ap firstOwner (edition-of .ensures))
+    (start .pre .1 .1 .0)) (start .pre .1 .1 .0 .is))
     (wrote-then (wrote-then (wrote-then (put-head .ensures) (put-records .ensures)) (put-second .ensures)) (put-start .ensures)) .bytes
 
 pub put-file-spec : {M : Type 1} → statement M

@@ -25,8 +25,8 @@ returns-2 c =
     writes-2 (start .args .pool .now) (start .args .file .now) (sym (valid-length .ensures) ∙ not-false _ (if1 .left))
     (sym (c .before .sound .ensures) ∙ not-true _ (c .if2 .taken))
 
-fill-requires : tie.Need-fill-requires
-fill-requires c κs =
+write-sound-requires : tie.Need-write-sound-requires
+write-sound-requires c κs =
     let start = c .before .before .before .before .before .before .before in
     let valid-length = c .before .before .before .before .before .valid-length in
     let if1 = c .before .before .before .before .if1 in
@@ -43,11 +43,11 @@ returns-3 c =
     let if1 = c .before .before .before .before .before .before .before .if1 in
     let sound = c .before .before .before .before .before .before .sound in
     let if2 = c .before .before .before .before .before .if2 in
-    let fill = c .before .before .fill in
-    subst (λ (n : ℤ). Writes (start .args .pool .now) (start .args .file .now) n (fill .last .1 .0) (fill .last .1 .1 .0))
-    (sym (word-kept (fill .ok)))
+    let write-sound = c .before .before .write-sound in
+    subst (λ (n : ℤ). Writes (start .args .pool .now) (start .args .file .now) n (write-sound .last .1 .0) (write-sound .last .1 .1 .0))
+    (sym (word-kept (write-sound .ok)))
     (writes-filled (start .args .pool .now) (start .args .file .now) (sym (valid-length .ensures) ∙ not-false _ (if1 .left))
-    (sym (sound .ensures) ∙ not-false _ (if2 .left)) (fill .ensures))
+    (sym (sound .ensures) ∙ not-false _ (if2 .left)) (write-sound .ensures))
 
 pub write-spec : {M : Type 1} → statement M
 write-spec =
@@ -57,6 +57,6 @@ write-spec =
     returns
     sound-requires
     returns-2
-    fill-requires
+    write-sound-requires
     (λ c. search needs)
     returns-3)
