@@ -1,3 +1,6 @@
+use mathlib.Core.Path.{ap, ap₂, _∙_}
+use mathlib.Core.Bool.{_&&_}
+use Rattle.rules.specs.Numbers.{inRange}
 use Rattle.geometry.proofs.Rects.{rect-back}
 use Rattle.survey_laws.specs.Sizes.{allInRange}
 use borrow.Author.Needs.{needs}
@@ -15,19 +18,10 @@ returns c =
     let in-range3 = c .before .before .before .before .in-range3 in
     let and2 = c .before .before .before .and2 in
     let a = rect-back (args .r) (struct-told .given) in
-    cc (
-      c .and3 .ensures,
-      and2 .ensures,
-      and .ensures,
-      in-range .ensures,
-      in-range2 .ensures,
-      in-range3 .ensures,
-      c .before .in-range4 .ensures,
-      a .lowX,
-      a .lowY,
-      a .highX,
-      a .highY,
-    )
+    let low = and .ensures ∙ ap₂ _&&_ (in-range .ensures ∙ ap inRange (a .lowX)) (in-range2 .ensures ∙ ap inRange (a .lowY)) in
+    c .and3 .ensures
+    ∙ ap₂ _&&_ (and2 .ensures ∙ ap₂ _&&_ low (in-range3 .ensures ∙ ap inRange (a .highX)))
+    (c .before .in-range4 .ensures ∙ ap inRange (a .highY))
 
 pub all-in-range-spec : {M : Type 1} → statement M
 all-in-range-spec =

@@ -1,3 +1,4 @@
+use mathlib.Core.Path.{_∙_}
 use mir.Facts.{toZ-ofZ}
 use mir.Syntax.{w32}
 use borrow.Author.Needs.{sfits-of}
@@ -12,16 +13,12 @@ returns c =
     let floor = c .before .before .before .floor in
     let floor2 = c .before .before .floor2 in
     let ceiling = c .before .ceiling in
-    cc (
-      toZ-ofZ {w = w32} {z = floor .result} (sfits-of (floor .ok)),
-      toZ-ofZ {w = w32} {z = floor2 .result} (sfits-of (floor2 .ok)),
-      toZ-ofZ {w = w32} {z = ceiling .result} (sfits-of (ceiling .ok)),
-      toZ-ofZ {w = w32} {z = c .ceiling2 .result} (sfits-of (c .ceiling2 .ok)),
-      floor .ensures,
-      floor2 .ensures,
-      ceiling .ensures,
-      c .ceiling2 .ensures,
-    )
+    λ i. record {
+      lowX = (toZ-ofZ {w = w32} (sfits-of (floor .ok)) ∙ floor .ensures) i;
+      lowY = (toZ-ofZ {w = w32} (sfits-of (floor2 .ok)) ∙ floor2 .ensures) i;
+      highX = (toZ-ofZ {w = w32} (sfits-of (ceiling .ok)) ∙ ceiling .ensures) i;
+      highY = (toZ-ofZ {w = w32} (sfits-of (c .ceiling2 .ok)) ∙ c .ceiling2 .ensures) i;
+    }
 
 pub outward-spec : {M : Type 1} → statement M
 outward-spec =
