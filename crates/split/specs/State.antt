@@ -129,6 +129,15 @@ pub record ExtentOk (rs : List Rect) (x : Extent) (group : List ℕ) : Type 0 wh
 unfoldable pub groupsOf : Extents → List ℕ → List ℕ → List ℕ → ℕ → S.Groups
 groupsOf t one two left n = record { one = take (t .one .count) one; two = take (t .two .count) two; left = take n left }
 
+-- the groups are the seeds, and the other seven places are left
+pub record Opened (rs : List Rect) (t : Extents) (left one two : List ℕ) : Type 0 where
+  pub oneSeed : t .one .count ≡ 1
+  pub twoSeed : t .two .count ≡ 1
+  pub places : Left left 7
+  pub first : ExtentOk rs (t .one) one
+  pub second : ExtentOk rs (t .two) two
+  pub is : groupsOf t one two left 7 ≡ S.opening 9 (S.pickSeeds rs)
+
 -- all nine are in a group or left, each group can still reach three, and what is measured is right
 pub record Assigned (rs : List Rect) (t : Extents) (left : List ℕ) (n : ℕ) (one two growOne growTwo : List ℕ) : Type 0 where
   pub all : t .one .count + t .two .count + n ≡ 9
@@ -153,6 +162,9 @@ pub record Next (rs : List Rect) (t : Extents) (left : List ℕ) (n : ℕ) (r : 
 -- what the groups are when all have joined
 unfoldable pub ends : List Rect → ℕ → S.Groups → S.Groups
 ends rs n g = S.distribute (S.pickNext rs) (S.joinsTwo rs) n g
+
+abbrev pub groupingOf : Extents → List ℕ → List ℕ → Grouping
+groupingOf t one two = record { one = one; ones = t .one .count; two = two; twos = t .two .count; coverTwo = t .two .cover }
 
 -- what a caller may rely on beside the groups: every place has joined one, there are 3 to 6 in each, all of them places of the nine,
 -- zeros after them, and the cover of group 2

@@ -1,6 +1,6 @@
 // Guttman's quadratic split of nine rectangles into two groups, with the ties of document 01 and the half perimeters of Req 05. It knows nothing
 // of pools: a place is a position among the nine, from 0. What is measured is kept: after a place has joined a group, only that group's
-// enlargements are measured again. The arrays stand in `split_nine` alone and are lent; no function copies one.
+// enlargements are measured again. The arrays stand in `split_nine` and `join_all` and are lent; no function copies one.
 ghost use mathlib.Core.Path.{_≡_};
 ghost use mathlib.Core.Bool.{true, cond};
 ghost use Prim.Native.Nat.{_+_, _-_, _<_, _≤_};
@@ -11,7 +11,7 @@ ghost use Rattle.rules.specs.Choose.{rectFrom};
 ghost use Rattle.rules.specs.Lists.{upFrom};
 ghost use Rattle.rules.specs.Geometry as G;
 ghost use Rattle.rules.specs.Split as S;
-ghost use Rattle.split.specs.State.{AllValid, rectsIn, putRect, Corners, Areas, Keyed, seedsOf, row, ClosedUp, Left, Grows, Sized, keyOf, Preferring, prefers, Looking, ExtentOk, groupsOf, Assigned, Next, ends, GroupsWhole};
+ghost use Rattle.split.specs.State.{AllValid, rectsIn, putRect, Corners, Areas, Keyed, seedsOf, row, ClosedUp, Left, Grows, Sized, keyOf, Preferring, prefers, Looking, ExtentOk, groupsOf, Opened, Assigned, Next, ends, groupingOf, GroupsWhole};
 use geometry::key_by;
 use geometry::place_by;
 use rules::LEAST;
@@ -646,6 +646,33 @@ pub struct Grouping {
     pub coverTwo: Rect,
 }
 
+// The places that are no seeds join the groups, one after another.
+fn join_all(
+    w: &[i32; CORNERS],
+    seeded: Extents,
+    left: &mut [usize; NINE],
+    one: &mut [usize; NINE],
+    two: &mut [usize; NINE],
+) -> Extents
+    requires { ⌜ Corners (now w) ⌝ }
+    requires { ⌜ Opened (rectsIn (now w)) seeded (now left) (now one) (now two) ⌝ }
+    ensures one { λ r. ⌜ take (r .one .count) (now (one .exit)) ≡ S.quadraticGroups (rectsIn (now (w .entry))) .one ⌝ }
+    ensures two { λ r. ⌜ take (r .two .count) (now (two .exit)) ≡ S.quadraticGroups (rectsIn (now (w .entry))) .two ⌝ }
+    ensures whole { λ r. ⌜ GroupsWhole (rectsIn (now (w .entry))) (groupingOf r (now (one .exit)) (now (two .exit))) ⌝ }
+{
+    let mut growOne = [0u64; NINE];
+    let mut growTwo = [0u64; NINE];
+    measure(w, left, UNSEEDED, seeded.one, &mut growOne);
+    measure(w, left, UNSEEDED, seeded.two, &mut growTwo);
+    let mut t = seeded;
+    let mut n = UNSEEDED;
+    while 0 < n {
+        t = assign(w, t, left, n, one, two, &mut growOne, &mut growTwo);
+        n -= 1;
+    }
+    t
+}
+
 // Nine rectangles in two groups, by Guttman's quadratic split. The earlier seed opens group 1.
 pub fn split_nine(nine: [Rect; NINE]) -> Grouping
     requires { ⌜ AllValid nine ⌝ }
@@ -657,7 +684,7 @@ pub fn split_nine(nine: [Rect; NINE]) -> Grouping
     let p = pick_seeds(&w);
     let i = p.first;
     let j = p.second;
-    let mut t = Extents {
+    let seeded = Extents {
         one: alone(&w, i),
         two: alone(&w, j),
     };
@@ -666,24 +693,7 @@ pub fn split_nine(nine: [Rect; NINE]) -> Grouping
     one[0] = i;
     let mut two = [0usize; NINE];
     two[0] = j;
-    let mut growOne = [0u64; NINE];
-    let mut growTwo = [0u64; NINE];
-    measure(&w, &left, UNSEEDED, t.one, &mut growOne);
-    measure(&w, &left, UNSEEDED, t.two, &mut growTwo);
-    let mut n = UNSEEDED;
-    while 0 < n {
-        t = assign(
-            &w,
-            t,
-            &mut left,
-            n,
-            &mut one,
-            &mut two,
-            &mut growOne,
-            &mut growTwo,
-        );
-        n -= 1;
-    }
+    let t = join_all(&w, seeded, &mut left, &mut one, &mut two);
     let second = t.two;
     let coverTwo = second.cover;
     Grouping {
