@@ -38,7 +38,7 @@ use Rattle.free_slots.specs.declared.FreeSlots.{FreeSlots}
 use Rattle.found_items.specs.Items.{eachFrom, itemsFrom, shownFrom, Pointing}
 use Rattle.found_items.proofs.Words.{shown-items}
 use Rattle.request.specs.declared.Served.{Served}
-use Rattle.request.specs.Serving.{Ready, Serves, Changes, replied}
+use Rattle.request.specs.Serving.{Ready, Serves, Changes, ChangesTo, replied}
 use Rattle.in_force_laws.specs.Force.{askedBy}
 use Rattle.in_force_laws.proofs.Asks.{asked-owner}
 use Rattle.in_force_laws.proofs.Owned.{owner-in-sound}
@@ -60,6 +60,14 @@ quiet n t s v u e h = record {
   same = h .same;
   work = e;
 }
+
+-- what is asked is a search, or a change, and that is done
+module _ (w : List ℤ) (filled room : ℕ) {a b : Asked} (is : a ≡ b) {s : Served} {v u : List ℤ} where
+  pub serves-as : Serves (length w) (request ours (read w) filled room b) s v u → Serves (length w) (request ours (read w) filled room a) s v u
+  serves-as h = rw is h
+
+  pub changes-as : length u ≡ length w → ChangesTo w b s v → Serves (length w) (request ours (read w) filled room a) s v u
+  changes-as e h = serves-as (quiet (length w) _ s v u e (h filled room))
 
 -- a slot has more words than the items of its records need
 pub size-least : (e : Edition) (n : ℕ) → 42 * n ≤ slotSize e * n

@@ -26,6 +26,7 @@ ghost use Rattle.delete_laws.specs.Way.{thinLevels};
 ghost use Rattle.find_leaf.specs.Ways.{Gives, pathOf};
 ghost use Rattle.delete.specs.Aside.{ComesDown};
 ghost use Rattle.delete.specs.Removed.{Removes};
+ghost use Rattle.in_force_laws.specs.Force.{askedBy};
 ghost use Rattle.request.specs.Serving.{Ready, Serves, ChangesTo, ServesTo, replied, came, TakenBack, roomFrom, otherHeld, modeOf};
 use find_leaf::Way;
 use free_slots::FreeSlots;
@@ -310,7 +311,31 @@ fn other_held(pool: &[i32], old: Record, new: Rect) -> bool
     find_leaf::holds(pool, moved(old, new))
 }
 
-// 3, 4, 5 and 6, and then the old pair goes out and the new one goes in.
+// The old pair, at the end of the way, goes out and the new one goes in. What is refused halfway is taken back.
+fn update_held(
+    pool: &mut [i32],
+    work: &mut [i32],
+    old: Record,
+    new: Rect,
+    way: Way,
+    free: FreeSlots,
+) -> Served
+    requires { ⌜ Ready (now pool) free ⌝ }
+    requires { ⌜ length (now work) ≡ length (now pool) ⌝ }
+    requires { ⌜ (G.valid (old .rect) ≡ true) × (G.valid new ≡ true) × (N.goodNumber (old .number) ≡ true) ⌝ }
+    requires { ⌜ way .found ≡ true ⌝ }
+    requires { ⌜ Gives (D.pathTo (L.read (now pool)) old) (L.read (now pool) .height) way ⌝ }
+    requires { ⌜ otherHeld (L.read (now pool)) old new ≡ false ⌝ }
+    ensures is { λ s. ⌜ ChangesTo (now (pool .entry)) (K.Update old new) s (now (pool .exit)) ⌝ }
+    ensures long { λ _. ⌜ length (now (work .exit)) ≡ length (now (work .entry)) ⌝ }
+{
+    keep(pool, work, scarce(pool, way, free, 1));
+    let o = replace(pool, old, new, way, free);
+    take_back(pool, work, o);
+    came_to(o, free)
+}
+
+// 3, 4, 5 and 6, and then the update is done.
 fn update(pool: &mut [i32], work: &mut [i32], old: Record, new: Rect, free: FreeSlots) -> Served
     requires { ⌜ Ready (now pool) free ⌝ }
     requires { ⌜ length (now work) ≡ length (now pool) ⌝ }
@@ -335,10 +360,7 @@ fn update(pool: &mut [i32], work: &mut [i32], old: Record, new: Rect, free: Free
     if other_held(pool, old, new) {
         return told(Reply::Held, free);
     }
-    keep(pool, work, scarce(pool, way, free, 1));
-    let o = replace(pool, old, new, way, free);
-    take_back(pool, work, o);
-    came_to(o, free)
+    update_held(pool, work, old, new, way, free)
 }
 
 // ---- searches
@@ -407,6 +429,31 @@ fn batch_owner(pool: &[i32], owner: i32) -> Owner
     }
 }
 
+// What is asked is done, by its kind.
+fn serve_asked(
+    pool: &mut [i32],
+    work: &mut [i32],
+    a: Asked,
+    filled: usize,
+    room: usize,
+    free: FreeSlots,
+) -> Served
+    requires { ⌜ Ready (now pool) free ⌝ }
+    requires { ⌜ length (now work) ≡ length (now pool) ⌝ }
+    requires { ⌜ ownerSound (L.read (now pool) .edition) (askedBy a) ≡ true ⌝ }
+    requires { ⌜ filled ≤ 33554432 ⌝ }
+    ensures { λ s. ⌜ Serves (length (now (pool .entry))) (R.request I.ours (L.read (now (pool .entry))) filled room a) s (now (pool .exit)) (now (work .exit)) ⌝ }
+{
+    match a {
+        Asked::Insert(r) => insert(pool, r, free),
+        Asked::Delete(r) => delete(pool, work, r, free),
+        Asked::Update(old, new) => update(pool, work, old, new, free),
+        Asked::Search(whose, mode, window) => {
+            search(pool, work, whose, mode, window, filled, room, free)
+        }
+    }
+}
+
 // A request of an owner's batch is done in a sound pool, with `filled` places of the found list filled and `room` left. The workspace is scratch; what a search
 // lists is left there as items, in found order.
 pub fn one_request(
@@ -426,12 +473,6 @@ pub fn one_request(
     ensures { λ r. ⌜ ServesTo (now (pool .entry)) (O.ownerIn (L.editionOf (now (pool .entry))) (O.owner owner)) q filled room r (now (pool .exit)) (now (work .exit)) ⌝ }
 {
     let who = batch_owner(pool, owner);
-    match asked(who, q) {
-        Asked::Insert(r) => insert(pool, r, free),
-        Asked::Delete(r) => delete(pool, work, r, free),
-        Asked::Update(old, new) => update(pool, work, old, new, free),
-        Asked::Search(whose, mode, window) => {
-            search(pool, work, whose, mode, window, filled, room, free)
-        }
-    }
+    let a = asked(who, q);
+    serve_asked(pool, work, a, filled, room, free)
 }

@@ -1,11 +1,9 @@
 use mathlib.Core.Path.{refl, sym, _∙_}
-use native.Mathlib.Omega.{arith}
 use Rattle.rules_laws.proofs.Bools.{not-true, not-false}
 use Rattle.rules.specs.declared.Asked.the-variants.{Update}
 use Rattle.rules.specs.declared.Reply.the-variants.{BadRectangle, BadNumber, NotHeld, Held}
 use Rattle.find_leaf.proofs.Held.{shows-held}
-use Rattle.delete.proofs.Deleted.{whole-way}
-use Rattle.request.proofs.Turns.{ready-fit, ready-whole, ready-owners, ready-owner, row-applies, to-delete, update-changes}
+use Rattle.request.proofs.Turns.{ready-whole, row-applies}
 use Rattle.request.proofs.Rows.{update-old, update-new, update-4, update-5, update-6}
 use borrow.Author.Needs.{needs}
 use Rattle.request.proofs.update.Statement.{statement}
@@ -106,98 +104,32 @@ returns-5 c =
       refl,
     )
 
-scarce-requires : tie.Need-scarce-requires
-scarce-requires c κs =
-    let at-find-leaf = c .before .before .before .before .before .before .before in
-    let start = at-find-leaf .before .before .before .before .before .before .before .before .before .before in
-    let find-leaf = at-find-leaf .find-leaf in
-    let if4 = c .before .before .before .before .before .if4 in (
-      ready-fit (start .args .pool .now) (start .args .free) (start .pre .0),
+update-held-requires : tie.Need-update-held-requires
+update-held-requires c κs =
+    let at-if3 = c .before .before .before .before .before .before .before .before .before in
+    let start = at-if3 .before .before .before .before .before .before .before .before in
+    let valid = at-if3 .before .before .before .before .before .valid in
+    let if1 = at-if3 .before .before .before .before .if1 in
+    let valid2 = at-if3 .before .before .before .valid2 in
+    let if2 = at-if3 .before .before .if2 in
+    let good-number = at-if3 .before .good-number in
+    let if3 = at-if3 .if3 in
+    let find-leaf = c .before .before .before .before .before .before .before .find-leaf in
+    let if4 = c .before .before .before .before .before .if4 in
+    let other-held = c .before .before .before .other-held in
+    let if5 = c .before .before .if5 in (
+      start .pre .0,
       (
-        whole-way (to-delete (start .args .pool .now) (start .args .free) (start .pre .0) (start .args .old) (find-leaf .result)
-            (not-false _ (if4 .left)) (find-leaf .ensures)),
-        omega arith,
-      ),
-    )
-
-keep-requires : tie.Need-keep-requires
-keep-requires c κs =
-    let start = c .before .before .before .before .before .before .before .before .before .before .before .before .before .before .before .before .before .before in
-    sym (start .pre .1)
-
-replace-requires : tie.Need-replace-requires
-replace-requires c κs =
-    let at-if4 = c .before .before .before .before .before .before .before .before .before in
-    let start = at-if4 .before .before .before .before .before .before .before .before .before .before .before .before in
-    let valid2 = at-if4 .before .before .before .before .before .before .before .valid2 in
-    let if2 = at-if4 .before .before .before .before .before .before .if2 in
-    let good-number = at-if4 .before .before .before .before .before .good-number in
-    let if3 = at-if4 .before .before .before .before .if3 in
-    let find-leaf = at-if4 .before .before .find-leaf in
-    let if4 = at-if4 .if4 in (
-      ready-fit (start .args .pool .now) (start .args .free) (start .pre .0),
-      (
+        start .pre .1,
         (
-          ready-whole (start .args .pool .now) (start .args .free) (start .pre .0),
-          ready-owners (start .args .pool .now) (start .args .free) (start .pre .0),
-        ),
-        (
-          (start .pre .0) .known,
           (
-            not-false _ (if4 .left),
-            (
-              find-leaf .ensures,
-              (
-                sym (valid2 .ensures) ∙ not-false _ (if2 .left),
-                sym (good-number .ensures) ∙ not-false _ (if3 .left),
-                ready-owner (start .args .pool .now) (start .args .free) (start .pre .0) (start .args .old)
-                    (sym (shows-held _ (start .args .old) (find-leaf .result) (ready-whole (start .args .pool .now) (start .args .free) (start .pre .0))
-                    (find-leaf .ensures))
-                    ∙ not-false _ (if4 .left)),
-              ),
-            ),
+            sym (valid .ensures) ∙ not-false _ (if1 .left),
+            sym (valid2 .ensures) ∙ not-false _ (if2 .left),
+            sym (good-number .ensures) ∙ not-false _ (if3 .left),
           ),
+          (not-false _ (if4 .left), (find-leaf .ensures, sym (other-held .ensures) ∙ if5 .left)),
         ),
       ),
-    )
-
-take-back-requires : tie.Need-take-back-requires
-take-back-requires c κs =
-    let at-keep = c .before .before .before .before .before .before in
-    let start = at-keep .before .before .before .before .before .before .before .before .before .before .before .before .before .before .before .before .before .before .before in
-    let keep = at-keep .keep in
-    let replace = c .before .before .before .replace in
-    keep .ensures .0 ∙ start .pre .1 ∙ sym (replace .kept .0)
-
-returns-6 : tie.Need-returns-6
-returns-6 c =
-    let at-if5 = c .before .before .before .before .before .before .before .before .before .before .before .before .before in
-    let start = at-if5 .before .before .before .before .before .before .before .before .before .before .before .before .before .before .before in
-    let valid = at-if5 .before .before .before .before .before .before .before .before .before .before .before .before .valid in
-    let if1 = at-if5 .before .before .before .before .before .before .before .before .before .before .before .if1 in
-    let valid2 = at-if5 .before .before .before .before .before .before .before .before .before .before .valid2 in
-    let if2 = at-if5 .before .before .before .before .before .before .before .before .before .if2 in
-    let good-number = at-if5 .before .before .before .before .before .before .before .before .good-number in
-    let if3 = at-if5 .before .before .before .before .before .before .before .if3 in
-    let find-leaf = at-if5 .before .before .before .before .before .find-leaf in
-    let if4 = at-if5 .before .before .before .if4 in
-    let other-held = at-if5 .before .other-held in
-    let if5 = at-if5 .if5 in
-    let scarce = c .before .before .before .before .before .before .before .before .before .before .scarce in
-    let keep = c .before .before .before .before .before .before .before .before .before .keep in
-    let replace = c .before .before .before .before .before .before .replace in
-    let take-back = c .before .before .take-back in
-    rw (c .came-to .ensures) (
-      update-changes (start .args .pool .now) (start .args .free) (start .pre .0) (start .args .old)
-          (sym (valid .ensures) ∙ not-false _ (if1 .left)) (sym (good-number .ensures) ∙ not-false _ (if3 .left))
-          (sym (shows-held _ (start .args .old) (find-leaf .result) (ready-whole (start .args .pool .now) (start .args .free) (start .pre .0))
-          (find-leaf .ensures))
-          ∙ not-false _ (if4 .left)) (find-leaf .result)
-          (to-delete (start .args .pool .now) (start .args .free) (start .pre .0) (start .args .old) (find-leaf .result)
-          (not-false _ (if4 .left)) (find-leaf .ensures)) _ (start .args .new) (sym (valid2 .ensures) ∙ not-false _ (if2 .left))
-          (sym (other-held .ensures) ∙ if5 .left) _ (scarce .ensures) (keep .ensures .1) _ _
-          (replace .ensures) _ (search needs) (take-back .ensures),
-      keep .ensures .0,
     )
 
 pub update-spec : {M : Type 1} → statement M
@@ -221,11 +153,7 @@ update-spec =
     (λ c κs. search needs)
     (λ c. search needs)
     returns-5
-    scarce-requires
-    keep-requires
-    replace-requires
-    take-back-requires
-    (λ c κs. search needs)
+    update-held-requires
     (λ c. search needs)
     (λ c. search needs)
-    returns-6)
+    (λ c. search needs))
