@@ -13,7 +13,7 @@ use Rattle.rules.specs.Pool.{Pool, recordOf, nodeAt, entriesAt, stored, putReco
 use Rattle.rules.specs.Sound.{ownersSound}
 use Rattle.rules.specs.Layout.{read}
 use Rattle.rules.specs.Insert.{Change, Done, NoneFree, ours}
-use Rattle.rules.specs.Delete.{Path, Condensed, pathTo, condense, shorten, shortened, reinsert, deleteRecord}
+use Rattle.rules.specs.Delete.{Path, Condensed, pathTo, condense, shorten, shortened, reinsert, putBack, deleteRecord}
 use Rattle.rules_laws.proofs.Orders.{never-both}
 use Rattle.rules_laws.proofs.Splits.{ours-lawful}
 use Rattle.rules_laws.proofs.Parts.{counted, those-all}
@@ -29,7 +29,7 @@ use Rattle.insert_laws.specs.Standing.{Standing}
 use Rattle.insert_laws.proofs.Standing.{standing-once}
 use Rattle.insert_laws.proofs.Whole.{whole-standing}
 use Rattle.delete_laws.specs.Way.{Leads, EachWay, Found, leafOf, KeepsEnough}
-use Rattle.delete_laws.specs.Shrunk.{Shrunk, Waiting, PutBack, EachPool}
+use Rattle.delete_laws.specs.Shrunk.{Shrunk, Waiting, PutBack, EachPool, condensed}
 use Rattle.delete_laws.proofs.Finds.{find-leads}
 use Rattle.delete_laws.proofs.Held.{held-stored, find-held}
 use Rattle.delete_laws.proofs.Again.{reinsert-puts}
@@ -64,6 +64,50 @@ removes-none : (v w : List ℤ) (c : Change) → Removes v c Refused w → c ≡
 removes-none v w (Done q) h = absurd h
 removes-none v w NoneFree h = refl
 
+-- .. in words as long as these
+removes-from : (w v : List ℤ) → length v ≡ length w → (c : Change) (o : Outcome) (u : List ℤ) → Removes v c o u → Removes w c o u
+removes-from w v e (Done q) (Made f) u h = h
+removes-from w v e (Done q) Refused u h = absurd h
+removes-from w v e NoneFree (Made f) u h = absurd h
+removes-from w v e NoneFree Refused u h = h ∙ e
+
+-- ---- what was set aside is put back, and the tree is shortened
+
+module _ (w : List ℤ) (a : Asides) (waits : Waiting (read w) (asidesOf a)) (o : Outcome) (v : List ℤ)
+    (b : Removes w (reinsert ours (read w) (asidesOf a)) o v) where
+  back : putBack ours (condensed (read w) (asidesOf a)) ≡ shortened (reinsert ours (read w) (asidesOf a))
+  back = back-is ours (condensed (read w) (asidesOf a))
+
+  -- an entry found no slot
+  pub back-refused : o ≡ Refused → length v ≡ length w → Removes w (putBack ours (condensed (read w) (asidesOf a))) Refused v
+  back-refused e long =
+      let k = subst (λ (x : Outcome). Removes w (reinsert ours (read w) (asidesOf a)) x v) e b in
+      let none = back ∙ ap shortened (removes-none w v (reinsert ours (read w) (asidesOf a)) k) ∙ short-none ours in
+      subst (λ (c : Change). Removes w c Refused v) (sym none) long
+
+  -- all are back
+  module _ (f : FreeSlots) (e : o ≡ Made f) where
+    made : (q : Pool) × (reinsert ours (read w) (asidesOf a) ≡ Done q) × PutBack (read w) (asidesOf a) q × HoldsPool q f v
+    made =
+        removes-made (PutBack (read w) (asidesOf a)) w f v (reinsert ours (read w) (asidesOf a))
+        (reinsert-puts ours ours-lawful (asidesOf a) (read w) waits)
+        (subst (λ (x : Outcome). Removes w (reinsert ours (read w) (asidesOf a)) x v) e b)
+
+    pub made-fit : Fit v
+    made-fit = made .3 .fit
+
+    pub made-stands : Standing (read v) []
+    made-stands = subst (λ (q : Pool). Standing q []) (sym (made .3 .is)) (made .2 .stands)
+
+    pub made-known : Known (read v) f
+    made-known = subst (λ (q : Pool). Known q f) (sym (made .3 .is)) (made .3 .known)
+
+    pub back-made : (g : FreeSlots) (u : List ℤ) → HoldsPool (shorten (read v)) g u
+        → Removes w (putBack ours (condensed (read w) (asidesOf a))) (Made g) u
+    back-made g u k =
+        let is = back ∙ ap shortened (made .1) ∙ short-done ours (made .0) ∙ ap (λ (q : Pool). Done (shorten q)) (sym (made .3 .is)) in
+        subst (λ (c : Change). Removes w c (Made g) u) (sym is) k
+
 -- ---- the steps
 
 -- what a delete is asked with
@@ -78,10 +122,6 @@ pub record ToDelete (w₀ : List ℤ) (r : Record) (way : Way) : Type 0 where
 pub record CountedOff (w₀ : List ℤ) (h : ℕ) (w₁ : List ℤ) : Type 0 where
   pub level : h ≡ read w₀ .height
   pub less : read w₁ ≡ putRecords (read w₀) (read w₀ .records - 1)
-
-pub counted-off : (w₀ : List ℤ) (n : ℕ) → n ≡ read w₀ .records → (h : ℕ) → h ≡ read w₀ .height → (w₁ : List ℤ) → read w₁ ≡ putRecords (read w₀) (n - 1)
-    → CountedOff w₀ h w₁
-counted-off w₀ n en h eh w₁ e = record { level = eh; less = e ∙ ap (λ (k : ℕ). putRecords (read w₀) (k - 1)) en }
 
 module _ {w₀ : List ℤ} {r : Record} {way : Way} (g : ToDelete w₀ r way) where
   abbrev p : Pool
@@ -222,38 +262,14 @@ module _ {w₀ : List ℤ} {r : Record} {way : Way} (g : ToDelete w₀ r way) wh
       pub back-known : Known (read w₂) (a .free)
       back-known = subst (λ (q : Pool). Known q (a .free)) (sym (has .pool .is)) (has .pool .known)
 
-      delete-is : deleteRecord ours p r ≡ shortened (reinsert ours (read w₂) (asidesOf a))
+      delete-is : deleteRecord ours p r ≡ putBack ours (condensed (read w₂) (asidesOf a))
       delete-is =
-          delete-found ours p r path finds ∙ back-is ours (condense less path)
-          ∙ ap (λ (x : Condensed). shortened (reinsert ours (x .pool) (x .setAside))) (sym done-is)
-          ∙ sym (λ i. shortened (reinsert ours (has .pool .is i) (has .list i)))
+          delete-found ours p r path finds ∙ ap (putBack ours) (sym done-is)
+          ∙ sym (λ i. putBack ours (condensed (has .pool .is i) (has .list i)))
 
-      module _ (o : Outcome) (w₃ : List ℤ) (b : Removes w₂ (reinsert ours (read w₂) (asidesOf a)) o w₃) where
-        -- an entry found no slot
-        pub deleted-refused : o ≡ Refused → length w₃ ≡ length w₀ → Removes w₀ (deleteRecord ours p r) Refused w₃
-        deleted-refused e long =
-            let k = subst (λ (x : Outcome). Removes w₂ (reinsert ours (read w₂) (asidesOf a)) x w₃) e b in
-            let none = delete-is ∙ ap shortened (removes-none w₂ w₃ (reinsert ours (read w₂) (asidesOf a)) k) ∙ short-none ours in
-            subst (λ (c : Change). Removes w₀ c Refused w₃) (sym none) long
-
-        -- all are back
-        module _ (f : FreeSlots) (e : o ≡ Made f) where
-          made : (q : Pool) × (reinsert ours (read w₂) (asidesOf a) ≡ Done q) × PutBack (read w₂) (asidesOf a) q × HoldsPool q f w₃
-          made =
-              removes-made (PutBack (read w₂) (asidesOf a)) w₂ f w₃ (reinsert ours (read w₂) (asidesOf a))
-              (reinsert-puts ours ours-lawful (asidesOf a) (read w₂) back-waits)
-              (subst (λ (x : Outcome). Removes w₂ (reinsert ours (read w₂) (asidesOf a)) x w₃) e b)
-
-          pub made-fit : Fit w₃
-          made-fit = made .3 .fit
-
-          pub made-stands : Standing (read w₃) []
-          made-stands = subst (λ (q : Pool). Standing q []) (sym (made .3 .is)) (made .2 .stands)
-
-          pub made-known : Known (read w₃) f
-          made-known = subst (λ (q : Pool). Known q f) (sym (made .3 .is)) (made .3 .known)
-
-          pub deleted-made : (v : FreeSlots) (w₄ : List ℤ) → HoldsPool (shorten (read w₃)) v w₄ → Removes w₀ (deleteRecord ours p r) (Made v) w₄
-          deleted-made v w₄ k =
-              let is = delete-is ∙ ap shortened (made .1) ∙ short-done ours (made .0) ∙ ap (λ (q : Pool). Done (shorten q)) (sym (made .3 .is)) in
-              subst (λ (c : Change). Removes w₀ c (Made v) w₄) (sym is) k
+      -- what was set aside is put back
+      pub deleted : length w₂ ≡ length w₀ → (o : Outcome) (w₃ : List ℤ) → Removes w₂ (putBack ours (condensed (read w₂) (asidesOf a))) o w₃
+          → Removes w₀ (deleteRecord ours p r) o w₃
+      deleted e o w₃ b =
+          subst (λ (c : Change). Removes w₀ c o w₃) (sym delete-is)
+          (removes-from w₀ w₂ e (putBack ours (condensed (read w₂) (asidesOf a))) o w₃ b)

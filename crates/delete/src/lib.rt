@@ -271,6 +271,32 @@ fn shorten(pool: &mut [i32], free: FreeSlots) -> FreeSlots
     free
 }
 
+// CT6, then D4.
+fn put_back(pool: &mut [i32], asides: Asides) -> Outcome
+    requires { ⌜ Fit (now pool) ⌝ }
+    requires { ⌜ Waiting (L.read (now pool)) (asidesOf asides) × OwnedAside (L.read (now pool) .edition) (asidesOf asides) ⌝ }
+    requires { ⌜ Known (L.read (now pool)) (asides .free) ⌝ }
+    requires { ⌜ Roomy asides ⌝ }
+    requires { ⌜ (asides .count ≤ 14) × (L.read (now pool) .height ≤ 8) ⌝ }
+    ensures { λ o. ⌜ Removes (now (pool .entry)) (D.putBack I.ours (condensed (L.read (now (pool .entry))) (asidesOf asides))) o (now (pool .exit)) ⌝ }
+{
+    let Outcome::Made(after) = reinsert(pool, asides) else {
+        return Outcome::Refused;
+    };
+    Outcome::Made(shorten(pool, after))
+}
+
+// The count goes down by one.
+fn count_off(pool: &mut [i32])
+    requires { ⌜ Fit (now pool) ⌝ }
+    requires { ⌜ (1 ≤ L.read (now pool) .records) × (L.read (now pool) .records ≤ 2147483647) ⌝ }
+    ensures is { λ _. ⌜ L.read (now (pool .exit)) ≡ P.putRecords (L.read (now (pool .entry))) (L.read (now (pool .entry)) .records - 1) ⌝ }
+    ensures fit { λ _. ⌜ Fit (now (pool .exit)) ⌝ }
+{
+    let n = pool::records_of(pool);
+    pool::put_records(pool, n - 1);
+}
+
 // D1 to D4 for a pair that is held, by the way that FindLeaf found to it. From a leaf that is not thin nothing is set aside: no slot is
 // taken or freed, and the root stays. Where this is refused, the pool is left half done, and the caller writes over it: a caller that
 // cannot know that there are enough slots keeps a copy.
@@ -282,17 +308,13 @@ pub fn delete_record(pool: &mut [i32], r: Record, way: Way, free: FreeSlots) -> 
     requires { ⌜ Gives (D.pathTo (L.read (now pool)) r) (L.read (now pool) .height) way ⌝ }
     ensures { λ o. ⌜ Removes (now (pool .entry)) (D.deleteRecord I.ours (L.read (now (pool .entry))) r) o (now (pool .exit)) ⌝ }
 {
-    let n = pool::records_of(pool);
     let height = pool::height_of(pool);
-    pool::put_records(pool, n - 1);
+    count_off(pool);
     let nodes = way.nodes;
     if !thin(pool, nodes[0]) {
         tighten_up(pool, way, height);
         return Outcome::Made(free);
     }
     let asides = condense(pool, way, height, free);
-    let Outcome::Made(after) = reinsert(pool, asides) else {
-        return Outcome::Refused;
-    };
-    Outcome::Made(shorten(pool, after))
+    put_back(pool, asides)
 }
