@@ -13,16 +13,24 @@ use Rattle.rules.specs.Pool.{Pool, blankPool}
 use Rattle.rules.specs.Layout.{slotsFitting, validSize, validLength, words, read, blank}
 use Rattle.rules.specs.Insert.{ours}
 use Rattle.rules.specs.File.{Load, Loaded, Fails, loadFile, ReadLeft, readFile}
-use Rattle.rules_laws.proofs.Orders.{never-both}
 use Rattle.sound_laws.specs.Tree.{Whole}
 use Rattle.sound_laws.proofs.Blank.{blank-whole}
 use Rattle.layout_laws.specs.Slots.{Fit}
 use Rattle.layout_laws.proofs.Written.{edition-is}
 use Rattle.in_force_laws.proofs.Written.{holds-reads}
 use Rattle.in_force_laws.proofs.Call.{blank-holds}
-use Rattle.file.specs.Loading.{Loads}
+use Rattle.file.specs.Loading.{Loads, settled}
 use Rattle.promises.specs.Files.{Reads}
 use Rattle.file_laws.proofs.Cases.{lengths-wrong, read-short, read-in, read-out, some-fault, none-zero}
+
+module _ (n : ℤ) (pool work : List ℤ) where
+  pub settled-in : same n (pos 0) ≡ true → settled n pool work ≡ work
+  unfolding settled
+  settled-in h = rw h
+
+  pub settled-out : same n (pos 0) ≡ false → settled n pool work ≡ pool
+  unfolding settled
+  settled-out h = rw h
 
 module _ (ed : Edition) (w u : List ℤ) (bs : List ℕ) where
   left : {n : ℤ} {v x : List ℤ} → readFile ed w u bs ≡ record { number = n; pool = v; workspace = x } → Reads ed w u bs n v x
@@ -70,19 +78,13 @@ module _ (ed : Edition) (w u : List ℤ) (bs : List ℕ) where
       loads : Loads (loadFile ours ed blanked bs) n x
       loads = subst (λ (p : Pool). Loads (loadFile ours ed p bs) n x) (blank-pool e) d
 
-      pub reads-in : same n (pos 0) ≡ true → {y : List ℤ} → y ≡ x → Reads ed w u bs n y x
-      reads-in z {y} f = go (loadFile ours ed blanked bs) refl loads
+      pub reads-settled : {y z : List ℤ} → y ≡ settled n w x → z ≡ settled n w x → Reads ed w u bs n y z
+      reads-settled {y} {z} f g = go (loadFile ours ed blanked bs) refl loads
         where
-          go : (l : Load) → loadFile ours ed blanked bs ≡ l → Loads l n x → Reads ed w u bs n y x
-          go (Loaded q) g k =
-              let i : x ≡ words q = sym (k .1 .same) ∙ ap words (k .2) in
-              left (read-in ed w u bs h q g ∙ (λ j. record { number = sym (k .0) j; pool = sym (f ∙ i) j; workspace = sym i j }))
-          go (Fails c) g k = never-both (subst (λ (a : ℤ). same a (pos 0) ≡ true) k z) (some-fault c)
-
-      pub reads-out : same n (pos 0) ≡ false → {y : List ℤ} → y ≡ w → Reads ed w u bs n w y
-      reads-out z {y} f = go (loadFile ours ed blanked bs) refl loads
-        where
-          go : (l : Load) → loadFile ours ed blanked bs ≡ l → Loads l n x → Reads ed w u bs n w y
-          go (Loaded q) g k = never-both (ap (λ (a : ℤ). same a (pos 0)) (k .0) ∙ none-zero) z
-          go (Fails c) g k =
-              left (read-out ed w u bs h c g ∙ (λ j. record { number = sym k j; pool = w; workspace = sym f j }))
+          go : (l : Load) → loadFile ours ed blanked bs ≡ l → Loads l n x → Reads ed w u bs n y z
+          go (Loaded q) l k =
+              let i : settled n w x ≡ words q = settled-in n w x (ap (λ (a : ℤ). same a (pos 0)) (k .0) ∙ none-zero) ∙ sym (k .1 .same) ∙ ap words (k .2) in
+              left (read-in ed w u bs h q l ∙ (λ j. record { number = sym (k .0) j; pool = sym (f ∙ i) j; workspace = sym (g ∙ i) j }))
+          go (Fails c) l k =
+              let i : settled n w x ≡ w = settled-out n w x (ap (λ (a : ℤ). same a (pos 0)) k ∙ some-fault c) in
+              left (read-out ed w u bs h c l ∙ (λ j. record { number = sym k j; pool = sym (f ∙ i) j; workspace = sym (g ∙ i) j }))

@@ -12,6 +12,7 @@ use Rattle.rules.specs.declared.Owner.{Owner}
 use Rattle.rules.specs.declared.Record.{Record}
 use Rattle.rules.specs.declared.FileFault.{FileFault}
 use Rattle.rules.specs.declared.FileFault.the-variants.{BadFrame, NoSlot}
+use Rattle.rules.specs.Lists.{same}
 use Rattle.rules.specs.Pool.{Pool, number}
 use Rattle.rules.specs.Layout.{read}
 use Rattle.rules.specs.Insert.{ours, Change, Done, NoneFree, insertRecord}
@@ -81,3 +82,7 @@ endFault bs = cond (isDue 18 0 bs && eqb (length bs) 4) (pos 0) (fileNumber BadF
 abbrev pub Loads : Load → ℤ → List ℤ → Type 0
 Loads (Loaded q) n w = (n ≡ pos 0) × Fit w × (read w ≡ q)
 Loads (Fails f) n w = n ≡ fileNumber f
+
+-- "A read refused past 1 leaves the pool, and its workspace equal to it": which of the two both become
+unfoldable pub settled : ℤ → List ℤ → List ℤ → List ℤ
+settled n pool work = cond (same n (pos 0)) work pool

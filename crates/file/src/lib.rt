@@ -22,7 +22,7 @@ ghost use Rattle.frames.specs.Writing.{Wrote};
 ghost use Rattle.file.specs.Items.{Listed, InOrder, isNew, newFrom, itemWords, firstOwner, secondCarried, CountsFile};
 ghost use Rattle.promises.specs.Files.{Writes, Reads};
 ghost use Rattle.file.specs.Filling.{ownerBytes, ownFrames, Fills};
-ghost use Rattle.file.specs.Loading.{isDue, recordBytes, placeOf, pairFrom, recordAt, lastAt, faultAt, Took, tookAt, Loads, endFault};
+ghost use Rattle.file.specs.Loading.{isDue, recordBytes, placeOf, pairFrom, recordAt, lastAt, faultAt, Took, tookAt, Loads, endFault, settled};
 use free_slots::FreeSlots;
 use geometry::less_then;
 use geometry::one_if;
@@ -599,8 +599,21 @@ fn load_file(pool: &mut [i32], file: &[u8], edition: Edition) -> i32
     load_records(pool, file, edition, count as usize)
 }
 
+// "A read refused past 1 leaves the pool, and its workspace equal to it"; one that is not leaves both as the file made the workspace.
+fn settle(pool: &mut [i32], work: &mut [i32], n: i32)
+    requires { ⌜ length (now work) ≡ length (now pool) ⌝ }
+    ensures pool { λ _. ⌜ now (pool .exit) ≡ settled n (now (pool .entry)) (now (work .entry)) ⌝ }
+    ensures workspace { λ _. ⌜ now (work .exit) ≡ settled n (now (pool .entry)) (now (work .entry)) ⌝ }
+{
+    if geometry::same(n, 0) {
+        pool::copy(work, pool);
+    } else {
+        pool::copy(pool, work);
+    }
+}
+
 // "a reader blanks a pool and inserts in file order". The workspace is blanked and takes the records: the pool is written only when the last
-// frame is found right. "A read refused past 1 leaves the pool, and its workspace equal to it." What edition the pool had makes no difference.
+// frame is found right. What edition the pool had makes no difference.
 pub fn read(pool: &mut [i32], work: &mut [i32], file: &[u8], edition: Edition) -> i32
     ensures { λ n. ⌜ Reads edition (now (pool .entry)) (now (work .entry)) (now (file .entry)) n (now (pool .exit)) (now (work .exit)) ⌝ }
 {
@@ -612,10 +625,6 @@ pub fn read(pool: &mut [i32], work: &mut [i32], file: &[u8], edition: Edition) -
     }
     pool::blank::blank(work, edition);
     let n = load_file(work, file, edition);
-    if geometry::same(n, 0) {
-        pool::copy(work, pool);
-    } else {
-        pool::copy(pool, work);
-    }
+    settle(pool, work, n);
     n
 }

@@ -6,7 +6,7 @@ use Rattle.rules.specs.File.{loadFile}
 use Rattle.rules_laws.proofs.Bools.{not-true, not-false}
 use Rattle.frames.proofs.Words.{word-kept}
 use Rattle.file.specs.Loading.{Loads}
-use Rattle.file.proofs.Loaded.{reads-wrong, reads-other, blank-fit, blank-tree, blank-edition, reads-in, reads-out}
+use Rattle.file.proofs.Loaded.{reads-wrong, reads-other, blank-fit, blank-tree, blank-edition, reads-settled}
 use borrow.Author.Needs.{needs}
 use Rattle.file.proofs.read.Statement.{statement}
 use Rattle.file.proofs.read.Tie as tie
@@ -41,37 +41,27 @@ load-file-requires c κs =
           (sym (valid-size .ensures) ∙ not-false _ (if1 .left)) (if2 .left) (blank .ensures .1),
     )
 
+settle-requires : tie.Need-settle-requires
+settle-requires c κs =
+    let if2 = c .before .before .before .before .before .before .before .before .if2 in
+    let blank = c .before .before .before .before .before .before .blank in
+    let load-file = c .before .before .before .load-file in
+    load-file .kept .0 ∙ blank .kept .0 ∙ if2 .left
+
 returns-3 : tie.Need-returns-3
 returns-3 c =
-    let at-load-file = c .before .before .before .before .before .before .before in
+    let at-load-file = c .before .before .before .before .before .before in
     let start = at-load-file .before .before .before .before .before .before .before .before .before in
     let valid-size = at-load-file .before .before .before .before .before .before .before .valid-size in
     let if1 = at-load-file .before .before .before .before .before .before .if1 in
     let if2 = at-load-file .before .before .before .before .before .if2 in
     let blank = at-load-file .before .before .before .blank in
     let load-file = at-load-file .load-file in
-    let same = c .before .before .before .before .before .same in
-    let if3 = c .before .before .before .before .if3 in
-    reads-in (start .args .edition) (start .args .pool .now) (start .args .work .now) (start .args .file .now)
+    let settle = c .before .before .settle in
+    reads-settled (start .args .edition) (start .args .pool .now) (start .args .work .now) (start .args .file .now)
     (sym (valid-size .ensures) ∙ not-false _ (if1 .left)) (if2 .left) (blank .ensures .1) _ _
     (subst (λ (n : ℤ). Loads (loadFile ours (start .args .edition) (read (blank .last .0)) (start .args .file .now)) n (load-file .last .0))
-    (sym (word-kept (load-file .ok))) (load-file .ensures)) (sym (same .ensures) ∙ if3 .taken) (c .before .copy .ensures)
-
-returns-4 : tie.Need-returns-4
-returns-4 c =
-    let at-load-file = c .before .before .before .before .before .before .before in
-    let start = at-load-file .before .before .before .before .before .before .before .before .before in
-    let valid-size = at-load-file .before .before .before .before .before .before .before .valid-size in
-    let if1 = at-load-file .before .before .before .before .before .before .if1 in
-    let if2 = at-load-file .before .before .before .before .before .if2 in
-    let blank = at-load-file .before .before .before .blank in
-    let load-file = at-load-file .load-file in
-    let same = c .before .before .before .before .before .same in
-    let if3 = c .before .before .before .before .if3 in
-    reads-out (start .args .edition) (start .args .pool .now) (start .args .work .now) (start .args .file .now)
-    (sym (valid-size .ensures) ∙ not-false _ (if1 .left)) (if2 .left) (blank .ensures .1) _ _
-    (subst (λ (n : ℤ). Loads (loadFile ours (start .args .edition) (read (blank .last .0)) (start .args .file .now)) n (load-file .last .0))
-    (sym (word-kept (load-file .ok))) (load-file .ensures)) (sym (same .ensures) ∙ if3 .left) (c .before .copy2 .ensures)
+    (sym (word-kept (load-file .ok))) (load-file .ensures)) (settle .ensures .0) (settle .ensures .1)
 
 pub read-spec : {M : Type 1} → statement M
 read-spec =
@@ -82,12 +72,7 @@ read-spec =
     returns-2
     (λ c κs. search needs)
     load-file-requires
-    (λ c κs. search needs)
-    (λ c κs. search needs)
-    (λ c κs. search needs)
+    settle-requires
     (λ c. search needs)
     (λ c. search needs)
-    returns-3
-    (λ c. search needs)
-    (λ c. search needs)
-    returns-4)
+    returns-3)
