@@ -1,3 +1,6 @@
+use mathlib.Core.Path.{ap₂, _∙_}
+use mathlib.Core.Bool.{_&&_}
+use lib.Signed.{leZ}
 use Rattle.rules.specs.Geometry.{meets}
 use borrow.Author.Needs.{needs}
 use Rattle.geometry.proofs.Rects.{rect-back}
@@ -7,12 +10,17 @@ use Rattle.geometry.proofs.meets.Tie as tie
 returns : tie.Need-returns
 unfolding meets
 returns c =
-    let args = c .before .before .before .before .before .before .before .before .before .before .before .before .before .before .before .args in
-    let struct-told = c .before .before .before .before .before .before .before .before .before .before .before .before .before .before .struct-told in
-    let struct-told2 = c .before .before .before .before .before .before .before .before .before .before .before .before .before .struct-told2 in
-    let a = rect-back (args .a) (struct-told .given) in
-    let b = rect-back (args .b) (struct-told2 .given) in
-    cc (a .lowX, a .lowY, a .highX, a .highY, b .lowX, b .lowY, b .highX, b .highY)
+    let second = c .before .before .before .before in
+    let first = second .before .before .before .before in
+    let lowest = first .before .before .before .before in
+    let args = lowest .before .before .before .args in
+    let a = rect-back (args .a) (lowest .before .before .struct-told .given) in
+    let b = rect-back (args .b) (lowest .before .struct-told2 .given) in
+    let one = lowest .le .ensures ∙ ap₂ leZ (a .lowX) (b .highX) in
+    let two = first .before .le2 .ensures ∙ ap₂ leZ (b .lowX) (a .highX) in
+    let three = second .before .le3 .ensures ∙ ap₂ leZ (a .lowY) (b .highY) in
+    let four = c .before .le4 .ensures ∙ ap₂ leZ (b .lowY) (a .highY) in
+    c .and3 .ensures ∙ ap₂ _&&_ (second .and2 .ensures ∙ ap₂ _&&_ (first .and .ensures ∙ ap₂ _&&_ one two) three) four
 
 pub meets-spec : {M : Type 1} → statement M
 meets-spec =
