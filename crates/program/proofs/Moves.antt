@@ -17,7 +17,7 @@ use Rattle.program.specs.declared.Moved.{Moved}
 use Rattle.program.specs.declared.Moved.the-variants.{Bytes, Nothing, Again, Failed}
 use Rattle.program.specs.declared.Sent.{Sent}
 use Rattle.program.specs.declared.Sent.the-variants as S
-use Rattle.program.specs.Moving.{again, movedBy, sentBy, Sends, Taken, none, more}
+use Rattle.program.specs.Moving.{again, movedBy, bytesOf, sentBy, Sends, Taken, none, more}
 
 -- ---- an answer
 
@@ -47,12 +47,6 @@ moved-up (pos n) h f = (tt, record { fits = omega (arith, f .sfits) })
 moved-up (negsuc n) h f = never-both refl h
 
 -- ---- no more bytes are moved than were handed over
-
-abbrev pub bytesOf : Moved → ℕ
-bytesOf (Bytes n) = n
-bytesOf Nothing = 0
-bytesOf Again = 0
-bytesOf Failed = 0
 
 refused-none : (b : Bool) → bytesOf (cond b Again Failed) ≡ 0
 refused-none true = refl

@@ -31,10 +31,10 @@ use Rattle.program.specs.declared.Step.{Step}
 use Rattle.program.specs.declared.Step.the-variants as Next
 use Rattle.program.specs.declared.Flushed.{Flushed}
 use Rattle.program.specs.declared.Flushed.the-variants.{All, Stopped}
-use Rattle.program.specs.Moving.{movedBy, heldIn, heldUpTo, gotBy, mostRounds, Taken, Emptied, Flushes, Receives}
+use Rattle.program.specs.Moving.{movedBy, heldIn, heldUpTo, gotBy, mostRounds, Taken, Emptied, Flushes, Receives, bytesOf}
 use Rattle.program.specs.Running.{Claims, Stands, Comes, Onward, Onto, Over, Rounds, Waited, Runs}
 use Rattle.program.specs.Running.{Finished, answered, badFrame, notRead, notWritten, endless, Drains, on, stuck, Closes, all, stopped, Ending, none, cut}
-use Rattle.program.proofs.Moves.{bytesOf, few, taken-within}
+use Rattle.program.proofs.Moves.{few, taken-within}
 use Rattle.program.proofs.Steps.{said-as, wrote-front}
 
 -- ---- lists
@@ -156,12 +156,12 @@ module _ {old input : List ℕ} {r : Run} (low : r .at ≤ r .end) (high : r .en
       go Failed i = never-both (ap isEnded i) refl
 
 -- one read, by what it answered: the bytes that wait are at the front of the buffer, and what was read is a part of it after them
-pub received : (old buffer part : List ℕ) (r : Run) (rest : ℕ) (answer error : ℤ) {m : Moved} (k : Moved) {g : Got} → r .at ≤ r .end → r .end ≤ length old
+pub received : (old buffer part : List ℕ) (r : Run) (rest : ℕ) (answer error : ℤ) {m : Moved} {g : Got} → r .at ≤ r .end → r .end ≤ length old
     → rest ≡ r .end - r .at → length buffer ≡ length old → take (r .end - r .at) buffer ≡ heldIn old r
     → length part ≡ length (take (length buffer - rest) (drop rest buffer))
-    → libc.Moved (length (take (length buffer - rest) (drop rest buffer))) answer → m ≡ movedBy answer error → m ≡ k → gotBy r rest k ≡ g
+    → libc.Moved (length (take (length buffer - rest) (drop rest buffer))) answer → m ≡ movedBy answer error → g ≡ gotBy r rest m
     → Receives old (putMid rest (length buffer - rest) buffer part) r g
-received old buffer part r rest answer error {m} k low high e long held size h is q got =
+received old buffer part r rest answer error {m} low high e long held size h is got =
     let input = putMid rest (length buffer - rest) buffer part in
     let d = length-drop rest buffer in
     let same = same-len-mid rest (length buffer - rest) buffer part size in
@@ -171,14 +171,14 @@ received old buffer part r rest answer error {m} k low high e long held size h i
       error = error;
       within = subst (λ (n : ℕ). libc.Moved n answer) (length-take-le (length buffer - rest) (drop rest buffer) (omega arith) ∙ left) h;
       held = ap (λ (n : ℕ). take n input) (sym e) ∙ take-put rest (length buffer - rest) buffer part (omega arith) ∙ ap (λ (n : ℕ). take n buffer) e ∙ held;
-      is = sym got ∙ ap (λ (n : ℕ). gotBy r n k) e ∙ ap (gotBy r (r .end - r .at)) (sym q ∙ is);
+      is = got ∙ ap (λ (n : ℕ). gotBy r n m) e ∙ ap (gotBy r (r .end - r .at)) is;
     }
 
-pub received-few : (buffer : List ℕ) (rest : ℕ) (answer error : ℤ) {m : Moved} (n : ℕ) → rest ≤ length buffer
-    → libc.Moved (length (take (length buffer - rest) (drop rest buffer))) answer → m ≡ movedBy answer error → m ≡ Bytes n → rest + n ≤ length buffer
-received-few buffer rest answer error n low h e q =
+pub received-few : (buffer : List ℕ) (rest : ℕ) (answer error : ℤ) {m : Moved} → rest ≤ length buffer
+    → libc.Moved (length (take (length buffer - rest) (drop rest buffer))) answer → m ≡ movedBy answer error → rest + bytesOf m ≤ length buffer
+received-few buffer rest answer error low h e =
     let d = length-drop rest buffer in
-    omega (arith, few _ answer error h, ap bytesOf (sym q ∙ e), length-take-le (length buffer - rest) (drop rest buffer) (omega arith))
+    omega (arith, few _ answer error h, ap bytesOf e, length-take-le (length buffer - rest) (drop rest buffer) (omega arith))
 
 -- ---- what is left of the output
 

@@ -28,6 +28,13 @@ movedBy (pos zero) error = Nothing
 movedBy (pos (suc n)) error = Bytes (suc n)
 movedBy (negsuc n) error = cond (again error) Again Failed
 
+-- how many bytes these are
+abbrev pub bytesOf : Moved → ℕ
+bytesOf (Bytes n) = n
+bytesOf Nothing = 0
+bytesOf Again = 0
+bytesOf Failed = 0
+
 -- ---- writing
 
 -- up to where the output is written after a write of the bytes from `sent` on

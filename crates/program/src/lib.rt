@@ -12,7 +12,7 @@ ghost use Rattle.rules.specs.Frames.{badLine};
 ghost use Rattle.found_items.specs.Items.{shownFrom, Pointing};
 ghost use Rattle.request.specs.Serving.{Ready};
 ghost use Rattle.frames.specs.Writing.{Wrote};
-ghost use Rattle.program.specs.Moving.{mostRounds, again, movedBy, heldUpTo, Sends, Flushes, Receives};
+ghost use Rattle.program.specs.Moving.{mostRounds, again, movedBy, bytesOf, heldUpTo, gotBy, Sends, Flushes, Receives};
 ghost use Rattle.program.specs.Running.{poolSize, Begins, Stands, Onward, Replies, passedBy, Drains, Closes, Ending, Waited, Rounds, Runs};
 use frames::Framed;
 use free_slots::FreeSlots;
@@ -286,7 +286,15 @@ fn receive(input: &mut [u8], run: Run) -> Got
     let rest = frames::keep_rest(input, run.at, run.end);
     let answer = libc::read(STDIN_FILENO, &mut input[rest..]);
     let error = os::errno();
-    match what_moved(answer, error) {
+    after_read(run, rest, what_moved(answer, error))
+}
+
+// How the run goes on after a read to the place after the `rest` bytes that wait.
+fn after_read(run: Run, rest: usize, moved: Moved) -> Got
+    requires { ⌜ rest + bytesOf moved ≤ 18446744073709551615 ⌝ }
+    ensures { λ r. ⌜ r ≡ gotBy run rest moved ⌝ }
+{
+    match moved {
         Moved::Bytes(n) => Got::Came(held(run, rest + n)),
         Moved::Nothing => Got::Ended(held(run, rest)),
         Moved::Again => {
