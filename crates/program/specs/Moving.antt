@@ -56,6 +56,10 @@ pub data Taken (filled : ℕ) : ℕ → Type 0 where
   none : Taken filled 0
   more : (sent next : ℕ) → Taken filled sent → Sends sent filled (S.UpTo next) → Taken filled next
 
+-- the run with so much of the output filled
+abbrev pub filledUpTo : Run → ℕ → Run
+filledUpTo r filled = record { before = r .before; free = r .free; at = r .at; end = r .end; filled = filled }
+
 -- all is as it was, except that nothing waits to be written
 pub record Emptied (r s : Run) : Type 0 where
   pub before : s .before ≡ r .before

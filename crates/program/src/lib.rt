@@ -12,7 +12,7 @@ ghost use Rattle.rules.specs.Frames.{badLine};
 ghost use Rattle.found_items.specs.Items.{shownFrom, Pointing};
 ghost use Rattle.request.specs.Serving.{Ready};
 ghost use Rattle.frames.specs.Writing.{Wrote};
-ghost use Rattle.program.specs.Moving.{mostRounds, again, movedBy, bytesOf, heldUpTo, gotBy, Sends, Flushes, Receives};
+ghost use Rattle.program.specs.Moving.{mostRounds, again, movedBy, bytesOf, heldUpTo, filledUpTo, gotBy, Sends, Flushes, Receives};
 ghost use Rattle.program.specs.Running.{poolSize, Begins, Stands, Onward, Replies, passedBy, Drains, Closes, Ending, Waited, Rounds, Runs};
 use frames::Framed;
 use free_slots::FreeSlots;
@@ -132,14 +132,11 @@ fn answer(
     }
 }
 
-// The line of a bad frame, after those that wait.
-fn bad_frame(out: &mut [u8], run: Run) -> Run
-    requires room { ⌜ run .filled + 31 ≤ length (now out) ⌝ }
-    requires counted { ⌜ run .before < mostRounds ⌝ }
-    ensures { λ r. ⌜ Wrote (now (out .entry)) (run .filled) (badLine (suc (run .before))) (now (out .exit)) (r .filled) × (r .filled ≤ length (now (out .entry))) ⌝ }
+// The run with so much of the output filled.
+fn filled_to(run: Run, filled: usize) -> Run
+    ensures { λ r. ⌜ r ≡ filledUpTo run filled ⌝ }
 {
     let free = run.free;
-    let filled = frames::bad_line(out, run.filled, run.before);
     Run {
         before: run.before,
         free,
@@ -147,6 +144,17 @@ fn bad_frame(out: &mut [u8], run: Run) -> Run
         end: run.end,
         filled,
     }
+}
+
+// The line of a bad frame, after those that wait.
+fn bad_frame(out: &mut [u8], run: Run) -> Run
+    requires room { ⌜ run .filled + 31 ≤ length (now out) ⌝ }
+    requires counted { ⌜ run .before < mostRounds ⌝ }
+    ensures line { λ r. ⌜ Wrote (now (out .entry)) (run .filled) (badLine (suc (run .before))) (now (out .exit)) (r .filled) × (r .filled ≤ length (now (out .entry))) ⌝ }
+    ensures rest { λ r. ⌜ r ≡ filledUpTo run (r .filled) ⌝ }
+{
+    let filled = frames::bad_line(out, run.filled, run.before);
+    filled_to(run, filled)
 }
 
 // The frame that the bytes begin, if it is here.
@@ -250,14 +258,7 @@ fn flush(out: &[u8], run: Run) -> Flushed
     let mut tries = u64::MAX;
     while tries > 0 {
         if sent == filled {
-            let free = run.free;
-            return Flushed::All(Run {
-                before: run.before,
-                free,
-                at: run.at,
-                end: run.end,
-                filled: 0,
-            });
+            return Flushed::All(filled_to(run, 0));
         }
         let Sent::UpTo(next) = send(out, sent, filled) else {
             return Flushed::Stopped(sent);

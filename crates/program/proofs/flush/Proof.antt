@@ -30,7 +30,7 @@ returns c =
     let start = c .before .before .before .before .before in
     let loop = c .before .before .before .loop in (
       subst (λ (n : ℕ). Taken (start .args .run .filled) n) (c .before .if1 .taken) (loop .inv .taken),
-      record { before = refl; free = refl; at = refl; end = refl; filled = refl },
+      rw (c .filled-to .ensures) (record { before = refl; free = refl; at = refl; end = refl; filled = refl }),
     )
 
 send-requires : tie.Need-send-requires Inv-loop μ-loop
@@ -74,6 +74,7 @@ flush-spec =
     Inv-loop
     μ-loop
     loop-holds
+    (λ c κs. search needs)
     returns
     send-requires
     (λ c. search needs)

@@ -60,8 +60,8 @@ returns-4 c =
     let read-frame = c .before .before .before .before .before .before .read-frame in
     let enum-told2 = c .before .before .before .before .enum-told2 in
     let bad-frame = c .before .before .bad-frame in
-    onward-ends (start .pre .0) (bad-frame .result) (sym (read-frame .ensures) ∙ enum-told2 .given .1) (bad-frame .ensures .1)
-    (bad-frame .ensures .0)
+    onward-ends (start .pre .0) (bad-frame .result) (sym (read-frame .ensures) ∙ enum-told2 .given .1) (bad-frame .ensures .0 .1)
+    (bad-frame .ensures .0 .0)
 
 pub turn-spec : {M : Type 1} → statement M
 turn-spec =
