@@ -20,7 +20,7 @@ use Rattle.promises.specs.Calls.{left, Allowed}
 use Rattle.refusal.specs.Refusing.{faultNumber, refusalOf}
 use Rattle.refusal.proofs.Refusals.{refusal-is}
 use Rattle.batch.specs.Batching.{batchOf, Batched}
-use Rattle.batch.proofs.Refusals.{call-number, call-refused, call-served}
+use Rattle.batch.proofs.Verdicts.{call-number, call-refused, call-served}
 
 -- ---- the number
 

@@ -4,4 +4,4 @@ pub mod Batches
 pub mod Calls
 pub mod Carries
 pub mod Listed
-pub mod Refusals
+pub mod Verdicts

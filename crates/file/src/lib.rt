@@ -332,9 +332,9 @@ fn put_file(pool: &[i32], items: &mut [i32], n: usize, count: usize, file: &mut 
 // ---- the writer
 
 // What is known before the first byte is written: n items of the first owner, and how many records the file has in all.
-pub struct FileCount {
-    pub n: usize,
-    pub count: usize,
+struct FileCount {
+    n: usize,
+    count: usize,
 }
 
 // Counts the records before the first is written. The first owner's are listed last, so that they are the items there when writing begins.

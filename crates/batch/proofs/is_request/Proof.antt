@@ -4,7 +4,7 @@ use lib.IntN.{ℤ, pos}
 use lib.Signed.{leZ}
 use mir.Val.{toZ, ofZ}
 use mir.Syntax.{w32}
-use Rattle.batch.proofs.Refusals.{all-kinds}
+use Rattle.batch.proofs.Verdicts.{all-kinds}
 use borrow.Author.Needs.{needs}
 use Rattle.batch.proofs.is_request.Statement.{statement}
 use Rattle.batch.proofs.is_request.Tie as tie

@@ -2,7 +2,7 @@ use mir.Facts.{toZ-ofZ}
 use mir.Syntax.{w32}
 use borrow.Author.Needs.{sfits-of}
 use mathlib.Core.Path.{_∙_}
-use Rattle.batch.proofs.Refusals.{check-number}
+use Rattle.batch.proofs.Verdicts.{check-number}
 use borrow.Author.Needs.{needs}
 use Rattle.map.proofs.dustmap_check.Statement.{statement}
 use Rattle.map.proofs.dustmap_check.Tie as tie
