@@ -45,6 +45,7 @@ module _ {A B : Type 0} where
   pub joined_among : (f : A → List B) (y : B) {x : A} {xs : List A} → Among x xs → Among y (f x) → Among y (joined (map f xs))
   unfolding joined
   joined_among f y {x} {xs = z ∷ zs} (Memᴰ.head e) m = let n : Among y (f z) = rw (← e) m in Memᴰ.append_left (joined (map f zs)) n
+  joined_among f y {x = x} {xs = []} x6 m = elim x6 [ ]
   joined_among f y {xs = z ∷ zs} (Memᴰ.tail n) m = Memᴰ.append_right (f z) (joined_among f y n m)
 
 pub joined_joined : {A B C : Type 0} (f : B → List C) (g : A → List B) (xs : List A)

@@ -51,6 +51,7 @@ module _ {A : Type 0} where
 
   -- a test that holds for a member holds for at least one
   pub counted : (p : A → Bool) {x : A} {xs : List A} → Among x xs → p x ≡ true → 0 < length (those p xs)
+  counted p {xs = []} x6 h = elim x6 [ ]
   counted p {xs = y ∷ ys} (Memᴰ.head e) h = rw (those_yes p y ys (ap p (sym e) ∙ h)) (omega arith)
   counted p {xs = y ∷ ys} (Memᴰ.tail m) h = omega (arith, count_cons p y ys, counted p m h)
 
@@ -65,6 +66,7 @@ module _ {A : Type 0} where
       go false h f = let n = f (rw (those_no p y ys h) at m) in (Memᴰ.tail n.0, n.1)
 
   among_those_from : (p : A → Bool) {x : A} {xs : List A} → Among x xs → p x ≡ true → Among x (those p xs)
+  among_those_from p {x = x} {xs = []} x6 h = elim x6 [ ]
   among_those_from p {xs = y ∷ ys} (Memᴰ.head e) h = rw (those_yes p y ys (ap p (sym e) ∙ h)) (Memᴰ.head e)
   among_those_from p {x} {xs = y ∷ ys} (Memᴰ.tail m) h = go (p y) refl (among_those_from p m h)
     where

@@ -98,6 +98,7 @@ each_also P Q f [] a = tt
 each_also P Q f (x ∷ xs) a = (f x a.0, each_also P Q f xs a.1)
 
 pub each_of : {A : Type 0} (P : A → Type 0) {x : A} {xs : List A} → Each P xs → Among x xs → P x
+each_of {A = A} P {xs = []} a x6 = elim x6 [ ]
 each_of P {xs = y ∷ ys} a (Memᴰ.head e) = subst P (sym e) a.0
 each_of P {xs = y ∷ ys} a (Memᴰ.tail m) = each_of P a.1 m
 

@@ -54,6 +54,7 @@ module _ {A : Type 0} where
 
   -- a member counts in the sum
   pub total_member : (f : A → ℕ) {x : A} {xs : List A} → Among x xs → f x ≤ total (map f xs)
+  total_member f {xs = []} x3 = elim x3 [ ]
   total_member f {xs = y ∷ ys} (Memᴰ.head e) = omega (arith, total_more f y ys, ap f e)
   total_member f {xs = y ∷ ys} (Memᴰ.tail m) = omega (arith, total_more f y ys, total_member f m)
 
