@@ -1,4 +1,6 @@
 // A batch of requests over lent lists: whether everything asked is a request, and the requests done one after another; and a whole call.
+#![tactic(auto)]
+
 ghost use Rattle.std.specs.Prelude.{◌≡◌, ◌&&◌, true, ◌+◌, ◌*◌, ◌≤◌, length};
 ghost use Rattle.std.proofs.Math.Option.{none};
 ghost use Rattle.std.proofs.lemmas.List.Edits.{sets};
@@ -16,7 +18,7 @@ use request::Served;
 use rules::{Answer, FoundRecord, Request};
 
 // How far a batch has come: the requests done, the places of the found list filled, and what is known of the free slots.
-#[derive(Drop)]
+#[derive(Clone, Copy)]
 struct Progress {
     done: usize,
     filled: usize,
@@ -24,7 +26,7 @@ struct Progress {
 }
 
 // What becomes of a request that is done: where its answer and its records go, and how far the batch has come then.
-#[derive(Drop)]
+#[derive(Clone, Copy)]
 struct Stepped {
     answer: Answer,
     place: usize,

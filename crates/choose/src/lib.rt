@@ -1,4 +1,6 @@
 // ChooseLeaf's step (CL3), over a node's entries as they lie in the pool, with the half perimeters of Req 05.
+#![tactic(auto)]
+
 ghost use Rattle.std.specs.Prelude.{◌≡◌, true, cond, ◌<◌, ◌≤◌, pos, length};
 ghost use Rattle.rules.specs.Geometry as G;
 ghost use Rattle.rules.specs.Layout as L;
@@ -12,7 +14,7 @@ use geometry::{key_by, place_by};
 use rules::{Rect, SlotNumber};
 
 // An entry's place, its enlargement for the new rectangle, and its area.
-#[derive(Drop)]
+#[derive(Clone, Copy)]
 pub struct Best {
     pub at: usize,
     pub grows: u64,

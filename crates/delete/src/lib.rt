@@ -1,4 +1,6 @@
 // Delete: the pair is taken out of its leaf, CondenseTree goes up the way that FindLeaf came down, and what was set aside is put in again.
+#![tactic(auto)]
+
 ghost use Rattle.std.specs.Prelude.{◌≡◌, true, [], ◌++◌, ◌+◌, ◌-◌, ◌≤◌, ◌<◌, length};
 ghost use Rattle.rules.specs.Pool as P;
 ghost use Rattle.rules.specs.Sound.{owners_sound};
@@ -26,7 +28,7 @@ const MOST_ASIDE: usize = (LEAST - 1) * (MOST_HEIGHT - 1);
 
 // What CondenseTree has in hand on its way up: the entries set aside, each with the level of the node that it was in, and what is known of
 // the free slots.
-#[derive(Drop)]
+#[derive(Clone, Copy)]
 struct Asides {
     entries: [Entry; MOST_ASIDE],
     levels: [usize; MOST_ASIDE],

@@ -1,1 +1,2 @@
 // No code: deleting keeps the tree, for any lawful choice of child and any lawful split.
+#![tactic(auto)]

@@ -1,1 +1,2 @@
 // No code: the customer's three demands, stated of what the exported functions promise.
+#![tactic(auto)]

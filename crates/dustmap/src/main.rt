@@ -1,5 +1,7 @@
 // The program as `rt` starts it. Its status is always 0, since `main` returns nothing: `tools/dustmap` starts the same function from C, and
 // hands its status on.
+#![tactic(auto)]
+
 fn main() {
     program::whole_run();
 }

@@ -1,6 +1,8 @@
 // Req 02, "Carry the map between offices": the records of a pool in one file, and a pool from such a file. The file is frames as in `dustmap`,
 // every frame of a kind having one size, so that record k of a file begins at byte 12 + 24k. Req 07, "the file .. gains edition 2": there each
 // record has its owner before it, and record k begins at byte 12 + 28k.
+#![tactic(auto)]
+
 ghost use Rattle.std.specs.Prelude.{◌≡◌, true, ◌++◌, map, ◌+◌, ◌*◌, ◌≤◌, ◌<◌, length, drop, pos};
 ghost use Rattle.std.proofs.Math.Option.{none};
 ghost use Rattle.std.proofs.lemmas.List.Edits.{sets};
@@ -319,7 +321,7 @@ fn put_file(pool: &[i32], items: &mut [i32], n: usize, count: usize, file: &mut 
 // ---- the writer
 
 // What is known before the first byte is written: n items of the first owner, and how many records the file has in all.
-#[derive(Drop)]
+#[derive(Clone, Copy)]
 struct FileCount {
     n: usize,
     count: usize,
@@ -502,7 +504,7 @@ fn fault_at(file: &[u8], edition: Edition, k: usize) -> i32
 // ---- the reader
 
 // What became of a record of the file: 0 and what is known of the free slots now, or the number that refuses the file.
-#[derive(Drop)]
+#[derive(Clone, Copy)]
 pub struct Taken {
     pub number: i32,
     pub free: FreeSlots,

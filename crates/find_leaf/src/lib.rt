@@ -1,5 +1,7 @@
 // FindLeaf, in a whole pool: the way down to the first exact pair. It is recursive with the level falling; from call to call the way is one
 // number, and it is written out level by level only where it is asked for.
+#![tactic(auto)]
+
 ghost use Rattle.std.specs.Prelude.{◌≡◌, true, ◌+◌, ◌*◌, ◌/◌, ◌%◌, ◌^◌, ◌≤◌, ◌<◌, length};
 ghost use Rattle.rules.specs.Lists.{one_of};
 ghost use Rattle.rules.specs.Numbers.{most};
@@ -16,7 +18,7 @@ use geometry::one_if;
 use rules::{Edition, MOST, MOST_HEIGHT, Record, RecordNumber, Rect, SlotNumber};
 
 // The way down to a pair: for each level, from 1 on, the node that is passed and the entry's place in it.
-#[derive(Drop)]
+#[derive(Clone, Copy)]
 pub struct Way {
     pub found: bool,
     pub nodes: [SlotNumber; MOST_HEIGHT],

@@ -1,4 +1,6 @@
 // Frames in, lines out: the bytes that `dustmap` reads and writes, and the numbers of a file's frames. There is no pool here and no system call.
+#![tactic(auto)]
+
 ghost use Rattle.std.specs.Prelude.{◌≡◌, [], ◌∷◌, ◌++◌, suc, min, ◌+◌, ◌*◌, ◌-◌, ◌%◌, ◌≤◌, ◌<◌, length, take, drop, get_or};
 ghost use Rattle.rules.specs.Geometry.{no_rect};
 ghost use Rattle.rules.specs.Frames as F;
@@ -132,7 +134,7 @@ pub fn put_word(out: &mut [u8], at: usize, z: i32) -> usize
 // ---- frames
 
 // What the bytes that have arrived show about the frame that they begin.
-#[derive(Drop)]
+#[derive(Clone, Copy)]
 pub enum Framed {
     // All of it is here: what it asks, and how many bytes it has.
     Asks { request: Request, size: usize },

@@ -1,4 +1,6 @@
 // The free slots of a pool: the lowest, how many there are, and what a batch knows of them.
+#![tactic(auto)]
+
 ghost use Rattle.std.specs.Prelude.{◌≡◌, true, cond, eqb, ◌-◌, ◌<◌, ◌≤◌, drop};
 ghost use Rattle.rules.specs.Numbers.{most_slots};
 ghost use Rattle.rules.specs.Layout as L;
@@ -9,7 +11,7 @@ ghost use Rattle.free_slots.specs.Known.{Known, less_slot, more_slot};
 use rules::{FreeSlot, SlotNumber};
 
 // What is known of the free slots: how many there are, and a slot below which there is none.
-#[derive(Drop)]
+#[derive(Clone, Copy)]
 pub struct FreeSlots {
     pub count: usize,
     pub low: SlotNumber,

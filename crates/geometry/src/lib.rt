@@ -1,5 +1,7 @@
 // Rectangles of whole millimetres, their comparison and their measures, as documents 01 and 02 have them. It knows nothing of nodes or pools.
 // A measure that cannot be negative is a u64; d can be, and is counted from -8,000,000,000,000,000,000.
+#![tactic(auto)]
+
 ghost use Rattle.std.specs.Prelude.{◌≡◌, true, cond, not, ◌&&◌, ◌||◌, ◌≤◌, pos, ◌-ℤ◌};
 ghost use Rattle.std.proofs.Math.IntN.{sub_ℕ};
 ghost use Rattle.std.specs.Int.Signed.{le_z};

@@ -1,4 +1,6 @@
 // Insert: ChooseLeaf down, SplitNode and AdjustTree up. Deletes put entries back by the same rules, each at its own level.
+#![tactic(auto)]
+
 ghost use Rattle.std.specs.Prelude.{◌≡◌, true, [], ◌∷◌, ◌++◌, map, suc, ◌-◌, ◌≤◌, ltb, length, take};
 ghost use Rattle.rules.specs.declared.FreeSlot.TheVariants.{At};
 ghost use Rattle.rules.specs.Numbers.{good_number};
@@ -21,7 +23,7 @@ use rules::{Entry, FreeSlot, MOST, NINE, Pointer, Record, Rect, SlotNumber};
 
 // What became of a node that was to take an entry: it is still one node; it is two, and the partner's entry is for the parent; or there was
 // no free slot.
-#[derive(Drop)]
+#[derive(Clone, Copy)]
 pub enum Growth {
     One(FreeSlots),
     Two(Entry, FreeSlots),
@@ -30,7 +32,7 @@ pub enum Growth {
 
 // What became of a change: it was made, with what is known of the free slots now; or "the rules call for a slot at a moment when none is
 // free".
-#[derive(Drop)]
+#[derive(Clone, Copy)]
 pub enum Outcome {
     Made(FreeSlots),
     Refused,

@@ -1,4 +1,6 @@
 // The map for other languages: the exported functions, with no `requires`.
+#![tactic(auto)]
+
 ghost use Rattle.std.specs.Prelude.{◌≡◌, pos};
 ghost use Rattle.rules.specs.declared.Edition.TheVariants as E;
 ghost use Rattle.rules.specs.Owners as O;
@@ -23,7 +25,7 @@ pub extern "C" fn dustmap_blank(pool: &mut [i32]) -> i32
 }
 
 // The edition that a number tells, with the number of a rule; or that they tell none.
-#[derive(Drop)]
+#[derive(Clone, Copy)]
 enum ToldEdition {
     Pool(Edition),
     Nothing,

@@ -1,4 +1,6 @@
 // Nodes: what a slot number and an entry stand for, a node's cover, an entry's rectangle made tight.
+#![tactic(auto)]
+
 ghost use Rattle.std.specs.Prelude.{◌≡◌, ◌<◌};
 ghost use Rattle.rules.specs.Layout as L;
 ghost use Rattle.rules.specs.Pool as P;

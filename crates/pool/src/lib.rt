@@ -1,6 +1,8 @@
 // The pool, word by word: the one crate that knows where a word stands. Here are the sizes and places, what is read and what is
 // written; `tidy` asks whether the words are a pool's and nothing else, `blank` makes them those of a blank pool. What is read is what
 // the definition `read` reads, of any words of a valid length.
+#![tactic(auto)]
+
 ghost use Rattle.std.specs.Prelude.{◌≡◌, true, false, not, ◌||◌, [], ◌∷◌, ◌++◌, ◌+◌, ◌-◌, ◌<◌, ◌≤◌, eqb, length, set, take, drop, replicate, pos};
 ghost use Rattle.std.proofs.lemmas.List.Edits.{sets};
 ghost use Rattle.rules.specs.declared.Edition.TheVariants as E;

@@ -1,6 +1,8 @@
 // The program `dustmap`: reads frames from standard input into a 128-slot pool and prints the lines of each. Crate `frames` knows how a
 // frame is read and how lines are written, and crate `request` what a request does; here one follows the other. What the system is asked
 // to read and to write is in `receive` and `send` alone.
+#![tactic(auto)]
+
 ghost use Rattle.std.specs.Prelude.{◌≡◌, true, suc, ◌+◌, ◌-◌, ◌≤◌, ◌<◌, min, length, replicate};
 ghost use Rattle.std.proofs.lemmas.List.Edits.{sets};
 ghost use Rattle.rules.specs.Pool.{number, no_record};
@@ -36,7 +38,7 @@ pub const ENDLESS: i32 = 4;
 
 // How far the run has come: so many frames came before, the bytes of the input from `at` up to `end` are not done, and the first `filled`
 // of the output are not written.
-#[derive(Drop)]
+#[derive(Clone, Copy)]
 struct Run {
     before: u64,
     free: FreeSlots,
@@ -46,7 +48,7 @@ struct Run {
 }
 
 // What is next: the next frame; more bytes, which are waited for; room for lines; or nothing, since the frame was bad.
-#[derive(Drop)]
+#[derive(Clone, Copy)]
 enum Then {
     Goes(Run),
     Waits(Run),
@@ -175,7 +177,7 @@ fn turn(pool: &mut [i32], work: &mut [i32], input: &[u8], run: Run, out: &mut [u
 // ---- the system's calls
 
 // What a call of `read` or `write` answered.
-#[derive(Drop)]
+#[derive(Clone, Copy)]
 enum Moved {
     // So many bytes, one or more.
     Bytes(usize),
@@ -214,7 +216,7 @@ fn what_moved(answer: isize, error: i32) -> Moved
 }
 
 // How far the output is written.
-#[derive(Drop)]
+#[derive(Clone, Copy)]
 enum Sent {
     UpTo(usize),
     Failed,
@@ -239,7 +241,7 @@ fn send(out: &[u8], sent: usize, filled: usize) -> Sent
 }
 
 // What came of writing all lines: the run goes on with an empty output, or only so many bytes were taken.
-#[derive(Drop)]
+#[derive(Clone, Copy)]
 enum Flushed {
     All(Run),
     Stopped(usize),
@@ -268,7 +270,7 @@ fn flush(out: &[u8], run: Run) -> Flushed
 }
 
 // What came of reading once.
-#[derive(Drop)]
+#[derive(Clone, Copy)]
 enum Got {
     // Some bytes, or none yet.
     Came(Run),
@@ -322,7 +324,7 @@ fn held(run: Run, end: usize) -> Run
 // ---- the run
 
 // What is next after a round: another, or the end of the run with its status.
-#[derive(Drop)]
+#[derive(Clone, Copy)]
 enum Step {
     Goes(Run),
     Ends(i32),

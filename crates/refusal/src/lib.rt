@@ -1,4 +1,6 @@
 // What refuses a call: the table's rows, in order.
+#![tactic(auto)]
+
 ghost use Rattle.std.specs.Prelude.{◌≡◌, not, ◌||◌, ltb, eqb};
 ghost use Rattle.rules.specs.Numbers.{most_requests};
 ghost use Rattle.refusal.specs.Refusing.{refusal_of};

@@ -1,4 +1,6 @@
 // One request: the checks in the table's order, and what an accepted one does.
+#![tactic(auto)]
+
 ghost use Rattle.std.specs.Prelude.{◌≡◌, true, false, ◌≤◌, ltb, length};
 ghost use Rattle.std.proofs.Math.Option.{some};
 ghost use Rattle.rules.specs.declared.Asked.TheVariants as K;
@@ -31,7 +33,7 @@ use insert::Outcome;
 use rules::{Answer, Asked, Edition, LEAST, Mode, Owner, Record, Rect, Reply, Request};
 
 // The outcome of a request: its answer, how many items wait in the workspace for the found list, and what is known of the free slots now.
-#[derive(Drop)]
+#[derive(Clone, Copy)]
 pub struct Served {
     pub answer: Answer,
     pub listed: usize,

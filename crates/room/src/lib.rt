@@ -1,4 +1,6 @@
 // Req 06, "Know before the truck leaves": whether an insert will fit, told from the pool as it is. Nothing is written.
+#![tactic(auto)]
+
 ghost use Rattle.std.specs.Prelude.{◌≡◌, true};
 ghost use Rattle.rules.specs.declared.InsertRoom.TheVariants.{Slots};
 ghost use Rattle.rules.specs.Geometry.{valid};

@@ -1,5 +1,6 @@
 // The things documents 01 and 02 speak of, as types that the code and the definitions in specs/ share.
 // There is no code here: specs/ says what is right, and the crates above cite it.
+#![tactic(auto)]
 
 // "M = 8 entries in a node at most, m = 3 at least (root excepted)."
 pub const MOST: usize = 8;
@@ -19,7 +20,7 @@ pub const MOST_REQUESTS: usize = 1024;
 
 // A closed rectangle in whole millimetres.
 #[repr(C)]
-#[derive(Drop)]
+#[derive(Clone, Copy)]
 pub struct Rect {
     pub lowX: i32,
     pub lowY: i32,
@@ -29,26 +30,26 @@ pub struct Rect {
 
 // The paper's tuple-identifier. It is never mixed with a slot number.
 #[repr(C)]
-#[derive(Drop)]
+#[derive(Clone, Copy)]
 pub struct RecordNumber(pub i32);
 
 // The paper's child-pointer. Slots are counted from 1.
-#[derive(Drop)]
+#[derive(Clone, Copy)]
 pub struct SlotNumber(pub usize);
 
 // Req 07: the pool's edition, "an enum that has no other".
-#[derive(Drop)]
+#[derive(Clone, Copy)]
 pub enum Edition {
     One,
     Two,
 }
 
 // Req 07: "an owner, 1 or 2". An entry of an edition 1 pool has none, which is 0.
-#[derive(Drop)]
+#[derive(Clone, Copy)]
 pub struct Owner(pub i32);
 
 // "A record is a record number and a rectangle." Req 07: "Each leaf entry gains an owner".
-#[derive(Drop)]
+#[derive(Clone, Copy)]
 pub struct Record {
     pub owner: Owner,
     pub number: RecordNumber,
@@ -57,28 +58,28 @@ pub struct Record {
 
 // A place of the found list: what is shown of a record to its owner.
 #[repr(C)]
-#[derive(Drop)]
+#[derive(Clone, Copy)]
 pub struct FoundRecord {
     pub number: RecordNumber,
     pub rect: Rect,
 }
 
 // "A leaf's pointer is a record number, any other a child slot." Beside a record number stands its owner.
-#[derive(Drop)]
+#[derive(Clone, Copy)]
 pub enum Pointer {
     Number(RecordNumber, Owner),
     Child(SlotNumber),
 }
 
 // An entry of a node.
-#[derive(Drop)]
+#[derive(Clone, Copy)]
 pub struct Entry {
     pub rect: Rect,
     pub pointer: Pointer,
 }
 
 // The lowest free slot, where there is one.
-#[derive(Drop)]
+#[derive(Clone, Copy)]
 pub enum FreeSlot {
     At(SlotNumber),
     Nowhere,
@@ -86,7 +87,7 @@ pub enum FreeSlot {
 
 // Req 01: "The comparison of two rectangles shall now say apart, inside, enclosing, equal or otherwise meeting": what the first is to the
 // second.
-#[derive(Drop)]
+#[derive(Clone, Copy)]
 pub enum Relation {
     Apart,
     Inside,
@@ -97,7 +98,7 @@ pub enum Relation {
 
 // "A search carries one of three modes": it lists every record that meets the window, "only records inside the window, or only those that
 // enclose it".
-#[derive(Drop)]
+#[derive(Clone, Copy)]
 pub enum Mode {
     Meeting,
     OnlyInside,
@@ -107,7 +108,7 @@ pub enum Mode {
 // A place of the lent request list. `kind` is 1 insert, 2 delete, 3 update, 4 search, 5 search inside, 6 search enclosing; `first` is the
 // rectangle inserted, deleted or to be replaced, or the window; `second` is an update's new one.
 #[repr(C)]
-#[derive(Drop)]
+#[derive(Clone, Copy)]
 pub struct Request {
     pub kind: i32,
     pub number: RecordNumber,
@@ -117,7 +118,7 @@ pub struct Request {
 
 // "A request is of one of the four kinds", with the fields that its kind uses and no other. A search has its mode and its window. Each is
 // the request of an owner.
-#[derive(Drop)]
+#[derive(Clone, Copy)]
 pub enum Asked {
     Insert(Record),
     Delete(Record),
@@ -126,7 +127,7 @@ pub enum Asked {
 }
 
 // The outcome of a request: a case for each row of the table of document 01 that speaks of requests.
-#[derive(Drop)]
+#[derive(Clone, Copy)]
 pub enum Reply {
     Changed,
     Listed { found: u32, start: u32, opened: u32 },
@@ -140,7 +141,7 @@ pub enum Reply {
 
 // A place of the answer list: the numbers of a reply.
 #[repr(C)]
-#[derive(Drop)]
+#[derive(Clone, Copy)]
 pub struct Answer {
     pub number: u32,
     pub found: u32,
@@ -150,7 +151,7 @@ pub struct Answer {
 
 // The outcome of a call: a case for each row of the table that speaks of calls, and one for a request list that holds something which is no
 // request.
-#[derive(Drop)]
+#[derive(Clone, Copy)]
 pub enum Verdict {
     Served,
     BadLists,
@@ -161,7 +162,7 @@ pub enum Verdict {
 }
 
 // Req 03: "Survey boxes come as four doubles, in millimetres."
-#[derive(Drop)]
+#[derive(Clone, Copy)]
 pub struct SurveyBox {
     pub lowX: f64,
     pub lowY: f64,
@@ -170,7 +171,7 @@ pub struct SurveyBox {
 }
 
 // "a query that is a point, a box or a disc (centre and radius, as doubles)"
-#[derive(Drop)]
+#[derive(Clone, Copy)]
 pub enum Query {
     Point { x: f64, y: f64 },
     Box(SurveyBox),
@@ -178,14 +179,14 @@ pub enum Query {
 }
 
 // What becomes of a survey box or a query: a rectangle in whole millimetres, or the refusal 12.
-#[derive(Drop)]
+#[derive(Clone, Copy)]
 pub enum Surveyed {
     Rounded(Rect),
     BadSurvey,
 }
 
 // Req 02: what refuses a file, or a write of one: a case for each number of its refusals.
-#[derive(Drop)]
+#[derive(Clone, Copy)]
 pub enum FileFault {
     BadLength,
     NotSound,
@@ -199,7 +200,7 @@ pub enum FileFault {
 }
 
 // Req 06: the slots that an insert of a rectangle would need, and those that are free; or what refuses to tell it, a case for each number.
-#[derive(Drop)]
+#[derive(Clone, Copy)]
 pub enum InsertRoom {
     Slots { needed: u32, free: u32 },
     BadLength,

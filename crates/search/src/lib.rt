@@ -5,6 +5,8 @@
 //
 // In a search the processor would guess wrong at about every second entry whether it meets the window, and a wrong guess costs more than the
 // comparison. So no branch is taken on that: every place is written down, and the next place is one further where the entry meets the window.
+#![tactic(auto)]
+
 ghost use Rattle.std.specs.Prelude.{◌≡◌, true, cond, [], ◌∷◌, ◌+◌, ◌*◌, ◌<◌, ◌≤◌, length, take, pos};
 ghost use Rattle.std.proofs.lemmas.List.Edits.{sets};
 ghost use Rattle.rules.specs.Numbers.{most};
@@ -24,7 +26,7 @@ use geometry::one_if;
 use rules::{Edition, MOST, Mode, Owner, RecordNumber, Rect, SlotNumber};
 
 // How far a walk has come: the next item's place, and the nodes opened.
-#[derive(Drop)]
+#[derive(Clone, Copy)]
 pub struct Walked {
     pub next: usize,
     pub opened: usize,

@@ -2,6 +2,8 @@
 // check calls the node check; the level and the entries left fall. Each slot that is met is marked, and one that is met again is refused:
 // so the walk looks at a node once, whatever the words are. Then every slot has to have been met, or to be all zero. The edition and the number
 // of slots are told by word 0 and the length: they are read once and handed on.
+#![tactic(auto)]
+
 ghost use Rattle.std.specs.Prelude.{◌≡◌, true, false, not, ◌&&◌, ◌||◌, [], ◌∷◌, ◌≤◌, eqb, leb, length, drop};
 ghost use Rattle.rules.specs.Lists.{every};
 ghost use Rattle.rules.specs.Numbers.{most, most_slots};
@@ -18,7 +20,7 @@ use rules::{Edition, LEAST, MOST_HEIGHT, MOST_SLOTS, Owner, Rect, SlotNumber};
 
 // What one look at a node's entries tells: "the smallest holding that node's entries", and whether each has a valid rectangle and a pointer
 // of 1 or more. "A leaf entry needs a valid rectangle and number": in a leaf, whether each is sound.
-#[derive(Drop)]
+#[derive(Clone, Copy)]
 struct Looked {
     cover: Rect,
     plain: bool,

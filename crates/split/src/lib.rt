@@ -1,6 +1,8 @@
 // Guttman's quadratic split of nine rectangles into two groups, with the ties of document 01 and the half perimeters of Req 05. It knows nothing
 // of pools: a place is a position among the nine, from 0. What is measured is kept: after a place has joined a group, only that group's
 // enlargements are measured again. The arrays stand in `split_nine` and `join_all` and are lent; no function copies one.
+#![tactic(auto)]
+
 ghost use Rattle.std.specs.Prelude.{◌≡◌, true, cond, ◌+◌, ◌-◌, ◌<◌, ◌≤◌, ltb, length, take, get_or, set, replicate, pos};
 ghost use Rattle.std.proofs.Math.IntN.{sub_ℕ};
 ghost use Rattle.rules.specs.Choose.{rect_from};
@@ -104,7 +106,7 @@ fn d_of(w: &[i32; CORNERS], areas: &[u64; NINE], i: usize, j: usize) -> u64
 }
 
 // Two places, the earlier first, and their d as `d_of` has it.
-#[derive(Drop)]
+#[derive(Clone, Copy)]
 pub struct KeyedSeeds {
     pub first: usize,
     pub second: usize,
@@ -272,7 +274,7 @@ fn left_of(i: usize, j: usize) -> [usize; NINE]
 // ---- a group
 
 // What is known of a group beside its places: how many, their cover and its area.
-#[derive(Drop)]
+#[derive(Clone, Copy)]
 pub struct Extent {
     pub count: usize,
     pub cover: Rect,
@@ -332,7 +334,7 @@ fn preference(at: usize, growOne: &[u64; NINE], growTwo: &[u64; NINE]) -> u64
 }
 
 // A position among the places left, and the preference of the place there.
-#[derive(Drop)]
+#[derive(Clone, Copy)]
 pub struct KeyedPlace {
     pub at: usize,
     pub key: u64,
@@ -511,14 +513,14 @@ fn second_first(growOne: u64, growTwo: u64, one: Extent, two: Extent, r: Rect) -
 }
 
 // Two groups.
-#[derive(Drop)]
+#[derive(Clone, Copy)]
 pub struct Extents {
     pub one: Extent,
     pub two: Extent,
 }
 
 // The place that joins next, by its position among those left, and whether it joins group 2.
-#[derive(Drop)]
+#[derive(Clone, Copy)]
 pub struct Joining {
     pub at: usize,
     pub second: bool,
@@ -637,7 +639,7 @@ fn assign(
 // ---- all nine
 
 // Two groups of places in the order of joining, with zeros after them; and the cover of group 2, which gets an entry of its own.
-#[derive(Drop)]
+#[derive(Clone, Copy)]
 pub struct Grouping {
     pub one: [usize; NINE],
     pub ones: usize,

@@ -1,4 +1,6 @@
 // The surveyor's boxes and dispatch's queries, in doubles, turned into rectangles of whole millimetres.
+#![tactic(auto)]
+
 ghost use Rattle.std.specs.Prelude.{◌≡◌, true};
 ghost use Rattle.rules.specs.Doubles as D;
 ghost use Rattle.rules.specs.Survey as S;
