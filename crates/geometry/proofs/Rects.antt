@@ -27,15 +27,15 @@ pub record ReadBack (r : Rect) : Type 0 where
 pub rect_back : (r : Rect) {A B C D E : Type 0} → (A × WordFits r.lowX) × ((B × WordFits r.lowY) × ((C × WordFits r.highX) × ((D × WordFits r.highY) × E)))
     → ReadBack r
 rect_back r g = record {
-  lowX = to_z-of_z (sfits_of g.0.1);
-  lowY = to_z-of_z (sfits_of g.1.0.1);
-  highX = to_z-of_z (sfits_of g.1.1.0.1);
-  highY = to_z-of_z (sfits_of g.1.1.1.0.1);
+  lowX = to_z-of_z {w = w32} (sfits_of g.0.1);
+  lowY = to_z-of_z {w = w32} (sfits_of g.1.0.1);
+  highX = to_z-of_z {w = w32} (sfits_of g.1.1.0.1);
+  highY = to_z-of_z {w = w32} (sfits_of g.1.1.1.0.1);
 }
 
 -- one of two numbers, by a function on their words
 pub by_words : (f : ℤ → ℤ → ℤ) {x y z : ℤ} → WordFits z → z ≡ f (back x) (back y) → back x ≡ x → back y ≡ y → back z ≡ f x y
-by_words f s e p q = to_z-of_z (sfits_of s) ∙ e ∙ ap₂ f p q
+by_words f s e p q = to_z-of_z {w = w32} (sfits_of s) ∙ e ∙ ap₂ f p q
 
 -- a test of two words is one of their numbers
 pub by_test_lem : {x y : ℤ} {s t : Bool} → SFits w32 x → SFits w32 y → s ≡ le_z (back x) (back y) → s ≡ t → le_z x y ≡ t

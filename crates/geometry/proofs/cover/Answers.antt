@@ -1,0 +1,7 @@
+use Rattle.std.proofs.Common.{rules, arith, sym, ◌∙◌, refl}
+use Rattle.rules.specs.Geometry.{cover}
+use Rattle.geometry.proofs.cover.Goals as goal
+
+pub returns : goal.returns
+unfolding cover
+returns c = search rules

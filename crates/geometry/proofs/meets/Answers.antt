@@ -1,0 +1,7 @@
+use Rattle.std.proofs.Common.{rules, arith, sym, ◌∙◌, refl}
+use Rattle.rules.specs.Geometry.{meets}
+use Rattle.geometry.proofs.meets.Goals as goal
+
+pub returns : goal.returns
+unfolding meets
+returns c = search rules

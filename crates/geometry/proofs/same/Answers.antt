@@ -1,0 +1,7 @@
+use Rattle.std.proofs.Common.{rules, arith, sym, ◌∙◌, refl}
+use Rattle.rules.specs.Lists.{same}
+use Rattle.geometry.proofs.same.Goals as goal
+
+pub returns : goal.returns
+unfolding same
+returns c = search rules
