@@ -70,6 +70,7 @@ fold_holds r {rs = y ∷ ys} (Memᴰ.tail m) = fold_holds (cover r y) m
 
 pub cover_all_holds : {x : Rect} {rs : List Rect} → Among x rs → HoldsRect (cover_all rs) x
 unfolding cover_all
+cover_all_holds {x = x} {rs = []} x'' = elim x'' [ ]
 cover_all_holds {x} {rs = y ∷ ys} (Memᴰ.head e) = subst (HoldsRect (foldl cover y ys)) (sym e) (fold_first y ys)
 cover_all_holds {rs = y ∷ ys} (Memᴰ.tail m) = fold_holds y m
 
