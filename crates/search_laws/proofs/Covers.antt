@@ -64,12 +64,14 @@ fold_first : (r : Rect) (rs : List Rect) → HoldsRect (foldl cover r rs) r
 fold_first r [] = holds_self r
 fold_first r (x ∷ rs) = holds_on (fold_first (cover r x) rs) (cover_one r x)
 
-fold_holds : (r : Rect) {x : Rect} {rs : List Rect} → Among x rs → HoldsRect (foldl cover r rs) x
-fold_holds r {x} {rs = y ∷ ys} (Memᴰ.head e) = holds_on (fold_first (cover r y) ys) (subst (HoldsRect (cover r y)) (sym e) (cover_two r y))
+fold_holds : {x : Rect} (r : Rect) {rs : List Rect} → Among x rs → HoldsRect (foldl cover r rs) x
+fold_holds {x = x} r {rs = []} x3 = elim x3 [ ]
+fold_holds {x} r {rs = y ∷ ys} (Memᴰ.head e) = holds_on (fold_first (cover r y) ys) (subst (HoldsRect (cover r y)) (sym e) (cover_two r y))
 fold_holds r {rs = y ∷ ys} (Memᴰ.tail m) = fold_holds (cover r y) m
 
 pub cover_all_holds : {x : Rect} {rs : List Rect} → Among x rs → HoldsRect (cover_all rs) x
 unfolding cover_all
+cover_all_holds {x = x} {rs = []} x'' = elim x'' [ ]
 cover_all_holds {x} {rs = y ∷ ys} (Memᴰ.head e) = subst (HoldsRect (foldl cover y ys)) (sym e) (fold_first y ys)
 cover_all_holds {rs = y ∷ ys} (Memᴰ.tail m) = fold_holds y m
 

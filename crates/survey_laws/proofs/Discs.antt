@@ -154,4 +154,4 @@ module _ (x y radius : Float) (d : OfDoubles (Disc x y radius)) where
 
     pub radius_not_negative : le_z (pos 0) (exact_of radius) ≡ true
     unfolding not_negative
-    radius_not_negative = (disc_parts x y radius disc_good.asked).not_negative
+    radius_not_negative = (disc_parts x y radius disc_good.asked).not_negative_lem

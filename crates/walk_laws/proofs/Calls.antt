@@ -3,13 +3,13 @@
 --     promised S c     the contract of a function with the parameters S and the clauses c
 --     tokens           a token for each lifetime
 --     calls            the step
---     one-fact, more-facts, says_all    what a callee asks, where it asks several things, or nothing: `◌∗◌` of facts, or `emp`
---     needs-none       the walked function itself asks nothing
+--     one_fact, more_facts, says_all    what a callee asks, where it asks several things, or nothing: `◌∗◌` of facts, or `emp`
+--     needs_none       the walked function itself asks nothing
 -- Assumes `Logic`, and that the table of calls is monotone under a frame, as every `Tables` is.
 use mathlib.Core.List.{List, [], ◌∷◌, ◌++◌}
 use Prim.Native.Nat.{ℕ, zero, suc}
 use seplogic.Ra.Ura.{Ura}
-use mir.Syntax.{Name, Place, Opd as Operand, Body, seq, call as callTo}
+use mir.Syntax.{Callee, Place, Opd as Operand, Body, seq, call as callTo}
 use mir.Val.{Val}
 use base.Logic.{SProp, ent, sep, emp, id⊢, via, comm∗, mono_l, mono_r, mono∗, emp∗, fst∗}
 use base.Fml.{flft}
@@ -72,7 +72,7 @@ module _ {M : Type 1} {𝓤 : Ura M} (𝓛 : Logic 𝓤) where
 
 -- ---- the call
 
-module _ {M : Type 1} {𝓤 : Ura M} {𝓛 : Logic 𝓤} {K : Type 0} {Γ : List (Item 𝓤)} {E : Env 𝓤 𝓛.H} {C : Calls 𝓤 𝓛.H} {f : Name}
+module _ {M : Type 1} {𝓤 : Ura M} {𝓛 : Logic 𝓤} {K : Type 0} {Γ : List (Item 𝓤)} {E : Env 𝓤 𝓛.H} {C : Calls 𝓤 𝓛.H} {f : Callee}
     {xs : List Operand} {Λ : Loops 𝓤 𝓛.H} {q : Post 𝓤 𝓛.H} {d : Place} {rest : Body} where
   open 𝓛 use {H}
 

@@ -3,7 +3,7 @@
 --     locals E vs          every local of E with its `dies`: those numbered in vs (in order) hold the value beside the number, the others nothing
 --     held, part           an operand: what a local holds; what one field of it holds.   The number is the place of the local's cell in the context
 --     pointed              the address that a field of a local points to, as `&mut *x` takes it of a slice x
---     puts, puts-last      an assignment to a local; one that ends its part of the code, as a turn
+--     puts, puts_last      an assignment to a local; one that ends its part of the code, as a turn
 --     free_all             the locals are freed, once they hold nothing
 --     rest_of              the code after k statements, for a lemma that starts inside a turn, which the generated MIR has under no name
 -- Each is a step of the kit with the place of a local filled in. Assumes `Logic`.
@@ -14,8 +14,8 @@ use mathlib.Core.Option.{some}
 use Prim.Native.Nat.{ℕ, zero, suc, ◌+◌}
 use lib.Dec.{eqb}
 use seplogic.Ra.Ura.{Ura}
-use seplogic.Ra.TreeShare.{full_share}
-use mir.Syntax.{Ty, deref, field, place, copy, addr_of, Rv as RValue, Body, skip, seq, assign, block, loop, cond, switch, exit, return, call}
+use base.Fraction.{full_share}
+use mir.Syntax.{Ty, deref, field, place, copy, addr_of, Rv as RValue, Body, skip, seq, assign, block, loop, cond, switch, exit, return, call, unreachable, call_v, lend_static}
 use mir.Val.{Val, vptr}
 use base.Fml.{Share, fat, froom, fdies}
 use prog.Memory.{field_of}
@@ -70,6 +70,9 @@ tail (switch c a) = skip
 tail (exit n) = skip
 tail return = skip
 tail (call f xs d) = skip
+tail unreachable = skip
+tail (call_v x s xs d) = skip
+tail (lend_static p τ c) = skip
 
 abbrev pub rest_of : ℕ → Body → Body
 rest_of zero b = b
