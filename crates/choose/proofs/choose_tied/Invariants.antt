@@ -1,0 +1,28 @@
+use borrow.Author.Rules.{rules}
+use mathlib.Core.Path.{◌≡◌, refl, sym, ◌∙◌}
+use mathlib.Core.List.{List}
+use Prim.Native.Nat.{ℕ, ◌+◌, ◌-◌, ◌≤◌, ◌<◌}
+use native.Mathlib.Omega.{arith}
+use lib.ListN.{length}
+use Rattle.rules.specs.declared.Rect.{Rect}
+use Rattle.rules.specs.Pool.{entries_at}
+use Rattle.rules.specs.Layout.{read}
+use Rattle.layout_laws.proofs.Parts.{length_rects}
+use Rattle.rules_laws.proofs.Rules.{chosen}
+use Rattle.choose.specs.declared.Best.{Best}
+use Rattle.choose.specs.State.{rects_of, Measured, better, ahead}
+use Rattle.choose.proofs.Turns.{keeps, step_kept, last}
+use Rattle.choose.proofs.choose_tied.Given as goal
+
+-- the best so far is measured, and the places from i on give what those from `from` on give
+pub record Turn (rs : List Rect) (new : Rect) (n first from : ℕ) (best : Best) (i : ℕ) : Type 0 where
+  pub size : n ≡ length rs
+  pub most : i ≤ n
+  pub held : Measured rs new best
+  pub rest : ahead rs new best.at i ≡ ahead rs new first from
+
+abbrev pub invariant-loop-i : goal.invariant-loop-i
+invariant-loop-i l = Turn (rects_of l.pool l.s) l.new l.n l.first l.from l.best l.i
+
+abbrev pub decreases-loop-i : goal.decreases-loop-i
+decreases-loop-i l = l.n - l.i

@@ -1,0 +1,23 @@
+use borrow.Author.Rules.{rules}
+use mathlib.Core.Path.{◌≡◌}
+use Prim.Native.Nat.{ℕ, ◌+◌, ◌-◌, ◌≤◌, ◌<◌}
+use native.Mathlib.Omega.{arith}
+use Rattle.rules.specs.Pool.{Pool, slot, node_at, free_count}
+use Rattle.rules.specs.Layout.{slot_count, read}
+use Rattle.sound_laws.proofs.Free.{is_free}
+use Rattle.layout_laws.proofs.Parts.{few_slots}
+use Rattle.layout_laws.proofs.Written.{read_slots}
+use Rattle.free_slots.proofs.Frees.{one_most, count_from, count_next, count_end, count_all}
+use Rattle.free_slots.proofs.free_count.Given as goal
+
+-- the free slots counted so far, with those from slot `at` on, are all
+pub record Turn (p : Pool) (free at : ℕ) : Type 0 where
+  pub low : 1 ≤ at
+  pub small : free < at
+  pub rest : free + count_from p at ≡ free_count p
+
+abbrev pub invariant-loop-at : goal.invariant-loop-at
+invariant-loop-at l = Turn (read l.pool) l.free l.at
+
+abbrev pub decreases-loop-at : goal.decreases-loop-at
+decreases-loop-at l = l.n + 1 - l.at

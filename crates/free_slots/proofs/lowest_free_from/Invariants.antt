@@ -1,0 +1,23 @@
+use borrow.Author.Rules.{rules}
+use mathlib.Core.Path.{◌≡◌, refl, sym, ◌∙◌}
+use Prim.Native.Nat.{ℕ, ◌+◌, ◌-◌, ◌≤◌}
+use native.Mathlib.Omega.{arith}
+use borrow.Author.Tests.{eq-eqb, ne_eqb}
+use lib.ListN.{length}
+use Rattle.rules.specs.Pool.{Pool}
+use Rattle.rules.specs.Layout.{read}
+use Rattle.layout_laws.proofs.Parts.{few_slots}
+use Rattle.layout_laws.proofs.Written.{read_slots}
+use Rattle.free_slots.proofs.Frees.{lowest_from, lowest_here, lowest_next, lowest_end}
+use Rattle.free_slots.proofs.lowest_free_from.Given as goal
+
+-- the slots from s on give what those from the first on give
+pub record Turn (p : Pool) (from s : ℕ) : Type 0 where
+  pub low : 1 ≤ s
+  pub rest : lowest_from p s ≡ lowest_from p from
+
+abbrev pub invariant-loop-s : goal.invariant-loop-s
+invariant-loop-s l = Turn (read l.pool) l.initial.s l.s
+
+abbrev pub decreases-loop-s : goal.decreases-loop-s
+decreases-loop-s l = l.n + 1 - l.s
