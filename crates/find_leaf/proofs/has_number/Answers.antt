@@ -1,0 +1,26 @@
+-- Each arm of the match is the pool's own edition.
+use mathlib.Core.Path.{sym, ◌∙◌}
+use Rattle.pool.proofs.Lengths.{some_word}
+use borrow.Author.Rules.{rules}
+use Rattle.find_leaf.proofs.has_number.Goals as goal
+
+pub edition_of-requires : goal.edition_of-requires
+edition_of-requires c = some_word c.args.pool.now c.requires.in_pool.right
+
+pub has_number_in-requires : goal.has_number_in-requires
+has_number_in-requires c =
+    let is = sym c.in-One.is ∙ c.edition_of.ensures in
+    record {
+      in_pool = c.requires.in_pool;
+      edition_value = is;
+      s_value = c.requires.s_value;
+    }
+
+pub has_number_in-requires-in-Two : goal.has_number_in-requires-in-Two
+has_number_in-requires-in-Two c =
+    let is = sym c.in-Two.is ∙ c.edition_of.ensures in
+    record {
+      in_pool = c.requires.in_pool;
+      edition_value = is;
+      s_value = c.requires.s_value;
+    }

@@ -1,0 +1,17 @@
+use mathlib.Core.Path.{refl}
+use Prim.Native.Nat.{◌-◌}
+use native.Mathlib.Omega.{arith}
+use mir.Syntax.{w32}
+use mir.Facts.{to_z-of_z}
+use borrow.Author.Rules.{sfits_of}
+use Rattle.rules.specs.Pool.{entry_at, entries_at}
+use Rattle.rules.specs.Layout.{read}
+use Rattle.find_leaf.specs.State.{has_number}
+use Rattle.find_leaf.proofs.Leaf.{Looked, look_on, looked_all}
+use Rattle.find_leaf.proofs.has_number_in.Given as goal
+
+abbrev pub invariant-loop-i : goal.invariant-loop-i
+invariant-loop-i l = Looked (has_number l.k) (entries_at (read l.pool) l.s) l.n l.any l.i
+
+abbrev pub decreases-loop-i : goal.decreases-loop-i
+decreases-loop-i l = l.n - l.i
