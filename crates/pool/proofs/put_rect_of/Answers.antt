@@ -1,0 +1,22 @@
+-- `pool::put_rect_of` meets its contract: the words of the rectangle are those of an entry that has its pointer already.
+use native.Mathlib.Omega.{arith}
+use Rattle.layout_laws.proofs.Parts.{slot_few}
+use Rattle.pool.proofs.Stores.{rect_inside, rect_stored}
+use borrow.Author.Rules.{rules}
+use Rattle.pool.proofs.put_rect_of.Goals as goal
+
+pub spot-at-requires : goal.spot-at-requires
+spot-at-requires c =
+    record {
+      in_pool = c.requires.in_pool;
+      i_lt_most = omega (arith, slot_few c.requires.in_pool, c.requires.i_in_bounds);
+    }
+
+pub put_rect-requires : goal.put_rect-requires
+put_rect-requires c =
+    rw c.spot-at.ensures (rect_inside c.requires.in_pool _ (omega (arith, slot_few c.requires.in_pool, c.requires.i_in_bounds)))
+
+pub returns : goal.returns
+returns c =
+    let both = rect_stored c.requires.fit_2 c.requires.in_pool c.args.i c.args.r c.requires.i_in_bounds c.put_rect.new.pool (rw (← c.spot-at.ensures) c.put_rect.ensures) in
+    record { is = both.0; fit = both.1 }

@@ -1,0 +1,15 @@
+use Rattle.pool.proofs.Lengths.{some_word}
+use Rattle.pool.proofs.rect_of.Goals as goal
+
+pub edition_of-requires : goal.edition_of-requires
+edition_of-requires c = some_word c.args.pool.now c.requires.in_pool.right
+
+pub rect_in-requires : goal.rect_in-requires
+rect_in-requires c = record {
+  in_pool = c.requires.in_pool;
+  edition_value = c.edition_of.ensures;
+  i_in_bounds = c.requires.i_in_bounds;
+}
+
+pub returns : goal.returns
+returns c = c.rect_in.ensures

@@ -1,0 +1,35 @@
+use mathlib.Core.Path.{ap, ap₂, ◌∙◌}
+use mathlib.Core.Bool.{◌&&◌}
+use lib.IntN.{pos}
+use native.Mathlib.Omega.{arith}
+use borrow.Author.Rules.{sfits_of}
+use Rattle.rules.specs.Owners.{edition_number}
+use Rattle.layout_laws.proofs.Parts.{right_size}
+use Rattle.pool.proofs.Lengths.{some_word}
+use Rattle.pool.proofs.Naturals.{word_read}
+use Rattle.pool.proofs.Tidied.{head_stands}
+use borrow.Author.Rules.{rules}
+use Rattle.pool.proofs.tidy.tidy_head.Goals as goal
+
+pub edition_of-requires : goal.edition_of-requires
+edition_of-requires c = some_word c.args.pool.now c.requires
+
+pub is_word-edition-requires : goal.is_word-edition-requires
+is_word-edition-requires c = some_word c.args.pool.now c.requires
+
+pub tidy_numbers-numbers-requires : goal.tidy_numbers-numbers-requires
+tidy_numbers-numbers-requires c = omega (arith, right_size c.args.pool.now c.requires)
+
+pub zeros-rest-requires : goal.zeros-rest-requires
+zeros-rest-requires c = record {
+  from_le_to = omega arith;
+  to_in_bounds = omega (arith, right_size c.args.pool.now c.requires);
+}
+
+pub returns : goal.returns
+returns c =
+    let w = c.args.pool.now in
+    let told = word_read (sfits_of c.edition_number.type_inv) (c.edition_number.ensures ∙ ap (λ e. pos (edition_number e)) c.edition_of.ensures) in
+    c.and-2.ensures
+    ∙ ap₂ ◌&&◌ (rw told at c.is_word-edition.ensures) (c.and.ensures ∙ ap₂ ◌&&◌ c.tidy_numbers-numbers.ensures c.zeros-rest.ensures)
+    ∙ head_stands w (omega (arith, right_size w c.requires))
