@@ -1,11 +1,11 @@
 -- What is written after what was written: the two texts stand as one.
 use mathlib.Core.Path.{◌≡◌, refl, sym, ap, ◌∙◌, subst}
-use mathlib.Core.List.{List, [], ◌∷◌, ◌++◌, append_assoc, append-nil}
-use Prim.Native.Nat.{ℕ, suc, ◌+◌, ◌-◌, ◌≤◌, ◌<◌}
+use mathlib.Core.List.{List, [], ◌∷◌, ◌++◌, append_assoc}
+use Prim.Native.Nat.{ℕ, suc, ◌+◌, ◌≤◌, ◌<◌}
 use native.Mathlib.Decide.{ℕ_discrete}
 use native.Mathlib.Omega.{arith}
-use lib.ListN.{length, set, get_or, take, drop, length-append, length-drop, drop_of_length-le}
-use lib.Seq.{set_out, sets, sets-eq, length-sets, take-length, take_all, drop-drop, length-take-le, get_or-take, get_or-drop, get_or-set_same, get_or-set_other, ext_get_or}
+use lib.ListN.{length, set, get_or, take, drop, length-append, length-drop}
+use lib.Seq.{set_out, sets, sets-eq, length-sets, drop-drop, length-take-le, get_or-take, get_or-drop, get_or-set_same, get_or-set_other, ext_get_or}
 use Rattle.frames.specs.Writing.{Wrote}
 
 module _ {A : Type 0} where
@@ -54,23 +54,13 @@ wrote_as {l} {a} {b} {m} {at} {n} e w = subst (λ (t : List ℕ). Wrote l at t m
 pub wrote_length : {l a m : List ℕ} {at n : ℕ} → Wrote l at a m n → length m ≡ length l
 wrote_length {l} {a} {m} {at} {n} w = ap length w.bytes ∙ length-sets l at a
 
--- a text that was copied to the front of the buffer's part from `at` on
-pub wrote_copy : (l text part : List ℕ) (at : ℕ) {n : ℕ} → at + length text ≤ length l
-    → part ≡ take (length text) text ++ drop (length text) (take (length l - at) (drop at l)) → n ≡ length text
-    → Wrote l at text (take at l ++ (part ++ drop (length l - at) (drop at l))) (at + n)
-wrote_copy l text part at h p e =
-    let d = length-drop at l in
+-- a text that stands in place of the n bytes from `at` on
+pub wrote_part : (l text part : List ℕ) (at n : ℕ) {p : ℕ} → at + length text ≤ length l → n ≡ length text → part ≡ text → p ≡ at + length text
+    → Wrote l at text (take at l ++ (part ++ drop n (drop at l))) p
+wrote_part l text part at n h e q f =
     record {
-      place = ap (λ (k : ℕ). at + k) e;
-      bytes = rw (
-        p,
-        take-length text,
-        take_all (length l - at) (drop at l) (omega arith),
-        drop_of_length-le (drop at l) {i = length l - at} (omega arith),
-        append-nil (text ++ drop (length text) (drop at l)),
-        drop-drop (length text) at l,
-        sets-eq text l at h,
-      )
+      place = f;
+      bytes = rw (q, e, drop-drop (length text) at l, sets-eq text l at h)
           (sym (append_assoc (take at l) text (drop (at + length text) l)));
     }
 

@@ -47,7 +47,7 @@ module _ {n : ℕ} (u : Upper n) where
 
 -- a word that a call gave, as the code goes on with it
 pub word_kept : {z : ℤ} → mag z < 2 ^ 31 → to_z w32 (of_z w32 z) ≡ z
-word_kept h = to_z-of_z (record { sfits = h })
+word_kept {z} h = to_z-of_z {w = w32} {z = z} (record { sfits = h })
 
 -- the machine's sum, for a number counted from the least of 32 bits
 pub lift_small : (z : ℤ) → mag z < 2 ^ 31 → lift z < 4294967296

@@ -400,8 +400,8 @@ pub fn bad_line(out: &mut [u8], at: usize, before: u64) -> usize
     ensures wrote { Wrote out.old at (F.bad_line (suc before)) out.new result }
     ensures short { result ≤ at + 31 }
 {
-    let text = bytes::copy(b"bad frame ", &mut out[at..]);
-    put_field(out, at + text, before + 1, b'\n')
+    out[at..at + 10].copy_from_slice(b"bad frame ");
+    put_field(out, at + 10, before + 1, b'\n')
 }
 
 // ---- the bytes that wait

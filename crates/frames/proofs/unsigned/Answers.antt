@@ -7,9 +7,7 @@ use lib.Signed.{mag}
 use Rattle.rules.specs.File.{unsigned}
 use Rattle.frames.specs.Places.{lift}
 use Rattle.frames.proofs.Words.{word_kept}
-use borrow.Author.Rules.{rules}
-use Rattle.frames.proofs.unsigned.Statement.{statement}
-use Rattle.frames.proofs.unsigned.Tie as tie
+use Rattle.frames.proofs.unsigned.Goals as goal
 
 lift-low : (z : ℤ) → mag z < 2 ^ 31 → {n : ℕ} → n ≡ lift z → n < 2147483648 → n + 2147483648 ≡ unsigned z
 unfolding unsigned
@@ -21,17 +19,12 @@ unfolding unsigned
 lift-high (pos k) e h = omega arith
 lift-high (negsuc k) e h = absurd (omega arith)
 
-returns : tie.Need-returns
-returns c =
-    let start = c.before.before in
-    lift-low start.args.z start.ranges.z.sfits
-    (c.before.lifted.ensures.0 ∙ ap lift (word_kept {z = start.args.z} start.ranges.z.sfits)) c.if1.true
+pub returns-then-up-lt2147483648 : goal.returns-then-up-lt2147483648
+returns-then-up-lt2147483648 c =
+    lift-low c.args.z c.ranges.z.sfits
+    (c.lifted-up.ensures.is ∙ ap lift (word_kept {z = c.args.z} c.ranges.z.sfits)) c.if-up-lt2147483648.true
 
-returns-2 : tie.Need-returns-2
-returns-2 c =
-    let start = c.before.before in
-    lift-high start.args.z (c.before.lifted.ensures.0 ∙ ap lift (word_kept {z = start.args.z} start.ranges.z.sfits))
-    c.if1.false
-
-pub unsigned_spec : {M : Type 1} → statement M
-unsigned_spec = tie.close (tie.spec (λ c κs. search rules) (λ c. search rules) returns returns-2)
+pub returns-else-up-lt2147483648 : goal.returns-else-up-lt2147483648
+returns-else-up-lt2147483648 c =
+    lift-high c.args.z (c.lifted-up.ensures.is ∙ ap lift (word_kept {z = c.args.z} c.ranges.z.sfits))
+    c.if-up-lt2147483648.false
