@@ -1,11 +1,4 @@
 -- How a closed history is written down, so that anyone can state what it should leave, write `unfolding document01` and prove it by `refl`.
-pub mod Mixed
-pub mod TwoLevels
-pub mod DeleteRefused
-pub mod UpdateRefused
-pub mod Modes
-pub mod Flat
-pub mod Upright
 use Rattle.std.specs.Prelude.{List, ◌++◌, map, ℕ, length, take, replicate, ℤ, pos, neg_ℤ}
 use Rattle.rules.specs.declared.Rect.{Rect}
 use Rattle.rules.specs.declared.Record.{Record}

@@ -25,10 +25,3 @@ pub mod Doubles
 pub mod Survey
 pub mod Computed
 pub mod Histories
-pub mod Examples
-pub mod ModeExamples
-pub mod RoadExamples
-pub mod FileExamples
-pub mod RoomExamples
-pub mod SurveyExamples
-pub mod OwnerExamples
