@@ -1,0 +1,21 @@
+use mathlib.Core.Path.{◌≡◌}
+use mathlib.Core.List.{List}
+use Prim.Native.Nat.{ℕ, ◌-◌}
+use lib.ListN.{drop}
+use lib.IntN.{ℤ}
+use Rattle.rules.specs.Lists.{every}
+use Rattle.rules.specs.Pool.{slot_numbers}
+use Rattle.rules.specs.Layout.{slot_count, read}
+use Rattle.sound.specs.Walked.{met_or_zero}
+use Rattle.sound.proofs.rest_zero_in.Given as goal
+
+-- the slots from the i-th on answer for all
+pub record Turn (w : List ℤ) (seen : List ℕ) (n i : ℕ) : Type 0 where
+  pub size : n ≡ slot_count w
+  pub rest : every (met_or_zero w seen) (drop i (slot_numbers (read w))) ≡ every (met_or_zero w seen) (slot_numbers (read w))
+
+abbrev pub invariant-loop-i : goal.invariant-loop-i
+invariant-loop-i l = Turn l.pool l.seen l.n l.i
+
+abbrev pub decreases-loop-i : goal.decreases-loop-i
+decreases-loop-i l = l.n - l.i

@@ -1,0 +1,11 @@
+use mathlib.Core.Path.{sym}
+use native.Mathlib.Omega.{arith}
+use Rattle.rules.specs.Pool.{entries_at}
+use Rattle.rules.specs.Layout.{read}
+use Rattle.sound.proofs.Everies.{every_none}
+use Rattle.sound.specs.Walked.{plain_entry}
+use Rattle.sound.proofs.root_leaf_sound.Goals as goal
+
+pub returns-then-n-eq0 : goal.returns-then-n-eq0
+returns-then-n-eq0 c =
+    sym (every_none plain_entry (entries_at (read c.args.pool.now) c.args.s) 0 (omega (arith, c.requires.n_value, c.if-n-eq0.true)))
