@@ -121,6 +121,52 @@ module _ (l : Lent) (f : Fine l) where
     pub few : prog.filled ≤ 32768 * prog.done
     pub batch : do_requests ours prog.done (drop prog.done qs) (batch_at prog pool answers found) ≡ batch_of l
 
+  -- the same of values that stand in a loop's variables
+  pub record Going (p : Progress) (pool work : List ℤ) (answers : List Answer) (found : List FoundRecord) : Type 0 where
+    pub within : p.done ≤ length qs
+    pub ready : Ready pool p.free
+    pub edition : edition_of pool ≡ edition_of l.pool
+    pub pool_long : length pool ≡ length l.pool
+    pub work_long : length work ≡ length l.workspace
+    pub answers_long : length answers ≡ length l.answers
+    pub found_long : length found ≡ length l.found
+    pub space : p.filled ≤ length l.found
+    pub few : p.filled ≤ 32768 * p.done
+    pub batch : do_requests ours p.done (drop p.done qs) (batch_at p pool answers found) ≡ batch_of l
+
+  abbrev pub st_of : (p : Progress) (pool work : List ℤ) (answers : List Answer) (found : List FoundRecord) → Going p pool work answers found → St
+  st_of p pool work answers found g = record {
+    prog = p;
+    pool = pool;
+    work = work;
+    answers = answers;
+    found = found;
+    within = g.within;
+    ready = g.ready;
+    edition = g.edition;
+    pool_long = g.pool_long;
+    work_long = g.work_long;
+    answers_long = g.answers_long;
+    found_long = g.found_long;
+    space = g.space;
+    few = g.few;
+    batch = g.batch;
+  }
+
+  abbrev pub going : (s : St) → Going s.prog s.pool s.work s.answers s.found
+  going s = record {
+    within = s.within;
+    ready = s.ready;
+    edition = s.edition;
+    pool_long = s.pool_long;
+    work_long = s.work_long;
+    answers_long = s.answers_long;
+    found_long = s.found_long;
+    space = s.space;
+    few = s.few;
+    batch = s.batch;
+  }
+
   abbrev pub ≺ : St → St → Type 0
   ≺ s t = length qs - s.prog.done < length qs - t.prog.done
 

@@ -2,7 +2,10 @@
 use mathlib.Core.Path.{◌≡◌, refl, sym, ap, subst, ◌∙◌}
 use mathlib.Core.Bool.{Bool, true, false, not}
 use mathlib.Core.List.{List}
-use mathlib.Core.Option.{none, some}
+use mathlib.Core.Option.{Option, none, some}
+use borrow.Author.Tests.{eqb-true, eq-eqb}
+use Rattle.rules_laws.proofs.Bools.{not_true, not_false}
+use Rattle.rules_laws.proofs.Orders.{never_both}
 use lib.ListN.{length}
 use lib.Dec.{eqb}
 use lib.IntN.{ℤ, pos}
@@ -63,6 +66,21 @@ module _ (l : Lent) (all : Bool) (asked : all ≡ every is_request l.requests) (
         answers = ap (λ (x : Left). x.answers) (sym (call_refused l v h));
         found = ap (λ (x : Left). x.found) (sym (call_refused l v h));
       }
+
+  -- the two ways on from the number
+  pub when_refused : (of_z w32 z ≡ 0 → ⊥) → Allowed l (left z l.pool l.workspace l.answers l.found)
+  when_refused n = go (call_fault l) refl
+    where
+      go : (o : Option Verdict) → call_fault l ≡ o → Allowed l (left z l.pool l.workspace l.answers l.found)
+      go none h = absurd (n (eqb-true (of_z w32 z) 0 (not_false _ (not_refused h))))
+      go (some v) h = left_alone v h
+
+  pub when_served : of_z w32 z ≡ 0 → call_fault l ≡ none
+  when_served e = go (call_fault l) refl
+    where
+      go : (o : Option Verdict) → call_fault l ≡ o → call_fault l ≡ none
+      go none h = h
+      go (some v) h = never_both (eq-eqb (of_z w32 z) 0 e) (not_true _ (is_refused v h))
 
 -- "On return 0 the workspace equals the pool."
 pub left_served : (l : Lent) → call_fault l ≡ none → (pool work : List ℤ) (answers : List Answer) (found : List FoundRecord)
