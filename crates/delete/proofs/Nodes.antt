@@ -10,7 +10,7 @@ use Rattle.rules.specs.declared.SlotNumber.{SlotNumber}
 use Rattle.rules.specs.declared.Entry.{Entry}
 use Rattle.rules.specs.Lists.{without}
 use Rattle.rules.specs.Numbers.{most_slots}
-use Rattle.rules.specs.Pool.{Node, Pool, slot, no_entry, node_at, entries_at, free_count, put_entries}
+use Rattle.rules.specs.Pool.{Node, Pool, no_entry, node_at, entries_at, free_count, put_entries}
 use Rattle.rules.specs.Layout.{edition_of, read}
 use Rattle.rules.specs.Delete.{place, take_out}
 use Rattle.rules_laws.proofs.Places.{at_place, each_at}

@@ -23,7 +23,7 @@ use Rattle.rules.specs.Layout.{valid_size, edition_of, valid_length, words, read
 use Rattle.rules.specs.Sound.{sound}
 use Rattle.rules.specs.Insert.{ours}
 use Rattle.rules.specs.Answers.{row, first_row}
-use Rattle.rules.specs.Call.{Lent, Left, is_request, call_fault, refused, call_by, call}
+use Rattle.rules.specs.Call.{Lent, Left, is_request, call_fault, call_by, call}
 use Rattle.rules_laws.proofs.Orders.{never_both}
 use Rattle.rules_laws.proofs.Places.{Each}
 use Rattle.rules_laws.proofs.Parts.{those_yes, those_no, those_none}

@@ -31,7 +31,7 @@ use Rattle.nodes.specs.Reading.{LeadsOn}
 use Rattle.nodes.proofs.Tight.{rect_made}
 use Rattle.insert_laws.specs.Grown as G
 use Rattle.insert_laws.proofs.Tighten.{tighten_grew, grew_beside}
-use Rattle.insert_laws.proofs.Below.{below_here, below_down, way, adjust_kept, adjust_split, adjust_full, below_grows}
+use Rattle.insert_laws.proofs.Below.{below_here, below_down, adjust_kept, adjust_split, adjust_full, below_grows}
 use Rattle.insert_laws.proofs.Beside.{among_here, top_same}
 use Rattle.insert_laws.proofs.Widened.{below_cover}
 use Rattle.insert.specs.declared.Growth.{Growth}

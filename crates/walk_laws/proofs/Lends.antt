@@ -14,7 +14,7 @@ use base.Fraction.{full_share}
 use mir.Syntax.{Lifetime}
 use base.Fml.{Lft, GName, Share, Fml, fsep, flft, flent, fobor, fobs, fauth}
 use types.Logic.{Logic}
-use types.Kit.{Goal, Soaks, Item, ‵, ◌⊛◌, some, later, Seq, Step, step, ◌$◌, move, drop, use1, use2, use3, split, pick, rewrite, fsplit, fjoin, feq_i, await}
+use types.Kit.{Goal, Soaks, Item, ‵, ◌⊛◌, some, later, Seq, Step, step, ◌$◌, move, drop, use2, use3, split, pick, rewrite, fsplit, fjoin, feq_i, await}
 use types.Tokens.{lft_new, lft_end, lent_back}
 use types.Share.{arr_parts}
 use denote.RattleType.{RattleType}

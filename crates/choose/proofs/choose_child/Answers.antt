@@ -1,21 +1,19 @@
 -- `choose::choose_child` meets its contract: a turn keeps the one with the less enlargement, or hands a tie on.
-use borrow.Author.Rules.{rules}
 use mathlib.Core.Path.{◌≡◌, sym, ◌∙◌}
 use mathlib.Core.Bool.{cond}
 use mathlib.Core.List.{List}
-use Prim.Native.Nat.{ℕ, ◌+◌, ◌-◌, ◌≤◌, ◌<◌}
+use Prim.Native.Nat.{ℕ, ◌+◌, ◌<◌}
 use native.Mathlib.Omega.{arith}
 use lib.Dec.{ltb}
-use lib.ListN.{length}
 use lib.IntN.{pos}
 use Rattle.rules.specs.declared.Rect.{Rect}
 use Rattle.rules.specs.Geometry.{enlargement}
 use Rattle.rules.specs.Pool.{entries_at}
 use Rattle.rules.specs.Layout.{read}
-use Rattle.rules.specs.Choose.{rect_from, choose_child}
+use Rattle.rules.specs.Choose.{rect_from}
 use Rattle.layout_laws.proofs.Parts.{length_rects}
 use Rattle.rules_laws.proofs.Rules.{chosen}
-use Rattle.choose.specs.State.{rects_of, ahead}
+use Rattle.choose.specs.State.{rects_of}
 use Rattle.choose.proofs.Turns.{in_node, step_least, least_is, first, last}
 use Rattle.choose.proofs.choose_child.Invariants.{Turn}
 use Rattle.choose.proofs.choose_child.Goals as goal

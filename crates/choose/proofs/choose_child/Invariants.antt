@@ -1,21 +1,12 @@
-use borrow.Author.Rules.{rules}
-use mathlib.Core.Path.{◌≡◌, sym, ◌∙◌}
-use mathlib.Core.Bool.{cond}
+use mathlib.Core.Path.{◌≡◌}
 use mathlib.Core.List.{List}
-use Prim.Native.Nat.{ℕ, ◌+◌, ◌-◌, ◌≤◌, ◌<◌}
-use native.Mathlib.Omega.{arith}
-use lib.Dec.{ltb}
+use Prim.Native.Nat.{ℕ, ◌-◌, ◌≤◌, ◌<◌}
 use lib.ListN.{length}
 use lib.IntN.{pos}
 use Rattle.rules.specs.declared.Rect.{Rect}
 use Rattle.rules.specs.Geometry.{enlargement}
-use Rattle.rules.specs.Pool.{entries_at}
-use Rattle.rules.specs.Layout.{read}
 use Rattle.rules.specs.Choose.{rect_from, choose_child}
-use Rattle.layout_laws.proofs.Parts.{length_rects}
-use Rattle.rules_laws.proofs.Rules.{chosen}
 use Rattle.choose.specs.State.{rects_of, ahead}
-use Rattle.choose.proofs.Turns.{in_node, step_least, least_is, first, last}
 use Rattle.choose.proofs.choose_child.Given as goal
 
 -- the least enlargement so far is that of its place, and the places from i on give what all give

@@ -1,17 +1,15 @@
 -- `choose::choose_tied` meets its contract: a turn keeps the better of the best entry and the next.
-use borrow.Author.Rules.{rules}
 use mathlib.Core.Path.{◌≡◌, refl, sym, ◌∙◌}
 use mathlib.Core.List.{List}
-use Prim.Native.Nat.{ℕ, ◌+◌, ◌-◌, ◌≤◌, ◌<◌}
+use Prim.Native.Nat.{ℕ, ◌+◌, ◌<◌}
 use native.Mathlib.Omega.{arith}
-use lib.ListN.{length}
 use Rattle.rules.specs.declared.Rect.{Rect}
 use Rattle.rules.specs.Pool.{entries_at}
 use Rattle.rules.specs.Layout.{read}
 use Rattle.layout_laws.proofs.Parts.{length_rects}
 use Rattle.rules_laws.proofs.Rules.{chosen}
 use Rattle.choose.specs.declared.Best.{Best}
-use Rattle.choose.specs.State.{rects_of, Measured, better, ahead}
+use Rattle.choose.specs.State.{rects_of, Measured, better}
 use Rattle.choose.proofs.Turns.{keeps, step_kept, last}
 use Rattle.choose.proofs.choose_tied.Invariants.{Turn}
 use Rattle.choose.proofs.choose_tied.Goals as goal

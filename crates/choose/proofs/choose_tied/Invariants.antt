@@ -1,17 +1,10 @@
-use borrow.Author.Rules.{rules}
-use mathlib.Core.Path.{◌≡◌, refl, sym, ◌∙◌}
+use mathlib.Core.Path.{◌≡◌}
 use mathlib.Core.List.{List}
-use Prim.Native.Nat.{ℕ, ◌+◌, ◌-◌, ◌≤◌, ◌<◌}
-use native.Mathlib.Omega.{arith}
+use Prim.Native.Nat.{ℕ, ◌-◌, ◌≤◌}
 use lib.ListN.{length}
 use Rattle.rules.specs.declared.Rect.{Rect}
-use Rattle.rules.specs.Pool.{entries_at}
-use Rattle.rules.specs.Layout.{read}
-use Rattle.layout_laws.proofs.Parts.{length_rects}
-use Rattle.rules_laws.proofs.Rules.{chosen}
 use Rattle.choose.specs.declared.Best.{Best}
-use Rattle.choose.specs.State.{rects_of, Measured, better, ahead}
-use Rattle.choose.proofs.Turns.{keeps, step_kept, last}
+use Rattle.choose.specs.State.{rects_of, Measured, ahead}
 use Rattle.choose.proofs.choose_tied.Given as goal
 
 -- the best so far is measured, and the places from i on give what those from `from` on give

@@ -1,5 +1,4 @@
 use mathlib.Core.Path.{sym, ◌∙◌}
-use borrow.Author.Rules.{rules}
 use Rattle.choose.proofs.keep.Goals as goal
 
 pub returns-then-is_better : goal.returns-then-is_better

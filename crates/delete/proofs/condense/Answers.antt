@@ -1,12 +1,9 @@
 -- `delete::condense` meets its contract: the leaf's entry is out, and each turn relieves the node one level up.
 use borrow.Author.Rules.{rules}
-use mathlib.Core.Path.{◌≡◌, ◌∙◌}
-use lib.ListN.{length}
-use Prim.Native.Nat.{◌-◌}
 use native.Mathlib.Omega.{arith}
 use Rattle.rules.specs.Layout.{read}
 use Rattle.delete.proofs.Nodes.{few_read}
-use Rattle.delete.proofs.Climb.{leaf_there, leaf_rewritable, Climbing, climbing_child, climbing_known, climbing_few, climbing_next, climbing_first, climbing_last}
+use Rattle.delete.proofs.Climb.{leaf_there, leaf_rewritable, climbing_child, climbing_known, climbing_few, climbing_next, climbing_first, climbing_last}
 use Rattle.delete.proofs.condense.Goals as goal
 
 pub take_out-requires : goal.take_out-requires

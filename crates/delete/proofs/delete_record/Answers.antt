@@ -1,14 +1,8 @@
 -- `delete::delete_record` meets its contract: each step leaves what the next one asks; where the leaf is not thin, all is done at once.
-use Prim.Native.Nat.{ℕ, ◌-◌}
-use mathlib.Core.Path.{◌≡◌, sym, ◌∙◌}
-use mathlib.Core.List.{List}
-use lib.IntN.{ℤ}
-use Rattle.rules.specs.Pool.{put_records}
-use Rattle.rules.specs.Layout.{read}
+use mathlib.Core.Path.{sym, ◌∙◌}
 use Rattle.rules_laws.proofs.Bools.{not_true}
 use Rattle.delete.proofs.Deleted.{ToDelete, CountedOff, some_record, records_small, down_way, down_known, back_waits, back_owned}
 use Rattle.delete.proofs.Deleted.{leaf_in, way_keeps, kept_made, asides_few, back_high, back_known, deleted}
-use borrow.Author.Rules.{rules}
 use Rattle.delete.proofs.delete_record.Goals as goal
 
 pub count_off-requires : goal.count_off-requires

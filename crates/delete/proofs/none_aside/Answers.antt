@@ -1,7 +1,6 @@
 -- `delete::none_aside` meets its contract: none is counted.
 use mathlib.Core.Path.{refl}
 use Rattle.delete.proofs.Listed.{listed_none}
-use borrow.Author.Rules.{rules}
 use Rattle.delete.proofs.none_aside.Goals as goal
 
 pub returns : goal.returns

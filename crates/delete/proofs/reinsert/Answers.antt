@@ -1,7 +1,7 @@
 -- `delete::reinsert` meets its contract: each turn puts the next entry back; what is left gives what the whole gives.
 use borrow.Author.Rules.{rules}
 use native.Mathlib.Omega.{arith}
-use Rattle.delete.proofs.Backs.{Returning, next_upright, next_level, next_goes, returning_next, returning_refused, returning_last, returning_first}
+use Rattle.delete.proofs.Backs.{next_upright, next_level, next_goes, returning_next, returning_refused, returning_last, returning_first}
 use Rattle.delete.proofs.reinsert.Goals as goal
 
 pub loop-left-init : goal.loop-left-init

@@ -1,6 +1,4 @@
-use borrow.Author.Rules.{rules}
-use native.Mathlib.Omega.{arith}
-use Rattle.delete.proofs.Backs.{Returning, next_upright, next_level, next_goes, returning_next, returning_refused, returning_last, returning_first}
+use Rattle.delete.proofs.Backs.{Returning}
 use Rattle.delete.proofs.reinsert.Given as goal
 
 abbrev pub invariant-loop-left : goal.invariant-loop-left

@@ -7,7 +7,6 @@ use Rattle.free_slots.specs.declared.FreeSlots.{FreeSlots}
 use Rattle.sound_laws.specs.Tree.{Slot}
 use Rattle.delete.proofs.Nodes.{few_read, in_pool_lem, free_few}
 use Rattle.delete.proofs.Relieved.{child_leads, out_slot, has_gone, has_tight}
-use borrow.Author.Rules.{rules}
 use Rattle.delete.proofs.relieve.Goals as goal
 
 pub count_of-requires : goal.count_of-requires

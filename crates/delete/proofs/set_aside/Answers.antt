@@ -1,13 +1,12 @@
 -- `delete::set_aside` meets its contract: each turn sets the next entry aside, after those before.
 use mathlib.Core.Path.{refl, ap, ◌∙◌}
 use mathlib.Core.List.{List, ◌++◌}
-use Prim.Native.Nat.{◌-◌}
 use native.Mathlib.Omega.{arith}
-use Rattle.rules.specs.Pool.{entries_at, entry_at, entry_from}
+use Rattle.rules.specs.Pool.{entry_at, entry_from}
 use Rattle.rules.specs.Layout.{read}
 use Rattle.rules.specs.Delete.{Aside}
 use Rattle.delete.specs.Aside.{asides_of}
-use Rattle.delete.proofs.Listed.{Setting, setting_first, setting_next, setting_last, asides_are}
+use Rattle.delete.proofs.Listed.{setting_first, setting_next, setting_last, asides_are}
 use Rattle.delete.proofs.set_aside.Goals as goal
 
 pub count_of-n-requires : goal.count_of-n-requires

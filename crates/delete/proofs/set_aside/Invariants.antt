@@ -1,12 +1,7 @@
-use mathlib.Core.Path.{refl, ap, ◌∙◌}
-use mathlib.Core.List.{List, ◌++◌}
 use Prim.Native.Nat.{◌-◌}
-use native.Mathlib.Omega.{arith}
-use Rattle.rules.specs.Pool.{entries_at, entry_at, entry_from}
+use Rattle.rules.specs.Pool.{entries_at}
 use Rattle.rules.specs.Layout.{read}
-use Rattle.rules.specs.Delete.{Aside}
-use Rattle.delete.specs.Aside.{asides_of}
-use Rattle.delete.proofs.Listed.{Setting, setting_first, setting_next, setting_last, asides_are}
+use Rattle.delete.proofs.Listed.{Setting}
 use Rattle.delete.proofs.set_aside.Given as goal
 
 abbrev pub invariant-loop-k : goal.invariant-loop-k

@@ -11,7 +11,6 @@ use Rattle.sound_laws.specs.Tree.{Slot}
 use Rattle.sound_laws.proofs.Walk.{tree_positive}
 use Rattle.delete.proofs.Nodes.{few_read, in_pool_lem, free_few}
 use Rattle.delete.proofs.Shorts.{root_slot, root_inner, only_slot, short_leaf, short_more, holds_same, holds_lower}
-use borrow.Author.Rules.{rules}
 use Rattle.delete.proofs.shorten.Goals as goal
 
 pub returns-then-height-eq1 : goal.returns-then-height-eq1

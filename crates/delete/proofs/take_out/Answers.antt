@@ -2,7 +2,6 @@
 use mathlib.Core.Path.{◌∙◌}
 use Rattle.delete.proofs.Nodes.{in_pool_lem, taken_out}
 use Rattle.rules.specs.Layout.{read}
-use borrow.Author.Rules.{rules}
 use Rattle.delete.proofs.take_out.Goals as goal
 
 pub take_entry-requires : goal.take_entry-requires

@@ -1,14 +1,12 @@
 -- `delete::tighten_up` meets its contract: the pair is out, each turn makes the next cover tight, and the first that stays is the last.
 use borrow.Author.Rules.{rules}
-use mathlib.Core.Path.{◌≡◌, sym, ◌∙◌}
-use lib.ListN.{length}
-use Prim.Native.Nat.{◌-◌}
+use mathlib.Core.Path.{sym, ◌∙◌}
 use native.Mathlib.Omega.{arith}
 use Rattle.rules.specs.Layout.{read}
 use Rattle.rules_laws.proofs.Bools.{not_true}
 use Rattle.delete.proofs.Nodes.{few_read}
 use Rattle.delete.proofs.Climb.{leaf_there, leaf_rewritable}
-use Rattle.delete.proofs.Stops.{Tightening, tights_done, out_still, tightening_child, tightening_first, tightening_next, tightening_stop, tightening_last}
+use Rattle.delete.proofs.Stops.{tights_done, out_still, tightening_child, tightening_first, tightening_next, tightening_stop, tightening_last}
 use Rattle.delete.proofs.tighten_up.Goals as goal
 
 pub take_out-requires : goal.take_out-requires

@@ -6,7 +6,6 @@ use Rattle.nodes.proofs.Tight.{tighten_made}
 use Rattle.delete.proofs.Nodes.{in_pool_lem}
 use Rattle.delete.proofs.Relieved.{child_leads}
 use Rattle.delete.proofs.Stops.{wide_told, not_wide}
-use borrow.Author.Rules.{rules}
 use Rattle.delete.proofs.tightened.Goals as goal
 
 pub cover_of-rect-requires : goal.cover_of-rect-requires

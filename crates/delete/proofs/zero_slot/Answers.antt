@@ -1,7 +1,6 @@
 -- `delete::zero_slot` meets its contract: a node of level 0 with no entries is written.
 use native.Mathlib.Omega.{arith}
 use Rattle.rules.specs.Pool.{zero_slot}
-use borrow.Author.Rules.{rules}
 use Rattle.delete.proofs.zero_slot.Goals as goal
 
 pub put_node-requires : goal.put_node-requires

@@ -1,13 +1,13 @@
 -- A leaf is looked through; an inner node goes hit by hit, and the level falls from call to call.
 use mathlib.Core.Path.{refl, ap, ◌∙◌}
-use Prim.Native.Nat.{ℕ, ◌-◌, ◌<◌}
+use Prim.Native.Nat.{◌-◌}
 use native.Mathlib.Omega.{arith}
 use Rattle.rules.specs.declared.SlotNumber.{SlotNumber}
 use Rattle.rules.specs.Delete.{find_leaf}
 use Rattle.rules.specs.Layout.{read}
 use Rattle.sound_laws.proofs.Walk.{tree_node, tree_positive}
 use Rattle.find_leaf.specs.Packed.{packed_way}
-use Rattle.find_leaf.proofs.Inner.{tree_in, above_leaf, no_leaf, child_tree, way_fits, Left, hit_there, left_first, left_found, left_next, left_end}
+use Rattle.find_leaf.proofs.Inner.{tree_in, above_leaf, no_leaf, child_tree, way_fits, hit_there, left_first, left_found, left_next, left_end}
 use Rattle.find_leaf.proofs.+find_in.Goals as goal
 
 pub find_entry-requires : goal.find_entry-requires

@@ -1,12 +1,6 @@
-use mathlib.Core.Path.{refl, ap, ◌∙◌}
-use Prim.Native.Nat.{ℕ, ◌-◌, ◌<◌}
-use native.Mathlib.Omega.{arith}
-use Rattle.rules.specs.declared.SlotNumber.{SlotNumber}
-use Rattle.rules.specs.Delete.{find_leaf}
+use Prim.Native.Nat.{◌-◌}
 use Rattle.rules.specs.Layout.{read}
-use Rattle.sound_laws.proofs.Walk.{tree_node, tree_positive}
-use Rattle.find_leaf.specs.Packed.{packed_way}
-use Rattle.find_leaf.proofs.Inner.{tree_in, above_leaf, no_leaf, child_tree, way_fits, Left, hit_there, left_first, left_found, left_next, left_end}
+use Rattle.find_leaf.proofs.Inner.{Left}
 use Rattle.find_leaf.proofs.+find_in.Given as goal
 
 abbrev pub invariant-loop-k : goal.invariant-loop-k

@@ -1,10 +1,9 @@
 -- Where no entry has the number, none is the pair; else the first that is.
 use mathlib.Core.Path.{sym, ◌∙◌}
-use Prim.Native.Nat.{◌-◌}
 use native.Mathlib.Omega.{arith}
 use Rattle.rules.specs.Layout.{read}
 use Rattle.rules_laws.proofs.Bools.{not_true}
-use Rattle.find_leaf.proofs.Leaf.{Ahead, leaf_unnumbered, ahead_first, ahead_here, ahead_next, ahead_end}
+use Rattle.find_leaf.proofs.Leaf.{leaf_unnumbered, ahead_first, ahead_here, ahead_next, ahead_end}
 use Rattle.find_leaf.proofs.find_entry.Goals as goal
 
 pub has_number-requires : goal.has_number-requires

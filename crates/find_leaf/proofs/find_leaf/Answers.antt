@@ -1,12 +1,11 @@
 -- From the root down, a level at a time: the digit of the level is the place in the node that is passed.
 use mathlib.Core.Path.{◌≡◌}
-use mathlib.Core.Bool.{true}
 use native.Mathlib.Omega.{arith}
 use Rattle.rules.specs.Layout.{read}
 use Rattle.sound_laws.proofs.Walk.{tree_positive}
 use Rattle.find_leaf.proofs.Held.{whole_tree}
 use Rattle.find_leaf.proofs.Inner.{tree_in, no_leaf}
-use Rattle.find_leaf.proofs.Down.{gives_none, from_root, GoesDown, start_down, down_there, down_on, down_end}
+use Rattle.find_leaf.proofs.Down.{gives_none, from_root, start_down, down_there, down_on, down_end}
 use Rattle.find_leaf.proofs.find_leaf.Goals as goal
 
 pub height_of-h-requires : goal.height_of-h-requires

@@ -1,11 +1,6 @@
-use mathlib.Core.Path.{◌≡◌}
 use mathlib.Core.Bool.{true}
-use native.Mathlib.Omega.{arith}
 use Rattle.rules.specs.Layout.{read}
-use Rattle.sound_laws.proofs.Walk.{tree_positive}
-use Rattle.find_leaf.proofs.Held.{whole_tree}
-use Rattle.find_leaf.proofs.Inner.{tree_in, no_leaf}
-use Rattle.find_leaf.proofs.Down.{gives_none, from_root, GoesDown, start_down, down_there, down_on, down_end}
+use Rattle.find_leaf.proofs.Down.{GoesDown}
 use Rattle.find_leaf.proofs.find_leaf.Given as goal
 
 abbrev pub invariant-loop-l : goal.invariant-loop-l

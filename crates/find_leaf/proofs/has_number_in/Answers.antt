@@ -1,14 +1,11 @@
 -- The entries looked at so far, and those ahead, are all.
 use mathlib.Core.Path.{refl}
-use Prim.Native.Nat.{◌-◌}
 use native.Mathlib.Omega.{arith}
 use mir.Syntax.{w32}
 use mir.Facts.{to_z-of_z}
 use borrow.Author.Rules.{sfits_of}
-use Rattle.rules.specs.Pool.{entry_at, entries_at}
-use Rattle.rules.specs.Layout.{read}
-use Rattle.find_leaf.specs.State.{has_number}
-use Rattle.find_leaf.proofs.Leaf.{Looked, look_on, looked_all}
+use Rattle.rules.specs.Pool.{entry_at}
+use Rattle.find_leaf.proofs.Leaf.{look_on, looked_all}
 use Rattle.find_leaf.proofs.has_number_in.Goals as goal
 
 pub count_in-n-requires : goal.count_in-n-requires

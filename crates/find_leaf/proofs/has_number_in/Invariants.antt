@@ -1,13 +1,8 @@
-use mathlib.Core.Path.{refl}
 use Prim.Native.Nat.{◌-◌}
-use native.Mathlib.Omega.{arith}
-use mir.Syntax.{w32}
-use mir.Facts.{to_z-of_z}
-use borrow.Author.Rules.{sfits_of}
-use Rattle.rules.specs.Pool.{entry_at, entries_at}
+use Rattle.rules.specs.Pool.{entries_at}
 use Rattle.rules.specs.Layout.{read}
 use Rattle.find_leaf.specs.State.{has_number}
-use Rattle.find_leaf.proofs.Leaf.{Looked, look_on, looked_all}
+use Rattle.find_leaf.proofs.Leaf.{Looked}
 use Rattle.find_leaf.proofs.has_number_in.Given as goal
 
 abbrev pub invariant-loop-i : goal.invariant-loop-i

@@ -1,5 +1,4 @@
 -- FindLeaf gives a way exactly where the pair is held.
-use borrow.Author.Rules.{rules}
 use Rattle.rules.specs.Layout.{read}
 use Rattle.find_leaf.proofs.Held.{whole_tree, way_held}
 use Rattle.find_leaf.proofs.holds.Goals as goal

@@ -1,7 +1,6 @@
 -- Each arm of the match is the pool's own edition.
 use mathlib.Core.Path.{sym, ◌∙◌}
 use Rattle.pool.proofs.Lengths.{some_word}
-use borrow.Author.Rules.{rules}
 use Rattle.find_leaf.proofs.put_hits.Goals as goal
 
 pub edition_of-requires : goal.edition_of-requires

@@ -1,15 +1,13 @@
 -- Those that count so far, and what the test leaves of the places ahead, are all that it leaves.
-use mathlib.Core.Path.{◌≡◌, sym, ap, ◌∙◌}
-use Prim.Native.Nat.{◌-◌}
+use mathlib.Core.Path.{sym, ap, ◌∙◌}
 use native.Mathlib.Omega.{arith}
-use lib.ListN.{length}
 use Rattle.rules.specs.declared.Rect.{Rect}
 use Rattle.rules.specs.Compare.{lies_in}
 use Rattle.rules.specs.Pool.{entries_at, entry_from, entry_at}
 use Rattle.rules.specs.Layout.{read}
 use Rattle.layout_laws.proofs.Parts.{rect_entry}
 use Rattle.find_leaf.specs.State.{holding}
-use Rattle.find_leaf.proofs.Gather.{Gathered, gather_first, gather_on, gathered_all}
+use Rattle.find_leaf.proofs.Gather.{gather_first, gather_on, gathered_all}
 use Rattle.find_leaf.proofs.put_hits_in.Goals as goal
 
 pub count_in-n-requires : goal.count_in-n-requires

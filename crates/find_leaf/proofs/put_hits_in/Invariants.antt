@@ -1,14 +1,10 @@
-use mathlib.Core.Path.{◌≡◌, sym, ap, ◌∙◌}
+use mathlib.Core.Path.{◌≡◌}
 use Prim.Native.Nat.{◌-◌}
-use native.Mathlib.Omega.{arith}
 use lib.ListN.{length}
-use Rattle.rules.specs.declared.Rect.{Rect}
 use Rattle.rules.specs.Compare.{lies_in}
-use Rattle.rules.specs.Pool.{entries_at, entry_from, entry_at}
+use Rattle.rules.specs.Pool.{entries_at, entry_at}
 use Rattle.rules.specs.Layout.{read}
-use Rattle.layout_laws.proofs.Parts.{rect_entry}
-use Rattle.find_leaf.specs.State.{holding}
-use Rattle.find_leaf.proofs.Gather.{Gathered, gather_first, gather_on, gathered_all}
+use Rattle.find_leaf.proofs.Gather.{Gathered}
 use Rattle.find_leaf.proofs.put_hits_in.Given as goal
 
 abbrev pub invariant-loop-i : goal.invariant-loop-i

@@ -1,16 +1,13 @@
 -- `free_slots::free_count` meets its contract: a turn adds 1 for a free slot and 0 for one in use, which is what that slot adds to the
 -- count.
-use borrow.Author.Rules.{rules}
-use mathlib.Core.Path.{◌≡◌}
-use Prim.Native.Nat.{ℕ, ◌+◌, ◌-◌, ◌≤◌, ◌<◌}
+use Prim.Native.Nat.{◌≤◌}
 use native.Mathlib.Omega.{arith}
-use Rattle.rules.specs.Pool.{Pool, slot, node_at, free_count}
+use Rattle.rules.specs.Pool.{slot, node_at}
 use Rattle.rules.specs.Layout.{slot_count, read}
 use Rattle.sound_laws.proofs.Free.{is_free}
 use Rattle.layout_laws.proofs.Parts.{few_slots}
 use Rattle.layout_laws.proofs.Written.{read_slots}
-use Rattle.free_slots.proofs.Frees.{one_most, count_from, count_next, count_end, count_all}
-use Rattle.free_slots.proofs.free_count.Invariants.{Turn}
+use Rattle.free_slots.proofs.Frees.{one_most, count_next, count_end, count_all}
 use Rattle.free_slots.proofs.free_count.Goals as goal
 
 pub loop-at-init : goal.loop-at-init

@@ -1,13 +1,8 @@
-use borrow.Author.Rules.{rules}
 use mathlib.Core.Path.{◌≡◌}
 use Prim.Native.Nat.{ℕ, ◌+◌, ◌-◌, ◌≤◌, ◌<◌}
-use native.Mathlib.Omega.{arith}
-use Rattle.rules.specs.Pool.{Pool, slot, node_at, free_count}
-use Rattle.rules.specs.Layout.{slot_count, read}
-use Rattle.sound_laws.proofs.Free.{is_free}
-use Rattle.layout_laws.proofs.Parts.{few_slots}
-use Rattle.layout_laws.proofs.Written.{read_slots}
-use Rattle.free_slots.proofs.Frees.{one_most, count_from, count_next, count_end, count_all}
+use Rattle.rules.specs.Pool.{Pool, free_count}
+use Rattle.rules.specs.Layout.{read}
+use Rattle.free_slots.proofs.Frees.{count_from}
 use Rattle.free_slots.proofs.free_count.Given as goal
 
 -- the free slots counted so far, with those from slot `at` on, are all

@@ -1,6 +1,5 @@
 -- `free_slots::less_slot` meets its contract.
 use Rattle.free_slots.proofs.Known.{less_is}
-use borrow.Author.Rules.{rules}
 use Rattle.free_slots.proofs.less_slot.Goals as goal
 
 pub returns : goal.returns

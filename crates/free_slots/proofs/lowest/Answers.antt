@@ -2,7 +2,6 @@
 use mathlib.Core.Path.{◌∙◌}
 use Rattle.rules.specs.Layout.{read}
 use Rattle.free_slots.proofs.LowestSlot.{lowest_from_lem}
-use borrow.Author.Rules.{rules}
 use Rattle.free_slots.proofs.lowest.Goals as goal
 
 pub returns : goal.returns

@@ -1,16 +1,13 @@
 -- `free_slots::lowest_free_from` meets its contract: a free slot is the lowest of those from it on, and one in use gives way to the next.
-use borrow.Author.Rules.{rules}
-use mathlib.Core.Path.{◌≡◌, refl, sym, ◌∙◌}
-use Prim.Native.Nat.{ℕ, ◌+◌, ◌-◌, ◌≤◌}
+use mathlib.Core.Path.{refl, sym, ◌∙◌}
+use Prim.Native.Nat.{◌≤◌}
 use native.Mathlib.Omega.{arith}
 use borrow.Author.Tests.{eq-eqb, ne_eqb}
 use lib.ListN.{length}
-use Rattle.rules.specs.Pool.{Pool}
 use Rattle.rules.specs.Layout.{read}
 use Rattle.layout_laws.proofs.Parts.{few_slots}
 use Rattle.layout_laws.proofs.Written.{read_slots}
-use Rattle.free_slots.proofs.Frees.{lowest_from, lowest_here, lowest_next, lowest_end}
-use Rattle.free_slots.proofs.lowest_free_from.Invariants.{Turn}
+use Rattle.free_slots.proofs.Frees.{lowest_here, lowest_next, lowest_end}
 use Rattle.free_slots.proofs.lowest_free_from.Goals as goal
 
 pub loop-s-init : goal.loop-s-init

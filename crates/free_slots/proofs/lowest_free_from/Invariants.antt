@@ -1,14 +1,8 @@
-use borrow.Author.Rules.{rules}
-use mathlib.Core.Path.{◌≡◌, refl, sym, ◌∙◌}
+use mathlib.Core.Path.{◌≡◌}
 use Prim.Native.Nat.{ℕ, ◌+◌, ◌-◌, ◌≤◌}
-use native.Mathlib.Omega.{arith}
-use borrow.Author.Tests.{eq-eqb, ne_eqb}
-use lib.ListN.{length}
 use Rattle.rules.specs.Pool.{Pool}
 use Rattle.rules.specs.Layout.{read}
-use Rattle.layout_laws.proofs.Parts.{few_slots}
-use Rattle.layout_laws.proofs.Written.{read_slots}
-use Rattle.free_slots.proofs.Frees.{lowest_from, lowest_here, lowest_next, lowest_end}
+use Rattle.free_slots.proofs.Frees.{lowest_from}
 use Rattle.free_slots.proofs.lowest_free_from.Given as goal
 
 -- the slots from s on give what those from the first on give

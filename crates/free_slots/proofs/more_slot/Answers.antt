@@ -1,7 +1,6 @@
 -- `free_slots::more_slot` meets its contract: the lower of the two slots is the one below which none is free.
 use native.Mathlib.Omega.{arith}
 use Rattle.free_slots.proofs.Known.{more_low, more_high}
-use borrow.Author.Rules.{rules}
 use Rattle.free_slots.proofs.more_slot.Goals as goal
 
 pub returns-then-s-free : goal.returns-then-s-free

@@ -1,6 +1,5 @@
 use mathlib.Core.Path.{sym, ◌∙◌}
 use Rattle.rules_laws.proofs.Compares.{compared_apart, compared_as}
-use borrow.Author.Rules.{rules}
 use Rattle.geometry.proofs.compare.Goals as goal
 
 pub returns-then-meeting : goal.returns-then-meeting

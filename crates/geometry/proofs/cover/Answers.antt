@@ -1,4 +1,4 @@
-use Rattle.std.proofs.Common.{rules, arith, sym, ◌∙◌, refl}
+use Rattle.std.proofs.Common.{rules}
 use Rattle.rules.specs.Geometry.{cover}
 use Rattle.geometry.proofs.cover.Goals as goal
 

@@ -1,7 +1,6 @@
 use native.Mathlib.Omega.{arith}
 use Rattle.rules.specs.Geometry.{enlargement}
 use Rattle.rules_laws.proofs.Measures.{cover_valid, areas, enlarged}
-use borrow.Author.Rules.{rules}
 use Rattle.geometry.proofs.enlargement.Goals as goal
 
 pub area-requires : goal.area-requires

@@ -3,7 +3,6 @@ use mathlib.Core.Path.{sym, ◌∙◌}
 use Rattle.rules.specs.Owners.{owned_by}
 use Rattle.rules.specs.Compare.{exact_pair}
 use Rattle.rules_laws.proofs.Bools.{not_true, not_false}
-use borrow.Author.Rules.{rules}
 use Rattle.geometry.proofs.exact_pair.Goals as goal
 
 pub returns-then-not-same_number : goal.returns-then-not-same_number

@@ -1,6 +1,5 @@
 use Rattle.rules.specs.Geometry.{half_enlargement}
 use Rattle.rules_laws.proofs.Measures.{cover_valid, halves, enlarged}
-use borrow.Author.Rules.{rules}
 use Rattle.geometry.proofs.half_enlargement.Goals as goal
 
 pub half_perimeter-requires : goal.half_perimeter-requires

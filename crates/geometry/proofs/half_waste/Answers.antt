@@ -1,7 +1,6 @@
 use native.Mathlib.Omega.{arith}
 use Rattle.rules.specs.Geometry.{half_waste}
 use Rattle.rules_laws.proofs.Measures.{cover_valid, halves, wasted}
-use borrow.Author.Rules.{rules}
 use Rattle.geometry.proofs.half_waste.Goals as goal
 
 pub half_perimeter-requires : goal.half_perimeter-requires

@@ -1,4 +1,4 @@
-use Rattle.std.proofs.Common.{rules, arith, sym, ◌∙◌, refl}
+use Rattle.std.proofs.Common.{rules}
 use Rattle.rules.specs.Numbers.{in_range}
 use Rattle.geometry.proofs.in_range.Goals as goal
 

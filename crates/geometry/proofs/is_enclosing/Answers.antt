@@ -1,4 +1,4 @@
-use Rattle.std.proofs.Common.{rules, arith, sym, ◌∙◌, refl}
+use Rattle.std.proofs.Common.{rules}
 use Rattle.rules.specs.Compare.{is_enclosing}
 use Rattle.geometry.proofs.is_enclosing.Goals as goal
 

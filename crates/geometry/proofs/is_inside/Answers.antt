@@ -1,4 +1,4 @@
-use Rattle.std.proofs.Common.{rules, arith, sym, ◌∙◌, refl}
+use Rattle.std.proofs.Common.{rules}
 use Rattle.rules.specs.Compare.{is_inside}
 use Rattle.geometry.proofs.is_inside.Goals as goal
 

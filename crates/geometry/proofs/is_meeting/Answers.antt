@@ -1,4 +1,4 @@
-use Rattle.std.proofs.Common.{rules, arith, sym, ◌∙◌, refl}
+use Rattle.std.proofs.Common.{rules}
 use Rattle.rules.specs.Compare.{is_meeting}
 use Rattle.geometry.proofs.is_meeting.Goals as goal
 

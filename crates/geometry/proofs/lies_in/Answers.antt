@@ -1,4 +1,4 @@
-use Rattle.std.proofs.Common.{rules, arith, sym, ◌∙◌, refl}
+use Rattle.std.proofs.Common.{rules}
 use Rattle.rules.specs.Compare.{lies_in}
 use Rattle.geometry.proofs.lies_in.Goals as goal
 

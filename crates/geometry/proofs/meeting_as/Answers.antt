@@ -1,4 +1,4 @@
-use Rattle.std.proofs.Common.{rules, arith, sym, ◌∙◌, refl}
+use Rattle.std.proofs.Common.{rules}
 use Rattle.rules.specs.Compare.{meeting_as}
 use Rattle.geometry.proofs.meeting_as.Goals as goal
 

@@ -1,4 +1,4 @@
-use Rattle.std.proofs.Common.{rules, arith, sym, ◌∙◌, refl}
+use Rattle.std.proofs.Common.{rules}
 use Rattle.rules.specs.Geometry.{same_rect}
 use Rattle.geometry.proofs.same_rect.Goals as goal
 

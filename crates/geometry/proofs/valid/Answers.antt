@@ -1,4 +1,4 @@
-use Rattle.std.proofs.Common.{rules, arith, sym, ◌∙◌, refl}
+use Rattle.std.proofs.Common.{rules}
 use Rattle.rules.specs.Geometry.{valid}
 use Rattle.geometry.proofs.valid.Goals as goal
 

@@ -1,5 +1,4 @@
 use Rattle.rules.specs.Compare.{wanted}
-use borrow.Author.Rules.{rules}
 use Rattle.geometry.proofs.wanted.Goals as goal
 
 pub returns-in-Meeting : goal.returns-in-Meeting

@@ -1,7 +1,6 @@
 use native.Mathlib.Omega.{arith}
 use Rattle.rules.specs.Geometry.{waste}
 use Rattle.rules_laws.proofs.Measures.{cover_valid, areas, wasted}
-use borrow.Author.Rules.{rules}
 use Rattle.geometry.proofs.waste.Goals as goal
 
 pub area-requires : goal.area-requires

@@ -1,6 +1,6 @@
 -- `insert::full_run` meets its contract: the run below goes on through the node where it has come to it. The levels to go down fall.
 use mathlib.Core.Path.{sym, ◌∙◌}
-use Prim.Native.Nat.{ℕ, ◌≤◌, ◌<◌}
+use Prim.Native.Nat.{◌≤◌}
 use native.Mathlib.Omega.{arith}
 use Rattle.insert.proofs.Fitted.{slot_in}
 use Rattle.insert.proofs.Ways.{way_node, way_choosable, way_inner, way_down, run_here, run_shorter, run_longer}

@@ -1,7 +1,7 @@
 -- `insert::insert_below` meets its contract: at the end of the way the entry comes to the node; above that it goes below the chosen child,
 -- and the way back is `adjust`. The levels to go down fall.
-use mathlib.Core.Path.{subst⁻¹, ◌∙◌}
-use Prim.Native.Nat.{ℕ, ◌≤◌, ◌<◌}
+use mathlib.Core.Path.{subst⁻¹}
+use Prim.Native.Nat.{◌≤◌}
 use native.Mathlib.Omega.{arith}
 use Rattle.rules.specs.Insert as I
 use Rattle.insert.specs.Left.{GrewTo}

@@ -1,5 +1,4 @@
 -- `insert::adjust` meets its contract: by what became of the child: the entry is made tight, and a partner comes to the node itself.
-use borrow.Author.Rules.{rules}
 use mathlib.Core.Path.{subst, subst⁻¹}
 use Rattle.rules.specs.Layout.{read}
 use Rattle.rules.specs.Insert as I

@@ -1,9 +1,7 @@
 -- `insert::group_of` meets its contract: a turn puts the entry at one place more after those in place.
 use mathlib.Core.Path.{◌≡◌, refl}
-use Prim.Native.Nat.{◌-◌, ◌≤◌}
 use native.Mathlib.Omega.{arith}
-use lib.ListN.{length}
-use Rattle.insert.proofs.Nines.{Taken, taken_more}
+use Rattle.insert.proofs.Nines.{taken_more}
 use Rattle.insert.proofs.group_of.Goals as goal
 
 pub loop-i-init : goal.loop-i-init

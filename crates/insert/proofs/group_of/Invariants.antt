@@ -1,8 +1,7 @@
-use mathlib.Core.Path.{◌≡◌, refl}
+use mathlib.Core.Path.{◌≡◌}
 use Prim.Native.Nat.{◌-◌, ◌≤◌}
-use native.Mathlib.Omega.{arith}
 use lib.ListN.{length}
-use Rattle.insert.proofs.Nines.{Taken, taken_more}
+use Rattle.insert.proofs.Nines.{Taken}
 use Rattle.insert.proofs.group_of.Given as goal
 
 abbrev pub invariant-loop-i : goal.invariant-loop-i

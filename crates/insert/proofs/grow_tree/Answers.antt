@@ -1,5 +1,4 @@
 -- `insert::grow_tree` meets its contract: by what became of the root.
-use borrow.Author.Rules.{rules}
 use mathlib.Core.Path.{subst, subst⁻¹}
 use Rattle.rules.specs.Layout.{read}
 use Rattle.rules.specs.Insert as I

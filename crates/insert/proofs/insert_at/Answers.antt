@@ -1,5 +1,4 @@
 -- `insert::insert_at` meets its contract: the free slots suffice where the test does not refuse, so what becomes of the root is a pool.
-use borrow.Author.Rules.{rules}
 use mathlib.Core.Path.{◌≡◌, ap}
 use Prim.Native.Nat.{ℕ, ◌-◌}
 use Rattle.rules.specs.Layout.{read}

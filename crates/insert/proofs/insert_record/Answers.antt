@@ -1,6 +1,5 @@
 -- `insert::insert_record` meets its contract: the number of records is no part of the tree; where the entry is refused, the number is put
 -- back, and with it the words.
-use borrow.Author.Rules.{rules}
 use native.Mathlib.Omega.{arith}
 use Rattle.rules.specs.Pool.{leaf_entry}
 use Rattle.insert.proofs.Records.{records_few, refused_fit, head_upright, head_levels, head_known, head_goes, record_made, record_refused}

@@ -1,6 +1,5 @@
 -- `insert::install` meets its contract: a node with room has the entry last, and a full one is split into the lowest free slot, if there is
 -- one.
-use borrow.Author.Rules.{rules}
 use mathlib.Core.Path.{sym, ◌∙◌}
 use native.Mathlib.Omega.{arith}
 use Rattle.rules.specs.Layout.{read}

@@ -1,5 +1,4 @@
 -- `insert::needed` meets its contract: the run includes the root where it is as long as the way.
-use borrow.Author.Rules.{rules}
 use mathlib.Core.Path.{◌≡◌, ap, subst⁻¹}
 use Prim.Native.Nat.{ℕ, ◌-◌}
 use native.Mathlib.Omega.{arith}

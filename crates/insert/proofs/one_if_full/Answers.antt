@@ -1,5 +1,4 @@
 -- `insert::one_if_full` meets its contract: a node is full with eight entries.
-use borrow.Author.Rules.{rules}
 use mathlib.Core.Path.{sym}
 use native.Mathlib.Omega.{arith}
 use Rattle.rules.specs.Layout.{read}

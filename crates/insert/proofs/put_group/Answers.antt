@@ -1,5 +1,4 @@
 -- `insert::put_group` meets its contract: what words hold of the nine, they hold of a group of them.
-use borrow.Author.Rules.{rules}
 use mathlib.Core.Path.{ap, ◌∙◌}
 use mathlib.Core.List.{List}
 use native.Mathlib.Omega.{arith}

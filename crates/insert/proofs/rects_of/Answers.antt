@@ -1,9 +1,7 @@
 -- `insert::rects_of` meets its contract: a turn puts one rectangle more after those in place, and nine are all.
-use borrow.Author.Rules.{rules}
 use mathlib.Core.Path.{refl}
-use Prim.Native.Nat.{◌-◌}
 use native.Mathlib.Omega.{arith}
-use Rattle.insert.proofs.Nines.{Rects, rects_more, rects_all}
+use Rattle.insert.proofs.Nines.{rects_more, rects_all}
 use Rattle.insert.proofs.rects_of.Goals as goal
 
 pub loop-i-init : goal.loop-i-init

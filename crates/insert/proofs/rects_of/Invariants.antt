@@ -1,8 +1,5 @@
-use borrow.Author.Rules.{rules}
-use mathlib.Core.Path.{refl}
 use Prim.Native.Nat.{◌-◌}
-use native.Mathlib.Omega.{arith}
-use Rattle.insert.proofs.Nines.{Rects, rects_more, rects_all}
+use Rattle.insert.proofs.Nines.{Rects}
 use Rattle.insert.proofs.rects_of.Given as goal
 
 abbrev pub invariant-loop-i : goal.invariant-loop-i

@@ -1,5 +1,4 @@
 -- `insert::too_few` meets its contract: with one free slot more than levels there are enough.
-use borrow.Author.Rules.{rules}
 use mathlib.Core.Path.{ap}
 use lib.Dec.{ltb}
 use Rattle.rules.specs.Layout.{read}

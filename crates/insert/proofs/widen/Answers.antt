@@ -1,5 +1,4 @@
 -- `insert::widen` meets its contract: the entry's new rectangle is the cover of the old one and the new, and it leads to its child as before.
-use borrow.Author.Rules.{rules}
 use mathlib.Core.Path.{◌∙◌}
 use Rattle.rules.specs.Layout.{read}
 use Rattle.nodes.proofs.Slots.{within}

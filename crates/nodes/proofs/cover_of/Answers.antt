@@ -1,18 +1,8 @@
 -- Each turn joins the next entry's rectangle to the cover so far, as the fold of `cover_all` does.
-use borrow.Author.Rules.{rules}
-use mathlib.Core.Path.{◌≡◌, sym, ◌∙◌}
-use mathlib.Core.List.{List}
-use Prim.Native.Nat.{ℕ, ◌-◌}
+use mathlib.Core.Path.{sym, ◌∙◌}
 use native.Mathlib.Omega.{arith}
-use lib.ListN.{length}
-use lib.IntN.{ℤ}
-use Rattle.rules.specs.declared.Rect.{Rect}
-use Rattle.rules.specs.declared.SlotNumber.{SlotNumber}
-use Rattle.rules.specs.declared.Entry.{Entry}
-use Rattle.rules.specs.Pool.{entries_at, cover_of}
-use Rattle.rules.specs.Layout.{read}
-use Rattle.nodes.proofs.Covers.{ahead, first, step, last, cover_none}
-use Rattle.nodes.proofs.cover_of.Invariants.{entriesOf, Turn}
+use Rattle.nodes.proofs.Covers.{first, step, last, cover_none}
+use Rattle.nodes.proofs.cover_of.Invariants.{entriesOf}
 use Rattle.nodes.proofs.cover_of.Goals as goal
 
 pub count_of-n-requires : goal.count_of-n-requires

@@ -1,8 +1,6 @@
-use borrow.Author.Rules.{rules}
-use mathlib.Core.Path.{◌≡◌, sym, ◌∙◌}
+use mathlib.Core.Path.{◌≡◌}
 use mathlib.Core.List.{List}
 use Prim.Native.Nat.{ℕ, ◌-◌}
-use native.Mathlib.Omega.{arith}
 use lib.ListN.{length}
 use lib.IntN.{ℤ}
 use Rattle.rules.specs.declared.Rect.{Rect}
@@ -10,7 +8,7 @@ use Rattle.rules.specs.declared.SlotNumber.{SlotNumber}
 use Rattle.rules.specs.declared.Entry.{Entry}
 use Rattle.rules.specs.Pool.{entries_at, cover_of}
 use Rattle.rules.specs.Layout.{read}
-use Rattle.nodes.proofs.Covers.{ahead, first, step, last, cover_none}
+use Rattle.nodes.proofs.Covers.{ahead}
 use Rattle.nodes.proofs.cover_of.Given as goal
 
 -- the node's entries

@@ -2,7 +2,6 @@
 use borrow.Author.Tests.{le-leb, lt-leb}
 use Rattle.rules.specs.Sound.{is_slot}
 use Rattle.layout_laws.proofs.Written.{read_slots}
-use borrow.Author.Rules.{rules}
 use Rattle.nodes.proofs.is_slot.Goals as goal
 
 pub returns-then-n-lt1 : goal.returns-then-n-lt1

@@ -2,7 +2,6 @@
 use mathlib.Core.Path.{◌∙◌}
 use Rattle.rules.specs.Pool.{record_of}
 use Rattle.nodes.proofs.Pointers.{number_is, owner_is}
-use borrow.Author.Rules.{rules}
 use Rattle.nodes.proofs.record_of.Goals as goal
 
 pub returns : goal.returns

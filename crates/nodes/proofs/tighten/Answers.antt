@@ -7,7 +7,6 @@ use Rattle.rules.specs.Pool.{node_at}
 use Rattle.rules.specs.Layout.{read}
 use Rattle.nodes.proofs.Slots.{within}
 use Rattle.nodes.proofs.Tight.{inner_no_leaf, tighten_made}
-use borrow.Author.Rules.{rules}
 use Rattle.nodes.proofs.tighten.Goals as goal
 
 pub child_of-c-requires : goal.child_of-c-requires

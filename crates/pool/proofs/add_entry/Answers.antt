@@ -11,7 +11,6 @@ use mir.ValLaws.{to_z_pos}
 use Rattle.layout_laws.proofs.Parts.{room}
 use Rattle.pool.proofs.Lengths.{some_word, start_most}
 use Rattle.pool.proofs.Stores.{spot_inside, more_stored}
-use borrow.Author.Rules.{rules}
 use Rattle.pool.proofs.add_entry.Goals as goal
 
 pub edition_of-edition-requires : goal.edition_of-edition-requires

@@ -7,7 +7,6 @@ use Rattle.rules.specs.declared.Edition.TheVariants.{One, Two}
 use Rattle.rules.specs.Layout.{edition_place, word_at, edition_of}
 use borrow.Author.Rules.{sfits_of}
 use Rattle.pool.proofs.Naturals.{word_read}
-use borrow.Author.Rules.{rules}
 use Rattle.pool.proofs.edition_of.Goals as goal
 
 is-two : (w : List ℤ) → same (word_at w edition_place) (pos 2) ≡ true → Two ≡ edition_of w

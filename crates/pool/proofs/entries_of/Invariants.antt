@@ -1,16 +1,11 @@
-use borrow.Author.Rules.{rules}
-use mathlib.Core.Path.{◌≡◌, refl, sym, ap, ap₂, subst⁻¹, ◌∙◌}
-use mathlib.Core.List.{List, [], ◌∷◌, ◌++◌}
-use Prim.Native.Nat.{ℕ, ◌+◌, ◌-◌, ◌≤◌, ◌<◌}
-use native.Mathlib.Numerals.{add-one}
-use native.Mathlib.Omega.{arith}
-use lib.ListN.{length, get_or, set, take, replicate, length-set}
-use lib.Seq.{take-suc, take-suc-set, take-length, get_or-set_other}
+use mathlib.Core.Path.{◌≡◌}
+use mathlib.Core.List.{List}
+use Prim.Native.Nat.{ℕ, ◌+◌, ◌-◌, ◌≤◌}
+use lib.ListN.{length, take}
 use Rattle.rules.specs.declared.Entry.{Entry}
 use Rattle.rules.specs.Numbers.{most}
-use Rattle.rules.specs.Pool.{no_entry, entries_at, entry_at, entry_from}
+use Rattle.rules.specs.Pool.{entries_at}
 use Rattle.rules.specs.Layout.{read}
-use Rattle.rules_laws.proofs.Places.{get_d_alike}
 use Rattle.layout_laws.specs.Slots.{NoneFrom}
 use Rattle.pool.proofs.entries_of.Given as goal
 

@@ -1,6 +1,5 @@
 use Rattle.rules.specs.Layout.{read}
 use Rattle.layout_laws.proofs.Parts.{entry_parts}
-use borrow.Author.Rules.{rules}
 use Rattle.pool.proofs.entry_of.Goals as goal
 
 pub returns : goal.returns

@@ -5,7 +5,6 @@ use Rattle.layout_laws.proofs.Parts.{slot_few, slot_pointer}
 use Rattle.pool.proofs.Lengths.{some_word}
 use Rattle.pool.proofs.Naturals.{word_read}
 use Rattle.pool.proofs.Stores.{spot_inside}
-use borrow.Author.Rules.{rules}
 use Rattle.pool.proofs.entry_pointer.Goals as goal
 
 pub pointer_place-requires : goal.pointer_place-requires

@@ -2,7 +2,6 @@ use mir.Syntax.{w32}
 use mir.Facts.{to_z-of_z}
 use borrow.Author.Rules.{sfits_of}
 use Rattle.rules.specs.Numbers.{good_number}
-use borrow.Author.Rules.{rules}
 use Rattle.pool.proofs.good_number.Goals as goal
 
 pub returns : goal.returns

@@ -1,6 +1,5 @@
 use mathlib.Core.Path.{sym, ◌∙◌}
 use Rattle.rules_laws.proofs.Bools.{not_true, not_false}
-use borrow.Author.Rules.{rules}
 use Rattle.pool.proofs.lengths_fit.Goals as goal
 
 pub returns-then-not-valid_length : goal.returns-then-not-valid_length

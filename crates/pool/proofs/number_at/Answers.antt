@@ -2,7 +2,6 @@ use mathlib.Core.Path.{ap, ◌∙◌}
 use Rattle.pool.proofs.Naturals.{word_read}
 use borrow.Author.Rules.{sfits_of}
 use Rattle.rules.specs.Layout.{natural}
-use borrow.Author.Rules.{rules}
 use Rattle.pool.proofs.number_at.Goals as goal
 
 pub returns : goal.returns

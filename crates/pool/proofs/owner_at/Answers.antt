@@ -3,7 +3,7 @@ use Prim.Native.Nat.{◌+◌, ◌≤◌}
 use lib.ListN.{length, drop}
 use Rattle.rules.specs.declared.Edition.{Edition}
 use Rattle.rules.specs.Layout.{entry_size, owner_at}
-use borrow.Author.Rules.{rules, sfits_of}
+use borrow.Author.Rules.{sfits_of}
 use Rattle.pool.proofs.Naturals.{word_read}
 use Rattle.pool.proofs.owner_at.Goals as goal
 

@@ -6,7 +6,6 @@ use Rattle.rules.specs.Layout.{natural}
 use borrow.Author.Tests.{eq-eqb, ne_eqb}
 use mir.Facts.{to_z-of_z}
 use Rattle.layout_laws.proofs.Written.{pointer_number, pointer_child}
-use borrow.Author.Rules.{rules}
 use Rattle.pool.proofs.pointer_of.Goals as goal
 
 pub returns-then-level-eq1 : goal.returns-then-level-eq1

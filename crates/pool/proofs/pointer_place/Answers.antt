@@ -1,6 +1,5 @@
 use native.Mathlib.Omega.{arith}
 use Rattle.pool.proofs.Lengths.{start_most, entries_most}
-use borrow.Author.Rules.{rules}
 use Rattle.pool.proofs.pointer_place.Goals as goal
 
 pub overflow_add-result : goal.overflow_add-result

@@ -1,5 +1,4 @@
 use Rattle.layout_laws.proofs.Written.{fine_node, put_read, put_fit}
-use borrow.Author.Rules.{rules}
 use Rattle.pool.proofs.put_node.Goals as goal
 
 pub write_slot-requires : goal.write_slot-requires

@@ -9,7 +9,6 @@ use Rattle.rules.specs.Layout.{rect_size, pointer_word, entry_words, owner_words
 use Rattle.layout_laws.proofs.Runs.{sets_more}
 use Rattle.pool.proofs.Naturals.{word_read}
 use Rattle.pool.proofs.Stores.{rect_words}
-use borrow.Author.Rules.{rules}
 use Rattle.pool.proofs.put_pair.Goals as goal
 
 pub returns : goal.returns

@@ -3,7 +3,6 @@ use mir.Syntax.{w32}
 use mir.ValLaws.{to_z_pos}
 use Rattle.layout_laws.proofs.Parts.{right_size}
 use Rattle.layout_laws.proofs.Written.{records_read, records_fit}
-use borrow.Author.Rules.{rules}
 use Rattle.pool.proofs.put_records.Goals as goal
 
 pub bounds-pool-3 : goal.bounds-pool-3

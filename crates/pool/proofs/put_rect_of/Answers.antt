@@ -2,7 +2,6 @@
 use native.Mathlib.Omega.{arith}
 use Rattle.layout_laws.proofs.Parts.{slot_few}
 use Rattle.pool.proofs.Stores.{rect_inside, rect_stored}
-use borrow.Author.Rules.{rules}
 use Rattle.pool.proofs.put_rect_of.Goals as goal
 
 pub spot-at-requires : goal.spot-at-requires

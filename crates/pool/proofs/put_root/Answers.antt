@@ -4,7 +4,6 @@ use mir.ValLaws.{to_z_pos}
 use Rattle.layout_laws.proofs.Parts.{right_size}
 use lib.ListN.{length-set}
 use Rattle.layout_laws.proofs.Written.{root_read, root_fit}
-use borrow.Author.Rules.{rules}
 use Rattle.pool.proofs.put_root.Goals as goal
 
 pub bounds-pool-1 : goal.bounds-pool-1

@@ -1,7 +1,6 @@
 use Rattle.pool.proofs.Naturals.{word_read}
 use borrow.Author.Rules.{sfits_of}
 use Rattle.pool.proofs.Stores.{rect_words_lem}
-use borrow.Author.Rules.{rules}
 use Rattle.pool.proofs.rect_at.Goals as goal
 
 pub returns : goal.returns

@@ -4,7 +4,6 @@ use lib.ListN.{length}
 use Rattle.rules.specs.declared.Edition.{Edition}
 use Rattle.rules.specs.Layout.{slots_fitting, slot_count}
 use Rattle.pool.proofs.Lengths.{short_count}
-use borrow.Author.Rules.{rules}
 use Rattle.pool.proofs.slot_count.Goals as goal
 
 pub returns-then-n-lt-HEAD_SIZE : goal.returns-then-n-lt-HEAD_SIZE

@@ -1,7 +1,6 @@
 use mathlib.Core.Path.{sym}
 use Rattle.rules.specs.Layout.{slots_fitting}
 use Rattle.pool.proofs.Lengths.{short_none}
-use borrow.Author.Rules.{rules}
 use Rattle.pool.proofs.slots_fitting.Goals as goal
 
 pub returns-then-n-lt-HEAD_SIZE : goal.returns-then-n-lt-HEAD_SIZE

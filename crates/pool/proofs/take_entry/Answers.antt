@@ -3,7 +3,7 @@ use mathlib.Core.Path.{◌≡◌, ap, ap₂, ◌∙◌}
 use mathlib.Core.List.{List}
 use Prim.Native.Nat.{ℕ, ◌+◌, ◌-◌, ◌≤◌, ◌<◌}
 use native.Mathlib.Omega.{arith}
-use lib.ListN.{length, set, length-set}
+use lib.ListN.{length, set}
 use lib.Seq.{sets}
 use lib.IntN.{ℤ, pos}
 use mir.Syntax.{w32}
@@ -17,7 +17,6 @@ use Rattle.layout_laws.proofs.Parts.{few, room, slot_few}
 use Rattle.layout_laws.proofs.Runs.{zeros, shifted, shifted_twice}
 use Rattle.pool.proofs.Lengths.{some_word, start_most}
 use Rattle.pool.proofs.Stores.{spot_inside, spot_order, less_stored}
-use borrow.Author.Rules.{rules}
 use Rattle.pool.proofs.take_entry.Goals as goal
 
 -- an entry's words are in the pool, as the code has their place and their number

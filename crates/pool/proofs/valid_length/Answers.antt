@@ -4,7 +4,6 @@ use lib.ListN.{length}
 use Rattle.rules.specs.declared.Edition.{Edition}
 use Rattle.rules.specs.Layout.{valid_size, valid_length}
 use Rattle.pool.proofs.Lengths.{short_wrong}
-use borrow.Author.Rules.{rules}
 use Rattle.pool.proofs.valid_length.Goals as goal
 
 pub returns-then-n-lt-HEAD_SIZE : goal.returns-then-n-lt-HEAD_SIZE

@@ -2,7 +2,6 @@ use mathlib.Core.Path.{sym, ap}
 use Prim.Native.Nat.{ℕ, ◌*◌}
 use native.Mathlib.Omega.{arith}
 use Rattle.pool.proofs.Lengths.{no_slots, many_slots, by_length, size_few}
-use borrow.Author.Rules.{rules}
 use Rattle.pool.proofs.valid_size.Goals as goal
 
 pub returns-then-slots-lt1 : goal.returns-then-slots-lt1

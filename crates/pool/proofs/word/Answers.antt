@@ -4,7 +4,6 @@ use mir.Syntax.{w32}
 use mir.Facts.{to_z-of_z}
 use borrow.Author.Rules.{sfits_of}
 use Rattle.rules.specs.Layout.{word_at}
-use borrow.Author.Rules.{rules}
 use Rattle.pool.proofs.word.Goals as goal
 
 pub returns : goal.returns

@@ -1,9 +1,9 @@
 use borrow.Author.Rules.{rules}
 use mathlib.Core.Path.{◌≡◌, refl, ap, ap₂, ◌∙◌}
 use mathlib.Core.List.{List}
-use Prim.Native.Nat.{ℕ, ◌+◌, ◌*◌, ◌-◌, ◌≤◌}
+use Prim.Native.Nat.{ℕ, ◌+◌, ◌*◌}
 use native.Mathlib.Omega.{arith}
-use lib.ListN.{length, set, length-set}
+use lib.ListN.{set, length-set}
 use lib.Seq.{sets}
 use lib.IntN.{ℤ}
 use mir.Syntax.{w32}
@@ -17,7 +17,6 @@ use Rattle.layout_laws.proofs.Parts.{room}
 use Rattle.pool.proofs.Lengths.{some_word, entries_most, start_most}
 use Rattle.pool.proofs.Stores.{spot_inside}
 use Rattle.pool.proofs.Fronts.{front, front_none, front_more, whole, used_small}
-use Rattle.pool.proofs.write_slot.Invariants.{Turn}
 use Rattle.pool.proofs.write_slot.Goals as goal
 
 pub edition_of-edition-requires : goal.edition_of-edition-requires

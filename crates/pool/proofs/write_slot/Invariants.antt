@@ -1,22 +1,14 @@
-use borrow.Author.Rules.{rules}
-use mathlib.Core.Path.{◌≡◌, refl, ap, ap₂, ◌∙◌}
+use mathlib.Core.Path.{◌≡◌}
 use mathlib.Core.List.{List}
-use Prim.Native.Nat.{ℕ, ◌+◌, ◌*◌, ◌-◌, ◌≤◌}
-use native.Mathlib.Omega.{arith}
-use lib.ListN.{length, set, length-set}
+use Prim.Native.Nat.{ℕ, ◌+◌, ◌-◌, ◌≤◌}
+use lib.ListN.{length}
 use lib.Seq.{sets}
 use lib.IntN.{ℤ}
-use mir.Syntax.{w32}
-use mir.Val.{to_z}
-use mir.ValLaws.{to_z_pos}
 use Rattle.rules.specs.declared.Edition.{Edition}
 use Rattle.rules.specs.declared.Entry.{Entry}
 use Rattle.rules.specs.Numbers.{most}
-use Rattle.rules.specs.Layout.{edition_of, entry_size, slot_head, slot_start, entry_words}
-use Rattle.layout_laws.proofs.Parts.{room}
-use Rattle.pool.proofs.Lengths.{some_word, entries_most, start_most}
-use Rattle.pool.proofs.Stores.{spot_inside}
-use Rattle.pool.proofs.Fronts.{front, front_none, front_more, whole, used_small}
+use Rattle.rules.specs.Layout.{slot_head}
+use Rattle.pool.proofs.Fronts.{front}
 use Rattle.pool.proofs.write_slot.Given as goal
 
 -- i entries are written, after the level and the count

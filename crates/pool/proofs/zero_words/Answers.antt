@@ -5,9 +5,8 @@ use native.Mathlib.Omega.{arith}
 use lib.ListN.{length-replicate, get_or-replicate}
 use lib.Seq.{sets}
 use lib.IntN.{pos}
-use Rattle.layout_laws.proofs.Runs.{zeros, take_zeros}
-use Rattle.pool.proofs.Stores.{Storing, storing_first, storing_size, storing_next, storing_last}
-use borrow.Author.Rules.{rules}
+use Rattle.layout_laws.proofs.Runs.{take_zeros}
+use Rattle.pool.proofs.Stores.{storing_first, storing_size, storing_next, storing_last}
 use Rattle.pool.proofs.zero_words.Goals as goal
 
 pub loop-k-init : goal.loop-k-init

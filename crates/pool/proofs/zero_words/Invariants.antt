@@ -1,12 +1,6 @@
-use mathlib.Core.Path.{sym, ap, ◌∙◌}
 use Prim.Native.Nat.{◌-◌}
-use native.Mathlib.Omega.{arith}
-use lib.ListN.{length-replicate, get_or-replicate}
-use lib.Seq.{sets}
-use lib.IntN.{pos}
-use Rattle.layout_laws.proofs.Runs.{zeros, take_zeros}
-use Rattle.pool.proofs.Stores.{Storing, storing_first, storing_size, storing_next, storing_last}
-use borrow.Author.Rules.{rules}
+use Rattle.layout_laws.proofs.Runs.{zeros}
+use Rattle.pool.proofs.Stores.{Storing}
 use Rattle.pool.proofs.zero_words.Given as goal
 
 abbrev pub invariant-loop-k : goal.invariant-loop-k

@@ -9,7 +9,6 @@ use Rattle.rules.specs.Layout.{Blanked, head_size, edition_place, root_place, he
 use Rattle.pool.proofs.Lengths.{valid_long}
 use Rattle.pool.proofs.Naturals.{word_read}
 use Rattle.pool.proofs.Blanks.{blank_valid, blank_wrong}
-use borrow.Author.Rules.{rules}
 use Rattle.pool.proofs.blank.blank.Goals as goal
 
 pub bounds-pool-0 : goal.bounds-pool-0

@@ -1,4 +1,4 @@
-use borrow.Author.Rules.{rules, sfits_of}
+use borrow.Author.Rules.{sfits_of}
 use mir.Facts.{to_z-of_z}
 use Rattle.pool.proofs.Naturals.{word_read}
 use Rattle.pool.proofs.tidy.at_least.Goals as goal

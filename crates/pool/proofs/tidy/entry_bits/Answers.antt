@@ -1,7 +1,7 @@
 use mathlib.Core.Path.{ap, ap₂, ◌∙◌}
 use mathlib.Core.Bool.{◌&&◌}
 use lib.IntN.{pos}
-use borrow.Author.Rules.{rules, sfits_of}
+use borrow.Author.Rules.{sfits_of}
 use Rattle.rules.specs.Lists.{same}
 use Rattle.pool.proofs.Stand.{given_zero}
 use Rattle.pool.proofs.Tidied.{entry_zero}

@@ -3,7 +3,6 @@ use mathlib.Core.Bool.{◌&&◌}
 use native.Mathlib.Omega.{arith}
 use Rattle.layout_laws.proofs.Parts.{few, room}
 use Rattle.pool.specs.Standing.{tidy_around}
-use borrow.Author.Rules.{rules}
 use Rattle.pool.proofs.tidy.tidy_around.Goals as goal
 
 pub start_in-at-requires : goal.start_in-at-requires

@@ -1,6 +1,6 @@
 use mathlib.Core.Path.{ap₂, ◌∙◌}
 use mathlib.Core.Bool.{◌&&◌}
-use borrow.Author.Rules.{rules, sfits_of}
+use borrow.Author.Rules.{sfits_of}
 use Rattle.rules.specs.Numbers.{most}
 use Rattle.rules.specs.Layout.{word_at}
 use Rattle.pool.proofs.Naturals.{word_read}

@@ -8,7 +8,6 @@ use Rattle.layout_laws.proofs.Parts.{right_size}
 use Rattle.pool.proofs.Lengths.{some_word}
 use Rattle.pool.proofs.Naturals.{word_read}
 use Rattle.pool.proofs.Tidied.{head_stands}
-use borrow.Author.Rules.{rules}
 use Rattle.pool.proofs.tidy.tidy_head.Goals as goal
 
 pub edition_of-requires : goal.edition_of-requires

@@ -1,6 +1,5 @@
 use mathlib.Core.Path.{ap₂, ◌∙◌}
 use mathlib.Core.Bool.{◌&&◌}
-use borrow.Author.Rules.{rules}
 use Rattle.pool.proofs.tidy.tidy_numbers.Goals as goal
 
 pub returns : goal.returns

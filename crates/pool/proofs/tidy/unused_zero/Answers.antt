@@ -1,17 +1,14 @@
 -- Each turn joins the words of the next place: what is joined is zero where each place was.
-use mathlib.Core.Path.{◌≡◌, sym, ap, ◌∙◌}
+use mathlib.Core.Path.{sym, ap, ◌∙◌}
 use mathlib.Core.Bool.{Bool, ◌&&◌, and_assoc, and-true}
-use Prim.Native.Nat.{◌+◌, ◌-◌}
+use Prim.Native.Nat.{◌+◌}
 use native.Mathlib.Omega.{arith}
-use lib.ListN.{length}
 use lib.IntN.{pos}
 use mir.Syntax.{w32}
 use mir.Val.{to_z}
-use borrow.Author.Rules.{rules, sfits_of}
+use borrow.Author.Rules.{sfits_of}
 use Rattle.rules.specs.Lists.{same}
-use Rattle.rules.specs.Numbers.{most}
-use Rattle.rules.specs.Pool.{entries_at}
-use Rattle.rules.specs.Layout.{entry_size, entry_place, edition_of, read}
+use Rattle.rules.specs.Layout.{entry_size, entry_place, edition_of}
 use Rattle.layout_laws.proofs.Parts.{few}
 use Rattle.layout_laws.proofs.Runs.{zeros}
 use Rattle.pool.specs.Standing.{stand, zero_from}

@@ -9,7 +9,6 @@ use Rattle.layout_laws.proofs.Runs.{zeros}
 use Rattle.pool.specs.Standing.{stand}
 use Rattle.pool.proofs.Lengths.{entries_most, start_most}
 use Rattle.pool.proofs.Blanks.{free_words}
-use borrow.Author.Rules.{rules}
 use Rattle.pool.proofs.tidy.zero_slot.Goals as goal
 
 pub start_in-at-requires : goal.start_in-at-requires

@@ -1,20 +1,18 @@
 -- Each turn joins the next word: what is joined is zero where each word was.
-use mathlib.Core.Path.{◌≡◌, sym, ap, ◌∙◌}
+use mathlib.Core.Path.{sym, ap, ◌∙◌}
 use mathlib.Core.Bool.{Bool, ◌&&◌, and_assoc, and-true}
 use native.Mathlib.Omega.{arith}
-use borrow.Author.Rules.{rules, sfits_of}
-use mathlib.Core.List.{List}
+use borrow.Author.Rules.{sfits_of}
 use mir.Syntax.{w32}
 use mir.Val.{to_z}
 use mir.Facts.{to_z-of_z}
-use Prim.Native.Nat.{ℕ, ◌+◌, ◌-◌, ◌≤◌}
+use Prim.Native.Nat.{◌+◌, ◌-◌}
 use lib.ListN.{replicate}
 use lib.IntN.{ℤ, pos}
 use Rattle.rules.specs.Lists.{same}
 use Rattle.rules.specs.Layout.{word_at}
 use Rattle.pool.specs.Standing.{stand}
 use Rattle.pool.proofs.Stand.{zeros_more, zeros_end, same_self}
-use Rattle.pool.proofs.tidy.zeros.Invariants.{Turn}
 use Rattle.pool.proofs.tidy.zeros.Goals as goal
 
 pub loop-i-init : goal.loop-i-init
