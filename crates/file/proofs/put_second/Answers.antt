@@ -1,0 +1,54 @@
+use mathlib.Core.Path.{sym, ap, ◌∙◌}
+use mathlib.Core.List.{List, map}
+use native.Mathlib.Omega.{arith}
+use lib.ListN.{length}
+use lib.IntN.{pos}
+use Rattle.rules.specs.declared.Record.{Record}
+use Rattle.rules.specs.Lists.{joined}
+use Rattle.rules.specs.Owners.{owner}
+use Rattle.rules.specs.Layout.{edition_of, read}
+use Rattle.rules.specs.File.{record_frame}
+use Rattle.rules_laws.proofs.Joins.{joined_none}
+use Rattle.pool.proofs.Lengths.{some_word}
+use Rattle.frames.proofs.Texts.{nothing_wrote, wrote_as}
+use Rattle.file.proofs.Listing.{any_in, none_second, second_text}
+use Rattle.file.proofs.News.{new_carried}
+use borrow.Author.Rules.{rules}
+use Rattle.file.proofs.put_second.Goals as goal
+
+pub edition_of-requires : goal.edition_of-requires
+edition_of-requires c = some_word c.args.pool.now c.requires.pool_value
+
+pub list_all-n-requires : goal.list_all-n-requires
+list_all-n-requires c =
+    record {
+      pool_value = c.requires.pool_value;
+      whole = c.requires.whole;
+      owner_value = any_in (edition_of c.args.pool.now) (sym c.edition_of.ensures ∙ c.in-Two.is) _;
+      len = c.requires.len;
+    }
+
+pub put_records-requires : goal.put_records-requires
+put_records-requires c =
+    record {
+      listed = c.list_all-n.ensures.listed;
+      n_in_bounds = omega (
+        arith,
+        c.requires.pool_in_bounds,
+        ap length
+            (second_text (edition_of c.args.pool.now) (read c.args.pool.now) (sym c.edition_of.ensures ∙ c.in-Two.is)
+            (new_carried c.args.pool.now _ (owner (pos 2)) _ c.list_all-n.ensures)),
+      );
+    }
+
+pub returns-in-One : goal.returns-in-One
+returns-in-One c =
+    wrote_as (sym (ap (λ (l : List Record). joined (map (record_frame (edition_of c.args.pool.now)) l))
+    (none_second (edition_of c.args.pool.now) (read c.args.pool.now) (sym c.edition_of.ensures ∙ c.in-One.is))
+    ∙ joined_none (record_frame (edition_of c.args.pool.now)))) (nothing_wrote c.args.file.now c.args.at)
+
+pub returns-in-Two : goal.returns-in-Two
+returns-in-Two c =
+    wrote_as (second_text (edition_of c.args.pool.now) (read c.args.pool.now)
+    (sym c.edition_of.ensures ∙ c.in-Two.is) (new_carried c.args.pool.now _ (owner (pos 2)) _ c.list_all-n.ensures))
+    c.put_records.ensures
