@@ -1,5 +1,5 @@
 -- A turn takes the next request from the rest into what is said of those looked at.
-use Rattle.std.proofs.Common.{◌≡◌, ◌+◌, ◌&&◌, length, get_or, drop, sym, ◌∙◌, ap, arith, add-one}
+use Rattle.std.proofs.Common.{◌+◌, ◌&&◌, get_or, drop, ◌∙◌, ap, arith, add-one}
 use Rattle.rules.specs.Lists.{every}
 use Rattle.rules.specs.Call.{is_request}
 use Rattle.batch.proofs.Asks.{none, Seen, rest_next, seen_all}

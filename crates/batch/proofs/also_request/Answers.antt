@@ -1,6 +1,5 @@
 use mathlib.Core.Path.{◌∙◌, ap}
 use mathlib.Core.Bool.{Bool, ◌&&◌}
-use borrow.Author.Rules.{rules}
 use Rattle.batch.proofs.also_request.Goals as goal
 
 pub returns : goal.returns

@@ -1,6 +1,5 @@
 -- A turn stores one item more behind those that stand.
-use Rattle.std.proofs.Common.{◌≡◌, ◌+◌, set, ap, ◌∙◌, arith, add-one}
-use Rattle.found_items.specs.Items.{shown_at}
+use Rattle.std.proofs.Common.{◌+◌, set, ap, ◌∙◌, arith}
 use Rattle.batch.proofs.Carries.{stored, stored_none, stored_more}
 use Rattle.batch.proofs.carry.Goals as goal
 

@@ -1,5 +1,5 @@
 -- The number tells whether a row refuses the call; where none does, the requests are done and the pool is copied to the workspace.
-use Rattle.std.proofs.Common.{◌≡◌, ◌∙◌, ℤ, pos, length, sym, subst, to_z}
+use Rattle.std.proofs.Common.{◌≡◌, ◌∙◌, ℤ, sym, subst}
 use mathlib.Core.Option.{none}
 use mir.Syntax.{w32}
 use mir.Facts.{to_z-of_z}
@@ -7,7 +7,6 @@ use borrow.Author.Rules.{sfits_of}
 use Rattle.rules.specs.Owners.{owner}
 use Rattle.rules.specs.Call.{call_fault}
 use Rattle.promises.specs.Calls.{lent, left, Allowed}
-use Rattle.refusal.specs.Refusing.{refusal_of}
 use Rattle.batch.specs.Batching.{batch_of, Batched}
 use Rattle.batch.proofs.Batches.{fine}
 use Rattle.batch.proofs.Calls.{when_refused, when_served, left_served}

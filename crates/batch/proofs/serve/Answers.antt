@@ -11,7 +11,7 @@ use Rattle.batch.proofs.Asks.{none}
 use Rattle.promises.specs.Calls.{lent}
 use Rattle.found_items.specs.Items.{shown_from, Pointing}
 use Rattle.batch.specs.declared.Stepped.{Stepped}
-use Rattle.batch.proofs.Batches.{Fine, fine, Going, going, st_of, started, finished, next, step_gives, q_asked, many, done_few, same_long, listed_few, listed_words, listed_there, listed_room}
+use Rattle.batch.proofs.Batches.{fine, Going, going, st_of, started, finished, next, step_gives, q_asked, many, done_few, same_long, listed_few, listed_words, listed_there, listed_room}
 use Rattle.batch.proofs.serve.Goals as goal
 
 pub begun-p-requires : goal.begun-p-requires

@@ -1,6 +1,5 @@
 use mathlib.Core.Path.{refl}
 use Rattle.batch.specs.Batching.{step_of}
-use borrow.Author.Rules.{rules}
 use Rattle.batch.proofs.step.Goals as goal
 
 pub returns : goal.returns

@@ -5,7 +5,6 @@ use borrow.Author.Rules.{sfits_of}
 use Rattle.rules.specs.Search.{before}
 use Rattle.rules.specs.File.{before_in_file}
 use Rattle.rules_laws.proofs.Rules.{by_rule}
-use borrow.Author.Rules.{rules}
 use Rattle.file.proofs.before_in_file.Goals as goal
 
 pub returns : goal.returns

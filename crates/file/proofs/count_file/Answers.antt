@@ -5,7 +5,6 @@ use Rattle.pool.proofs.Lengths.{some_word}
 use Rattle.file.specs.Items.{first_owner}
 use Rattle.file.proofs.Listing.{first_told}
 use Rattle.file.proofs.News.{counts_file}
-use borrow.Author.Rules.{rules}
 use Rattle.file.proofs.count_file.Goals as goal
 
 pub edition_of-requires : goal.edition_of-requires

@@ -1,7 +1,5 @@
-use borrow.Author.Rules.{rules}
-use Prim.Native.Nat.{◌-◌}
 use native.Mathlib.Omega.{arith}
-use Rattle.file.proofs.News.{Counted, count_first, count_next, count_all}
+use Rattle.file.proofs.News.{count_first, count_next, count_all}
 use Rattle.file.proofs.count_new.Goals as goal
 
 pub loop-k-init : goal.loop-k-init

@@ -1,7 +1,5 @@
-use borrow.Author.Rules.{rules}
 use Prim.Native.Nat.{◌-◌}
-use native.Mathlib.Omega.{arith}
-use Rattle.file.proofs.News.{Counted, count_first, count_next, count_all}
+use Rattle.file.proofs.News.{Counted}
 use Rattle.file.proofs.count_new.Given as goal
 
 abbrev pub invariant-loop-k : goal.invariant-loop-k

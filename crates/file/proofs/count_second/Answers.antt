@@ -7,7 +7,6 @@ use Rattle.rules.specs.Layout.{edition_of, read}
 use Rattle.pool.proofs.Lengths.{some_word}
 use Rattle.file.proofs.Listing.{any_in, none_second, second_count}
 use Rattle.file.proofs.News.{new_carried}
-use borrow.Author.Rules.{rules}
 use Rattle.file.proofs.count_second.Goals as goal
 
 pub edition_of-requires : goal.edition_of-requires

@@ -1,5 +1,4 @@
 use Rattle.rules.specs.Owners.{edition_number}
-use borrow.Author.Rules.{rules}
 use Rattle.file.proofs.edition_number.Goals as goal
 
 pub returns-in-One : goal.returns-in-One

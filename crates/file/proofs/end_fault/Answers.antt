@@ -3,7 +3,6 @@ use native.Mathlib.Omega.{arith}
 use lib.ListN.{drop, length-drop}
 use Rattle.rules_laws.proofs.Bools.{not_true, not_false}
 use Rattle.file.proofs.Takes.{end_not_due, end_goes_on, end_right}
-use borrow.Author.Rules.{rules}
 use Rattle.file.proofs.end_fault.Goals as goal
 
 pub returns-then-not-is_due : goal.returns-then-not-is_due

@@ -9,7 +9,6 @@ use Rattle.rules.specs.File.{record_kind, record_size}
 use Rattle.rules_laws.proofs.Bools.{not_true, not_false}
 use Rattle.file.specs.Loading.{place_of}
 use Rattle.file.proofs.Dues.{due_told, due_long, fault_10, fault_3, fault_4, fault_13, fault_11, fault_0}
-use borrow.Author.Rules.{rules}
 use Rattle.file.proofs.fault_at.Goals as goal
 
 pub returns-then-not-is_due : goal.returns-then-not-is_due

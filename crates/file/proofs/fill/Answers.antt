@@ -1,7 +1,6 @@
 use native.Mathlib.Omega.{arith}
 use Rattle.pool.proofs.Lengths.{some_word}
 use Rattle.file.proofs.Writes.{all_long, fills_short, fills_all}
-use borrow.Author.Rules.{rules}
 use Rattle.file.proofs.fill.Goals as goal
 
 pub edition_of-requires : goal.edition_of-requires

@@ -1,5 +1,4 @@
 use Rattle.file.specs.Items.{first_owner}
-use borrow.Author.Rules.{rules}
 use Rattle.file.proofs.first_owner.Goals as goal
 
 pub returns-in-One : goal.returns-in-One

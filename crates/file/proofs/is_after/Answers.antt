@@ -1,7 +1,6 @@
 use native.Mathlib.Omega.{arith}
 use Rattle.file.proofs.Sizes.{place_before}
 use Rattle.file.proofs.Dues.{first_follows, later_follows}
-use borrow.Author.Rules.{rules}
 use Rattle.file.proofs.is_after.Goals as goal
 
 pub returns-then-k-eq0 : goal.returns-then-k-eq0

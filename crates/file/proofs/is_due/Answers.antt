@@ -6,7 +6,6 @@ use lib.ListN.{take, drop, length-drop}
 use lib.Seq.{drop-drop}
 use Rattle.rules.specs.Frames.{pair_value}
 use Rattle.file.proofs.Dues.{due_cut, due_other, due_kinds}
-use borrow.Author.Rules.{rules}
 use Rattle.file.proofs.is_due.Goals as goal
 
 pub returns-then-file-at : goal.returns-then-file-at

@@ -2,7 +2,6 @@ use mathlib.Core.Path.{◌∙◌}
 use Prim.Native.Nat.{◌-◌, ◌<◌}
 use native.Mathlib.Omega.{arith}
 use Rattle.file.proofs.News.{new_first, new_later, item_words_lem, item_spot}
-use borrow.Author.Rules.{rules}
 use Rattle.file.proofs.is_new.Goals as goal
 
 pub returns-then-k-eq0 : goal.returns-then-k-eq0

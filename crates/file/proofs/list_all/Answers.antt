@@ -6,7 +6,6 @@ use Rattle.rules.specs.Owners.{as_found}
 use Rattle.rules.specs.Search.{ordered}
 use Rattle.found_items.proofs.Words.{shown_items}
 use Rattle.file.proofs.Listing.{few_found, few_own, all_ordered}
-use borrow.Author.Rules.{rules}
 use Rattle.file.proofs.list_all.Goals as goal
 
 pub list-w-requires : goal.list-w-requires

@@ -12,7 +12,6 @@ use Rattle.frames.proofs.Words.{word_kept}
 use Rattle.file.specs.Loading.{Loads}
 use Rattle.file.proofs.Dues.{due_long}
 use Rattle.file.proofs.Heads.{head_missing, head_edition, head_count, head_loads, cast_fits, cast_few, cast_is}
-use borrow.Author.Rules.{rules}
 use Rattle.file.proofs.load_file.Goals as goal
 
 pub returns-then-not-is_due : goal.returns-then-not-is_due

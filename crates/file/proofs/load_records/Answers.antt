@@ -1,6 +1,6 @@
 use mathlib.Core.Path.{◌≡◌, sym, ap, subst, ◌∙◌}
 use mathlib.Core.Option.{none}
-use Prim.Native.Nat.{ℕ, ◌-◌}
+use Prim.Native.Nat.{ℕ}
 use native.Mathlib.Omega.{arith}
 use lib.ListN.{drop}
 use lib.IntN.{ℤ, pos}
@@ -11,8 +11,7 @@ use Rattle.rules.specs.File.{load_records}
 use Rattle.rules_laws.proofs.Bools.{not_true, not_false}
 use Rattle.frames.proofs.Words.{word_kept}
 use Rattle.file.specs.Loading.{place_of, end_fault, Loads}
-use borrow.Author.Rules.{rules}
-use Rattle.file.proofs.Takes.{Underway, starts, next, stopped, ended}
+use Rattle.file.proofs.Takes.{starts, next, stopped, ended}
 use Rattle.file.proofs.load_records.Goals as goal
 
 pub free_slots-free-requires : goal.free_slots-free-requires

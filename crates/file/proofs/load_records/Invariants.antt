@@ -1,18 +1,5 @@
-use mathlib.Core.Path.{◌≡◌, sym, ap, subst, ◌∙◌}
-use mathlib.Core.Option.{none}
-use Prim.Native.Nat.{ℕ, ◌-◌}
-use native.Mathlib.Omega.{arith}
-use lib.ListN.{drop}
-use lib.IntN.{ℤ, pos}
-use Rattle.rules.specs.Lists.{same}
-use Rattle.rules.specs.Layout.{read}
-use Rattle.rules.specs.Insert.{ours}
-use Rattle.rules.specs.File.{load_records}
-use Rattle.rules_laws.proofs.Bools.{not_true, not_false}
-use Rattle.frames.proofs.Words.{word_kept}
-use Rattle.file.specs.Loading.{place_of, end_fault, Loads}
-use borrow.Author.Rules.{rules}
-use Rattle.file.proofs.Takes.{Underway, starts, next, stopped, ended}
+use Prim.Native.Nat.{◌-◌}
+use Rattle.file.proofs.Takes.{Underway}
 use Rattle.file.proofs.load_records.Given as goal
 
 abbrev pub invariant-loop-k : goal.invariant-loop-k

@@ -4,7 +4,6 @@ use Rattle.rules.specs.declared.Edition.{Edition}
 use Rattle.rules.specs.Lists.{same}
 use Rattle.rules.specs.Owners.{owner_sound}
 use Rattle.frames.proofs.Words.{word_kept}
-use borrow.Author.Rules.{rules}
 use Rattle.file.proofs.owner_sound.Goals as goal
 
 -- UNKNOWN GOAL Need-enum-told

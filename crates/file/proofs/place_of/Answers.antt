@@ -1,5 +1,4 @@
 use Rattle.file.proofs.Sizes.{place_one, place_two}
-use borrow.Author.Rules.{rules}
 use Rattle.file.proofs.place_of.Goals as goal
 
 pub returns-in-One : goal.returns-in-One

@@ -6,7 +6,6 @@ use Rattle.file.specs.Items.{first_owner}
 use Rattle.file.proofs.Sizes.{head_next}
 use Rattle.file.proofs.News.{first_carried}
 use Rattle.file.proofs.Frames.{file_text, file_parts}
-use borrow.Author.Rules.{rules}
 use Rattle.file.proofs.put_file.Goals as goal
 
 pub edition_of-edition-requires : goal.edition_of-edition-requires

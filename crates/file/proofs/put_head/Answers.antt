@@ -9,7 +9,6 @@ use Rattle.frames.proofs.Texts.{wrote_then, wrote_as}
 use Rattle.frames.proofs.Words.{word_kept}
 use Rattle.file.proofs.Sizes.{word_next}
 use Rattle.file.proofs.Frames.{start, start_next, head_text}
-use borrow.Author.Rules.{rules}
 use Rattle.file.proofs.put_head.Goals as goal
 
 pub put_word-number-requires : goal.put_word-number-requires

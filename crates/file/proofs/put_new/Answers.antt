@@ -13,7 +13,6 @@ use Rattle.frames.proofs.Texts.{nothing_wrote, wrote_as}
 use Rattle.file.specs.Loading.{record_bytes}
 use Rattle.file.proofs.Sizes.{record_long}
 use Rattle.file.proofs.News.{old_text, new_text, item_words_lem, item_spot}
-use borrow.Author.Rules.{rules}
 use Rattle.file.proofs.put_new.Goals as goal
 
 pub returns-then-not-is_new : goal.returns-then-not-is_new

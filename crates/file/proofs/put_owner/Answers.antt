@@ -5,7 +5,6 @@ use Rattle.rules.specs.File.{word_bytes}
 use Rattle.frames.proofs.Texts.{nothing_wrote, wrote_as}
 use Rattle.frames.proofs.Words.{word_kept}
 use Rattle.file.proofs.Sizes.{word_long, owner_one, owner_two}
-use borrow.Author.Rules.{rules}
 use Rattle.file.proofs.put_owner.Goals as goal
 
 pub put_word-requires : goal.put_word-requires

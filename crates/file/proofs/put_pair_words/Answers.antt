@@ -6,7 +6,6 @@ use Rattle.frames.proofs.Texts.{wrote_then, wrote_as}
 use Rattle.frames.proofs.Words.{word_kept}
 use Rattle.file.proofs.Sizes.{word_next}
 use Rattle.file.proofs.Frames.{pair_text}
-use borrow.Author.Rules.{rules}
 use Rattle.file.proofs.put_pair_words.Goals as goal
 
 pub put_word-lowY-requires : goal.put_word-lowY-requires

@@ -8,7 +8,6 @@ use Rattle.frames.proofs.Texts.{wrote_then, wrote_as}
 use Rattle.file.specs.Filling.{owner_bytes}
 use Rattle.file.proofs.Sizes.{owner_long}
 use Rattle.file.proofs.Frames.{start, start_next, record_text}
-use borrow.Author.Rules.{rules}
 use Rattle.file.proofs.put_record.Goals as goal
 
 pub put_owner-pair-requires : goal.put_owner-pair-requires

@@ -1,8 +1,6 @@
 use Prim.Native.Nat.{◌-◌}
-use native.Mathlib.Omega.{arith}
 use Rattle.rules.specs.Layout.{edition_of}
-use Rattle.frames.proofs.Texts.{wrote_length}
-use Rattle.file.proofs.News.{Putting, put_first, put_room, put_next, put_all}
+use Rattle.file.proofs.News.{Putting}
 use Rattle.file.proofs.put_records.Given as goal
 
 abbrev pub invariant-loop-k : goal.invariant-loop-k

@@ -13,7 +13,6 @@ use Rattle.pool.proofs.Lengths.{some_word}
 use Rattle.frames.proofs.Texts.{nothing_wrote, wrote_as}
 use Rattle.file.proofs.Listing.{any_in, none_second, second_text}
 use Rattle.file.proofs.News.{new_carried}
-use borrow.Author.Rules.{rules}
 use Rattle.file.proofs.put_second.Goals as goal
 
 pub edition_of-requires : goal.edition_of-requires

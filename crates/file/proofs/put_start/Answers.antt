@@ -1,7 +1,6 @@
 use native.Mathlib.Omega.{arith}
 use Rattle.frames.proofs.Texts.{wrote_then}
 use Rattle.file.proofs.Sizes.{pair_next}
-use borrow.Author.Rules.{rules}
 use Rattle.file.proofs.put_start.Goals as goal
 
 pub put_pair-requires : goal.put_pair-requires

@@ -7,7 +7,6 @@ use Rattle.rules_laws.proofs.Bools.{not_true, not_false}
 use Rattle.frames.proofs.Words.{word_kept}
 use Rattle.file.specs.Loading.{Loads}
 use Rattle.file.proofs.Loaded.{reads_wrong, reads_other, blank_fit, blank_tree, blank_edition, reads_settled}
-use borrow.Author.Rules.{rules}
 use Rattle.file.proofs.read.Goals as goal
 
 pub returns-then-not-valid_size : goal.returns-then-not-valid_size

@@ -3,7 +3,6 @@ use native.Mathlib.Omega.{arith}
 use Rattle.frames.proofs.Words.{word_kept}
 use Rattle.file.specs.Loading.{place_of}
 use Rattle.file.proofs.Dues.{record_one, record_two, room_one, room_two}
-use borrow.Author.Rules.{rules}
 use Rattle.file.proofs.record_at.Goals as goal
 
 pub pair_from-requires : goal.pair_from-requires

@@ -1,5 +1,4 @@
 use Rattle.rules.specs.File.{record_kind}
-use borrow.Author.Rules.{rules}
 use Rattle.file.proofs.record_kind.Goals as goal
 
 pub returns-in-One : goal.returns-in-One

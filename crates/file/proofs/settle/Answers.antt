@@ -3,7 +3,6 @@ use lib.IntN.{ℤ, pos}
 use mir.Facts.{to_z-of_z}
 use Rattle.rules.specs.Lists.{same}
 use Rattle.file.proofs.Loaded.{settled_in, settled_out}
-use borrow.Author.Rules.{rules}
 use Rattle.file.proofs.settle.Goals as goal
 
 pub returns-then-same : goal.returns-then-same

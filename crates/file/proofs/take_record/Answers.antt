@@ -14,7 +14,6 @@ use Rattle.file_laws.proofs.Steps.{Passes}
 use Rattle.file.specs.Loading.{place_of, last_at}
 use Rattle.file.proofs.Dues.{due_long}
 use Rattle.file.proofs.Takes.{no_fault, due_then, then_passes, took_refused, took_made, took_full}
-use borrow.Author.Rules.{rules}
 use Rattle.file.proofs.take_record.Goals as goal
 
 pub returns-then-not-same : goal.returns-then-not-same

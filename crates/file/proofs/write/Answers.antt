@@ -5,7 +5,6 @@ use Rattle.frames.proofs.Words.{word_kept}
 use Rattle.in_force_laws.proofs.Sounds.{sound_tree}
 use Rattle.promises.specs.Files.{Writes}
 use Rattle.file.proofs.Writes.{writes_1, writes_2, writes_filled}
-use borrow.Author.Rules.{rules}
 use Rattle.file.proofs.write.Goals as goal
 
 pub returns-then-not-valid_length : goal.returns-then-not-valid_length

@@ -1,7 +1,7 @@
 use mir.Facts.{to_z-of_z}
 use mir.Syntax.{w32}
 use Rattle.map.proofs.Editions.{blanks_told, blanks_not}
-use borrow.Author.Rules.{rules, sfits_of}
+use borrow.Author.Rules.{sfits_of}
 use Rattle.map.proofs.dustmap_blank_as.Goals as goal
 
 pub returns-in-Pool : goal.returns-in-Pool

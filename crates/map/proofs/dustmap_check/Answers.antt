@@ -3,7 +3,6 @@ use mir.Syntax.{w32}
 use borrow.Author.Rules.{sfits_of}
 use mathlib.Core.Path.{◌∙◌}
 use Rattle.batch.proofs.Verdicts.{check_number}
-use borrow.Author.Rules.{rules}
 use Rattle.map.proofs.dustmap_check.Goals as goal
 
 pub returns : goal.returns

@@ -2,7 +2,6 @@ use mathlib.Core.Path.{sym}
 use mir.Facts.{to_z-of_z}
 use mir.Syntax.{w32}
 use borrow.Author.Rules.{sfits_of}
-use borrow.Author.Rules.{rules}
 use Rattle.map.proofs.dustmap_disc.Goals as goal
 
 pub returns : goal.returns

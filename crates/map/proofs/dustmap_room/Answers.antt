@@ -7,7 +7,6 @@ use Rattle.rules.specs.Pool.{rectangle}
 use Rattle.rules.specs.Layout.{word_at, rect_of}
 use Rattle.rules.specs.Room.{insert_room, room_number, room_words}
 use Rattle.geometry.proofs.Rects.{back}
-use borrow.Author.Rules.{rules}
 use Rattle.map.proofs.dustmap_room.Goals as goal
 
 pub returns : goal.returns

@@ -2,7 +2,6 @@ use mathlib.Core.Path.{sym, ◌∙◌}
 use mir.Facts.{to_z-of_z}
 use Rattle.rules_laws.proofs.Bools.{not_true, not_false}
 use Rattle.map.proofs.Editions.{no_rule, tells_one, tells_two, tells_none}
-use borrow.Author.Rules.{rules}
 use Rattle.map.proofs.edition_told.Goals as goal
 
 -- there is no such rule

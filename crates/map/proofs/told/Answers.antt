@@ -1,7 +1,6 @@
 use mathlib.Core.Path.{refl}
 use Rattle.rules.specs.Survey.{survey_number, survey_words}
 use Rattle.geometry.proofs.Rects.{rect_back}
-use borrow.Author.Rules.{rules}
 use Rattle.map.proofs.told.Goals as goal
 
 pub returns-in-Rounded : goal.returns-in-Rounded

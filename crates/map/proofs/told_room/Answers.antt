@@ -1,6 +1,5 @@
 use mathlib.Core.Path.{refl}
 use Rattle.rules.specs.Room.{room_number, room_words}
-use borrow.Author.Rules.{rules}
 use Rattle.map.proofs.told_room.Goals as goal
 
 pub returns-in-Slots : goal.returns-in-Slots

@@ -1,6 +1,5 @@
 use mathlib.Core.Path.{◌∙◌}
 use Rattle.request.proofs.Cases.{tell_changed, tell_listed, tell_rectangle, tell_number, tell_none, tell_held, tell_slot, tell_room}
-use borrow.Author.Rules.{rules}
 use Rattle.request.proofs.answer_of.Goals as goal
 
 pub returns-in-Changed : goal.returns-in-Changed

@@ -6,7 +6,6 @@ use mathlib.Core.Path.{sym, ap, ◌∙◌}
 use mathlib.Core.Option.{some}
 use Rattle.rules.specs.declared.Mode.{Mode}
 use Rattle.rules.specs.declared.Asked.TheVariants.{Search}
-use borrow.Author.Rules.{rules}
 use Rattle.request.proofs.asked.Goals as goal
 
 pub returns-then-same : goal.returns-then-same

@@ -2,7 +2,6 @@ use mathlib.Core.Path.{sym, ap, ◌∙◌}
 use mir.Facts.{to_z-of_z}
 use Rattle.rules.specs.declared.Edition.{Edition}
 use Rattle.rules.specs.Owners.{owner, owner_in}
-use borrow.Author.Rules.{rules}
 use Rattle.request.proofs.batch_owner.Goals as goal
 
 pub returns-in-One : goal.returns-in-One

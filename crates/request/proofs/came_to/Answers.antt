@@ -1,6 +1,5 @@
 use mathlib.Core.Path.{◌∙◌}
 use Rattle.request.proofs.Turns.{came_made, came_refused}
-use borrow.Author.Rules.{rules}
 use Rattle.request.proofs.came_to.Goals as goal
 
 pub returns-in-Made : goal.returns-in-Made

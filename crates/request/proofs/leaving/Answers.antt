@@ -1,9 +1,8 @@
 -- `leaving` meets its contract: what the count passes is thin.
-use Prim.Native.Nat.{◌-◌}
 use native.Mathlib.Omega.{arith}
 use Rattle.rules.specs.Layout.{read}
 use Rattle.delete.proofs.Climb.{down_high}
-use Rattle.request.proofs.Leaves.{Thins, one_thinner, counted_root, counted_kept, level_in}
+use Rattle.request.proofs.Leaves.{one_thinner, counted_root, counted_kept, level_in}
 use Rattle.request.proofs.leaving.Goals as goal
 
 pub loop-k-init : goal.loop-k-init

@@ -7,7 +7,6 @@ use Rattle.rules.specs.Request.{request}
 use Rattle.request.specs.Serving.{Serves}
 use Rattle.request.proofs.Cases.{asks_one}
 use Rattle.request.proofs.Listing.{some_words, asks_sound}
-use borrow.Author.Rules.{rules}
 use Rattle.request.proofs.one_request.Goals as goal
 
 pub batch_owner-who-requires : goal.batch_owner-who-requires

@@ -1,6 +1,5 @@
 use mathlib.Core.Path.{sym, ◌∙◌}
 use Rattle.request.proofs.Rows.{other_same, other_new}
-use borrow.Author.Rules.{rules}
 use Rattle.request.proofs.other_held.Goals as goal
 
 pub returns-then-is_equal : goal.returns-then-is_equal

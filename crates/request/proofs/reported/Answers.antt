@@ -2,7 +2,6 @@ use mathlib.Core.Path.{sym, ap, ◌∙◌}
 use native.Mathlib.Omega.{arith}
 use Rattle.rules.specs.declared.Edition.{Edition}
 use Rattle.rules.specs.Search.{reported}
-use borrow.Author.Rules.{rules}
 use Rattle.request.proofs.reported.Goals as goal
 
 pub overflow_cast-result : goal.overflow_cast-result

@@ -8,7 +8,6 @@ use Rattle.delete_laws.specs.Way.{thin_levels}
 use Rattle.find_leaf.specs.Ways.{path_of}
 use Rattle.delete.specs.Aside.{ComesDown}
 use Rattle.request.proofs.Turns.{room_small, room_is}
-use borrow.Author.Rules.{rules}
 use Rattle.request.proofs.scarce.Goals as goal
 
 pub height_of-h-requires : goal.height_of-h-requires

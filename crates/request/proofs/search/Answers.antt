@@ -4,7 +4,6 @@ use Rattle.rules_laws.proofs.Bools.{not_true, not_false}
 use Rattle.request.proofs.Turns.{ready_whole}
 use Rattle.request.proofs.Listing.{walk_room, own_room, own_small, owner_in_pool, some_words, search_bad, search_full, search_done}
 use Rattle.rules.specs.declared.Mode.TheVariants.{Meeting}
-use borrow.Author.Rules.{rules}
 use Rattle.request.proofs.search.Goals as goal
 
 pub returns-then-not-valid : goal.returns-then-not-valid

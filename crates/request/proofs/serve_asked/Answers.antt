@@ -5,7 +5,6 @@ use Rattle.rules.specs.declared.Asked.{Asked}
 use Rattle.rules.specs.Owners.{owner_sound}
 use Rattle.rules.specs.Layout.{read}
 use Rattle.in_force_laws.specs.Force.{asked_by}
-use borrow.Author.Rules.{rules}
 use Rattle.request.proofs.serve_asked.Goals as goal
 
 pub insert-requires : goal.insert-requires

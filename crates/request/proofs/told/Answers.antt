@@ -1,5 +1,4 @@
 use Rattle.request.specs.Serving.{replied}
-use borrow.Author.Rules.{rules}
 use Rattle.request.proofs.told.Goals as goal
 
 pub returns : goal.returns

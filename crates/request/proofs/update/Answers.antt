@@ -5,7 +5,6 @@ use Rattle.rules.specs.declared.Reply.TheVariants.{BadRectangle, BadNumber, NotH
 use Rattle.find_leaf.proofs.Held.{shows_held}
 use Rattle.request.proofs.Turns.{ready_whole, row_applies}
 use Rattle.request.proofs.Rows.{update_old, update_new, update_4, update_5, update_6}
-use borrow.Author.Rules.{rules}
 use Rattle.request.proofs.update.Goals as goal
 
 pub returns-then-not-valid : goal.returns-then-not-valid

@@ -2,7 +2,6 @@ use mathlib.Core.Path.{sym, ◌∙◌}
 use Rattle.rules_laws.proofs.Bools.{not_true, not_false}
 use Rattle.in_force_laws.proofs.Sounds.{sound_tree}
 use Rattle.insert_laws.proofs.Rooms.{room_length, room_sound, room_rectangle, room_told}
-use borrow.Author.Rules.{rules}
 use Rattle.room.proofs.insert_room.Goals as goal
 
 pub returns-then-not-valid_length : goal.returns-then-not-valid_length

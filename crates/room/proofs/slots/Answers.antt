@@ -1,6 +1,5 @@
 use native.Mathlib.Omega.{arith}
 use Rattle.room.proofs.Rooms.{high, leaf_way, needed_few, free_few}
-use borrow.Author.Rules.{rules}
 use Rattle.room.proofs.slots.Goals as goal
 
 pub needed-needed-requires : goal.needed-needed-requires
