@@ -1,4 +1,4 @@
-// The map for other languages: the exported functions, with no `requires`.
+// The map for other languages: the functions that `map_c` exports, with no `requires`.
 #![tactic(auto)]
 
 ghost use Rattle.std.specs.Prelude.{◌≡◌, pos};
@@ -17,8 +17,7 @@ ghost use Rattle.map.specs.Told.{told_of};
 use rules::{Answer, Edition, FoundRecord, InsertRoom, Query, Rect, Request, SurveyBox, Surveyed};
 
 // For any words: 0 and a blank pool of edition 1; or 1 for a wrong length, and nothing is written.
-#[unsafe(no_mangle)]
-pub extern "C" fn dustmap_blank(pool: &mut [i32]) -> i32
+pub fn dustmap_blank(pool: &mut [i32]) -> i32
     ensures { Blanks E.One pool.old result pool.new }
 {
     pool::blank::blank(pool, Edition::One)
@@ -48,8 +47,7 @@ fn edition_told(edition: i32, rule: i32) -> ToldEdition
 }
 
 // .. of the edition told. -1, before all else, where there is none of it or of the rule, and nothing is written.
-#[unsafe(no_mangle)]
-pub extern "C" fn dustmap_blank_as(pool: &mut [i32], edition: i32, rule: i32) -> i32
+pub fn dustmap_blank_as(pool: &mut [i32], edition: i32, rule: i32) -> i32
     ensures { BlanksAs edition rule pool.old result pool.new }
 {
     match edition_told(edition, rule) {
@@ -59,8 +57,7 @@ pub extern "C" fn dustmap_blank_as(pool: &mut [i32], edition: i32, rule: i32) ->
 }
 
 // What a call with no request would return: 1 for a wrong length, 2 for a pool that is not sound, else 0. Nothing is written.
-#[unsafe(no_mangle)]
-pub extern "C" fn dustmap_check(pool: &[i32]) -> i32
+pub fn dustmap_check(pool: &[i32]) -> i32
     ensures { result ≡ (C.call (nothing_asked pool.now)).number }
 {
     let n = pool.len();
@@ -69,8 +66,7 @@ pub extern "C" fn dustmap_check(pool: &[i32]) -> i32
 
 // One call: a batch of an owner over lent lists. For any input at all, the number, the pool, the workspace, the answers and the found list
 // are those that the definition `call` gives.
-#[unsafe(no_mangle)]
-pub extern "C" fn dustmap_call_as(
+pub fn dustmap_call_as(
     pool: &mut [i32],
     work: &mut [i32],
     requests: &[Request],
@@ -84,8 +80,7 @@ pub extern "C" fn dustmap_call_as(
 }
 
 // .. of owner 1.
-#[unsafe(no_mangle)]
-pub extern "C" fn dustmap_call(
+pub fn dustmap_call(
     pool: &mut [i32],
     work: &mut [i32],
     requests: &[Request],
@@ -98,24 +93,21 @@ pub extern "C" fn dustmap_call(
 }
 
 // The file of the map, at the front of a lent buffer, and how many bytes it has. Beside a refusal the buffer stays and the length is 0.
-#[unsafe(no_mangle)]
-pub extern "C" fn dustmap_write(pool: &[i32], file: &mut [u8], size: &mut u64) -> i32
+pub fn dustmap_write(pool: &[i32], file: &mut [u8], size: &mut u64) -> i32
     ensures { Writes pool.now file.old result file.new size.new }
 {
     file::write(pool, file, size)
 }
 
 // The map of a file of edition 1. Beside a refusal past 1 the pool stays, and the workspace is made equal to it.
-#[unsafe(no_mangle)]
-pub extern "C" fn dustmap_read(pool: &mut [i32], work: &mut [i32], file: &[u8]) -> i32
+pub fn dustmap_read(pool: &mut [i32], work: &mut [i32], file: &[u8]) -> i32
     ensures { Reads E.One pool.old work.old file.now result pool.new work.new }
 {
     file::read(pool, work, file, Edition::One)
 }
 
 // .. of the edition told. -1, before all else, where there is none of it or of the rule, and nothing is written.
-#[unsafe(no_mangle)]
-pub extern "C" fn dustmap_read_as(
+pub fn dustmap_read_as(
     pool: &mut [i32],
     work: &mut [i32],
     file: &[u8],
@@ -151,14 +143,7 @@ fn told(w: Surveyed, rect: &mut [i32; 4]) -> i32
 }
 
 // A survey box in doubles, as the rectangle of whole millimetres that holds it.
-#[unsafe(no_mangle)]
-pub extern "C" fn dustmap_box(
-    low_x: f64,
-    low_y: f64,
-    high_x: f64,
-    high_y: f64,
-    rect: &mut [i32; 4],
-) -> i32
+pub fn dustmap_box(low_x: f64, low_y: f64, high_x: f64, high_y: f64, rect: &mut [i32; 4]) -> i32
     ensures { Converts (of_box low_x low_y high_x high_y) rect.old result rect.new }
 {
     let b = SurveyBox {
@@ -171,8 +156,7 @@ pub extern "C" fn dustmap_box(
     told(w, rect)
 }
 
-#[unsafe(no_mangle)]
-pub extern "C" fn dustmap_point(x: f64, y: f64, rect: &mut [i32; 4]) -> i32
+pub fn dustmap_point(x: f64, y: f64, rect: &mut [i32; 4]) -> i32
     ensures { Converts (of_point x y) rect.old result rect.new }
 {
     let w = survey::query_window(Query::Point { x, y });
@@ -180,8 +164,7 @@ pub extern "C" fn dustmap_point(x: f64, y: f64, rect: &mut [i32; 4]) -> i32
 }
 
 // A disc by its centre and its radius, as a window that holds it.
-#[unsafe(no_mangle)]
-pub extern "C" fn dustmap_disc(x: f64, y: f64, radius: f64, rect: &mut [i32; 4]) -> i32
+pub fn dustmap_disc(x: f64, y: f64, radius: f64, rect: &mut [i32; 4]) -> i32
     ensures { Converts (of_disc x y radius) rect.old result rect.new }
 {
     let w = survey::query_window(Query::Disc { x, y, radius });
@@ -206,8 +189,7 @@ fn told_room(room: InsertRoom, slots: &mut [u32; 2]) -> i32
 }
 
 // Whether an insert of a rectangle would fit: the slots that it needs, and those that are free. The pool is only read.
-#[unsafe(no_mangle)]
-pub extern "C" fn dustmap_room(pool: &[i32], rect: &[i32; 4], slots: &mut [u32; 2]) -> i32
+pub fn dustmap_room(pool: &[i32], rect: &[i32; 4], slots: &mut [u32; 2]) -> i32
     ensures { Tells pool.now rect.now slots.old result slots.new }
 {
     let new = Rect {
