@@ -2,6 +2,6 @@
 // hands its status on.
 #![tactic(auto)]
 
-fn main() {
-    program::whole_run();
+fn main(rt: HostRuntime) {
+    program::whole_run(&mut rt.stdin(), &mut rt.stdout(), &rt.stderr());
 }

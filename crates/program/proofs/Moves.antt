@@ -1,98 +1,180 @@
--- What a call of the system moved, by its answer; and how much of the output is taken.
+-- What a call of the reader or the writer moved, by its answer; and how much of the output is taken.
 use mathlib.Core.Path.{◌≡◌, refl, sym, ap, subst, ◌∙◌}
-use mathlib.Core.List.{List}
+use mathlib.Core.List.{List, [], ◌++◌, append_assoc, append-nil}
 use mathlib.Core.Bool.{Bool, true, false, cond}
+use mathlib.Core.Logic.{◌⊎◌, inl, inr}
 use Prim.Native.Nat.{ℕ, zero, suc, ◌+◌, ◌-◌, ◌≤◌}
 use native.Mathlib.Omega.{arith}
-use lib.Dec.{T, leb-suc-zero}
 use lib.ListN.{length, take, drop, length-drop}
-use lib.Seq.{length-take-le}
-use lib.IntN.{ℤ, pos, negsuc, nat_abs}
-use lib.Signed.{lt_z, non_neg}
-use mir.Syntax.{w64}
-use mir.Val.{SFits, Fits}
+use lib.Seq.{length-take-le, take-take, take-add}
+use Rattle.std.specs.Prelude.{Option, None, Some, Result, Ok, Err, IfOk}
+use Rattle.std.specs.Io.KnownBytes.{Keeps, Appends, Consumes, WriteAppends, ReadConsumes}
+use Rattle.std.specs.declared.io.Error.{Error}
+use Rattle.std.specs.declared.io.ErrorKind.{ErrorKind}
+use Rattle.std.specs.declared.io.ErrorKind.TheVariants.{Interrupted, WouldBlock}
 use Rattle.rules_laws.proofs.Orders.{never_both}
-use Rattle.libc.specs.Io as libc
 use Rattle.program.specs.declared.Moved.{Moved}
 use Rattle.program.specs.declared.Moved.TheVariants.{Bytes, Nothing, Again, Failed}
 use Rattle.program.specs.declared.Sent.{Sent}
 use Rattle.program.specs.declared.Sent.TheVariants as S
-use Rattle.program.specs.Moving.{again, moved_by, bytes_of, sent_by, Sends, Taken, none, more}
+use Rattle.program.specs.Moving.{Known, passing, again, moved_by, bytes_of, sent_by, part_of, Sends, Taken, none, more, Stuck, refused, tired, Stops}
+
+-- ---- an error
+
+abbrev pub Passes : ErrorKind → Type 0
+Passes k = k ≡ Interrupted ⊎ k ≡ WouldBlock
+
+pub passing_so : (k : ErrorKind) → Passes k → true ≡ passing k
+passing_so k (inl e) = sym (ap passing e)
+passing_so k (inr e) = sym (ap passing e)
+
+pub passing_not : (k : ErrorKind) → (k ≡ Interrupted → ⊥) → (k ≡ WouldBlock → ⊥) → false ≡ passing k
+passing_not Interrupted n m = absurd (n refl)
+passing_not WouldBlock n m = absurd (m refl)
+passing_not k n m = refl
 
 -- ---- an answer
 
-below : (n : ℕ) → lt_z (pos n) (pos 0) ≡ false
-below n = leb-suc-zero n
+pub moved_nothing : (n : ℕ) → n ≡ 0 → Nothing ≡ moved_by (Ok n)
+unfolding moved_by
+moved_nothing zero h = refl
+moved_nothing (suc n) h = absurd (omega arith)
 
-module _ (error : ℤ) where
-  pub moved_refused : (z : ℤ) (b : Bool) → lt_z z (pos 0) ≡ true → again error ≡ b → cond b Again Failed ≡ moved_by z error
-  unfolding moved_by
-  moved_refused (pos n) b h e = never_both h (below n)
-  moved_refused (negsuc n) b h e = ap (λ (t : Bool). cond t Again Failed) (sym e)
+pub moved_bytes : (n : ℕ) → (n ≡ 0 → ⊥) → Bytes n ≡ moved_by (Ok n)
+unfolding moved_by
+moved_bytes zero h = absurd (h refl)
+moved_bytes (suc n) h = refl
 
-  pub moved_nothing : (z : ℤ) → lt_z z (pos 0) ≡ false → nat_abs z ≡ 0 → Nothing ≡ moved_by z error
-  unfolding moved_by
-  moved_nothing (pos zero) h e = refl
-  moved_nothing (pos (suc n)) h e = absurd (omega (arith, e))
-  moved_nothing (negsuc n) h e = never_both refl h
-
-  pub moved_bytes : (z : ℤ) → lt_z z (pos 0) ≡ false → (nat_abs z ≡ 0 → ⊥) → Bytes (nat_abs z) ≡ moved_by z error
-  unfolding moved_by
-  moved_bytes (pos zero) h e = absurd (e refl)
-  moved_bytes (pos (suc n)) h e = refl
-  moved_bytes (negsuc n) h e = never_both refl h
-
-pub moved_up : (z : ℤ) → lt_z z (pos 0) ≡ false → SFits w64 z → T (non_neg z) × Fits w64 (nat_abs z)
-moved_up (pos n) h f = (tt, record { fits = omega (arith, f.sfits) })
-moved_up (negsuc n) h f = never_both refl h
+pub moved_refused : (error : Error) (b : Bool) → b ≡ again error → cond b Again (Failed error) ≡ moved_by (Err error)
+unfolding moved_by
+moved_refused error b e = ap (λ (t : Bool). cond t Again (Failed error)) e
 
 -- ---- no more bytes are moved than were handed over
 
-refused_none : (b : Bool) → bytes_of (cond b Again Failed) ≡ 0
-refused_none true = refl
-refused_none false = refl
+refused_none : (error : Error) (b : Bool) → bytes_of (cond b Again (Failed error)) ≡ 0
+refused_none error true = refl
+refused_none error false = refl
 
-pub few : (n : ℕ) (answer error : ℤ) → libc.Moved n answer → bytes_of (moved_by answer error) ≤ n
+pub few : (n : ℕ) (answer : Result ℕ Error) → IfOk answer (λ k. k ≤ n) → bytes_of (moved_by answer) ≤ n
 unfolding moved_by
-few n (pos zero) error h = omega arith
-few n (pos (suc k)) error h = h
-few n (negsuc k) error h = omega (arith, refused_none (again error))
+few n (Ok zero) h = omega arith
+few n (Ok (suc k)) h = h
+few n (Err error) h = omega (arith, refused_none error (again error))
+
+-- ---- bytes that are known
+
+pub appends_none : (a : Known) → Appends a a []
+appends_none None = tt
+appends_none (Some xs) = sym (append-nil xs)
+
+pub consumes_none : (a : Known) → Consumes a a []
+consumes_none None = tt
+consumes_none (Some xs) = refl
+
+kept_appends : (a b : Known) → Keeps a b → Appends a b []
+kept_appends None b h = tt
+kept_appends (Some xs) None h = h
+kept_appends (Some xs) (Some ys) h = h ∙ sym (append-nil xs)
+
+kept_consumes : (a b : Known) → Keeps a b → Consumes a b []
+kept_consumes None b h = tt
+kept_consumes (Some xs) None h = h
+kept_consumes (Some xs) (Some ys) h = sym h
+
+pub appends_both : (a b c : Known) (x y : List ℕ) → Appends a b x → Appends b c y → Appends a c (x ++ y)
+appends_both None b c x y h k = tt
+appends_both (Some xs) None c x y h k = absurd h
+appends_both (Some xs) (Some ys) None x y h k = k
+appends_both (Some xs) (Some ys) (Some zs) x y h k = k ∙ ap (λ (l : List ℕ). l ++ y) h ∙ append_assoc xs x y
+
+pub consumes_both : (a b c : Known) (x y : List ℕ) → Consumes a b x → Consumes b c y → Consumes a c (x ++ y)
+consumes_both None b c x y h k = tt
+consumes_both (Some xs) None c x y h k = absurd h
+consumes_both (Some xs) (Some ys) None x y h k = k
+consumes_both (Some xs) (Some ys) (Some zs) x y h k = h ∙ ap (λ (l : List ℕ). x ++ l) k ∙ sym (append_assoc x y zs)
+
+-- a call appends or takes the bytes that it moved
+pub moved_appends : (a b : Known) (answer : Result ℕ Error) (buf : List ℕ) → WriteAppends a b answer buf → Appends a b (take (bytes_of (moved_by answer)) buf)
+unfolding moved_by
+moved_appends a b (Ok zero) buf h = h
+moved_appends a b (Ok (suc n)) buf h = h
+moved_appends a b (Err error) buf h =
+    subst (λ (n : ℕ). Appends a b (take n buf)) (sym (refused_none error (again error))) (kept_appends a b h)
+
+pub moved_consumes : (a b : Known) (answer : Result ℕ Error) (buf : List ℕ) → ReadConsumes a b answer buf → Consumes a b (take (bytes_of (moved_by answer)) buf)
+unfolding moved_by
+moved_consumes a b (Ok zero) buf h = h.0
+moved_consumes a b (Ok (suc n)) buf h = h.0
+moved_consumes a b (Err error) buf h =
+    subst (λ (n : ℕ). Consumes a b (take n buf)) (sym (refused_none error (again error))) (kept_consumes a b h)
 
 -- ---- what is taken of the output
 
 abbrev place_of : Sent → ℕ
 place_of (S.UpTo n) = n
-place_of S.Failed = 0
+place_of (S.Failed error) = 0
 
-sent_within : (sent filled : ℕ) (answer error : ℤ) → sent ≤ filled → libc.Moved (filled - sent) answer → place_of (sent_by sent (moved_by answer error)) ≤ filled
+abbrev is_up : Sent → Bool
+is_up (S.UpTo n) = true
+is_up (S.Failed error) = false
+
+-- where a write goes on
+next_place : (sent next : ℕ) (m : Moved) → S.UpTo next ≡ sent_by sent m → next ≡ sent + bytes_of m
 unfolding sent_by
-sent_within sent filled answer error k h = go (moved_by answer error) (few (filled - sent) answer error h)
-  where
-    go : (m : Moved) → bytes_of m ≤ filled - sent → place_of (sent_by sent m) ≤ filled
-    go (Bytes n) l = omega arith
-    go Nothing l = omega arith
-    go Again l = k
-    go Failed l = omega arith
+next_place sent next (Bytes n) e = ap place_of e
+next_place sent next Nothing e = never_both (ap is_up (sym e)) refl
+next_place sent next Again e = ap place_of e ∙ omega arith
+next_place sent next (Failed error) e = never_both (ap is_up (sym e)) refl
 
-pub taken_within : (filled n : ℕ) → Taken filled n → n ≤ filled
-taken_within filled n none = omega arith
-taken_within filled n (more sent next t s) =
-    omega (arith, sent_within sent filled s.answer s.error (taken_within filled sent t) s.within, ap place_of s.is)
+-- .. and where it failed, no byte was moved
+no_place : (sent : ℕ) (error : Option Error) (m : Moved) → S.Failed error ≡ sent_by sent m → bytes_of m ≡ 0
+unfolding sent_by
+no_place sent error (Bytes n) e = never_both refl (ap is_up (sym e))
+no_place sent error Nothing e = refl
+no_place sent error Again e = never_both refl (ap is_up (sym e))
+no_place sent error (Failed x) e = refl
+
+stuck_appends : {at held : Known} {out : List ℕ} {n filled : ℕ} {error : Option Error} → Stuck at held out n filled error → Appends at held []
+stuck_appends {at} {held} {out} {n} {filled} (refused error s) =
+    subst (λ (k : ℕ). Appends at held (take k (part_of out n filled))) (no_place n error (moved_by s.answer) s.is)
+    (moved_appends at held s.answer (part_of out n filled) s.wrote)
+stuck_appends {at} (tired tries all e) = subst (λ (k : Known). Appends at k []) (sym e) (appends_none at)
+
+module _ {holds : Known} {out : List ℕ} {filled : ℕ} where
+  pub taken_within : {n : ℕ} {held : Known} → Taken holds out filled n held → n ≤ filled
+  taken_within none = omega arith
+  taken_within (more sent next held now t s) =
+      omega (arith, taken_within t, few (filled - sent) s.answer s.within, next_place sent next (moved_by s.answer) s.is)
+
+  -- the writer holds what is taken, after what it held
+  pub taken_appends : {n : ℕ} {held : Known} → filled ≤ length out → Taken holds out filled n held → Appends holds held (take n out)
+  taken_appends h none = appends_none holds
+  taken_appends h (more sent next held now t s) =
+      let k = bytes_of (moved_by s.answer) in
+      let f = few (filled - sent) s.answer s.within in
+      let whole : take sent out ++ take k (part_of out sent filled) ≡ take next out =
+      ap (λ (l : List ℕ). take sent out ++ l) (take-take k (filled - sent) (drop sent out) f) ∙ sym (take-add sent k out)
+      ∙ ap (λ (j : ℕ). take j out) (sym (next_place sent next (moved_by s.answer) s.is)) in
+      subst (Appends holds now) whole
+      (appends_both holds held now (take sent out) (take k (part_of out sent filled)) (taken_appends h t)
+      (moved_appends held now s.answer (part_of out sent filled) s.wrote))
+
+  pub stops_appends : {held : Known} {n : ℕ} {error : Option Error} → filled ≤ length out → Stops holds held out filled n error → Appends holds held (take n out)
+  stops_appends {held} {n} h s =
+      subst (Appends holds held) (append-nil (take n out))
+      (appends_both holds s.at held (take n out) [] (taken_appends h s.taken) (stuck_appends s.stuck))
+
+  pub stops_within : {held : Known} {n : ℕ} {error : Option Error} → Stops holds held out filled n error → n ≤ filled
+  stops_within s = taken_within s.taken
 
 -- one write, by what it answered
-pub sends_by : (sent filled : ℕ) (out : List ℕ) (answer error : ℤ) {m : Moved} (k : Moved) → sent ≤ filled → filled ≤ length out
-    → libc.Moved (length (take (filled - sent) (drop sent out))) answer → m ≡ moved_by answer error → m ≡ k → Sends sent filled (sent_by sent k)
-sends_by sent filled out answer error k low high h e q =
-    let d = length-drop sent out in
-    record {
-      answer = answer;
-      error = error;
-      within = subst (λ (n : ℕ). libc.Moved n answer) (length-take-le (filled - sent) (drop sent out) (omega arith)) h;
-      is = ap (sent_by sent) (sym q ∙ e);
-    }
+module _ (sent filled : ℕ) (out : List ℕ) (answer : Result ℕ Error) (k : Moved) (low : sent ≤ filled) (high : filled ≤ length out)
+    (h : IfOk answer (λ n. n ≤ length (part_of out sent filled))) (e : k ≡ moved_by answer) where
+  part_long : length (part_of out sent filled) ≡ filled - sent
+  part_long = let d = length-drop sent out in length-take-le (filled - sent) (drop sent out) (omega arith)
 
-pub sends_few : (sent filled : ℕ) (out : List ℕ) (answer error : ℤ) {m : Moved} (n : ℕ) → sent ≤ filled → filled ≤ length out
-    → libc.Moved (length (take (filled - sent) (drop sent out))) answer → m ≡ moved_by answer error → m ≡ Bytes n → sent + n ≤ filled
-sends_few sent filled out answer error n low high h e q =
-    let d = length-drop sent out in
-    omega (arith, few _ answer error h, ap bytes_of (sym q ∙ e), length-take-le (filled - sent) (drop sent out) (omega arith))
+  pub sends_by : {holds held : Known} → WriteAppends holds held answer (part_of out sent filled) → Sends holds held out sent filled (sent_by sent k)
+  sends_by w = record { answer = answer; within = subst (λ (m : ℕ). IfOk answer (λ n. n ≤ m)) part_long h; is = ap (sent_by sent) e; wrote = w }
+
+  pub sends_few : sent + bytes_of k ≤ filled
+  sends_few = omega (arith, few _ answer h, ap bytes_of e, part_long)

@@ -5,13 +5,14 @@ use mathlib.Core.Bool.{Bool, true, false}
 use mathlib.Core.List.{List, [], ◌∷◌, ◌++◌, append_assoc, append-nil}
 use Prim.Native.Nat.{ℕ, zero, suc, ◌+◌, ◌-◌, ◌≤◌, ◌<◌}
 use native.Mathlib.Omega.{arith}
-use lib.ListN.{length, take, drop, length-drop, take-append-drop}
-use lib.Seq.{length-take-le, take-take, take-add}
+use lib.ListN.{length, take, drop, length-drop, take-append-drop, drop_of_length-le}
+use lib.Seq.{length-take-le, take-take, take-add, drop_at}
 use lib.IntN.{ℤ, pos}
-use mir.Syntax.{w32}
-use mir.Val.{SFits}
-use borrow.Rule.Slice.PartMut.{put_mid, take_put, same_len_mid}
-use Rattle.libc.specs.Io as libc
+use borrow.Rule.Slice.PartMut.{put_mid, take_put, same_len_mid, post_of}
+use Rattle.std.specs.Prelude.{Option, Result, Ok, Err, IfOk}
+use Rattle.std.specs.Counts.{IsPrefixLen}
+use Rattle.std.specs.Io.KnownBytes.{Appends, Consumes, ReadConsumes}
+use Rattle.std.specs.declared.io.Error.{Error}
 use Rattle.rules.specs.Frames.{bad_line, printed, dustmap}
 use Rattle.rules_laws.proofs.Orders.{never_both}
 use Rattle.free_slots.specs.declared.FreeSlots.{FreeSlots}
@@ -27,20 +28,34 @@ use Rattle.program.specs.declared.Got.{Got}
 use Rattle.program.specs.declared.Got.TheVariants as G
 use Rattle.program.specs.declared.Then.{Then}
 use Rattle.program.specs.declared.Then.TheVariants.{Goes, Waits, Full, Ends}
+use Rattle.program.specs.declared.End.{End}
+use Rattle.program.specs.declared.End.TheVariants.{BadFrame, NotRead, NotWritten}
 use Rattle.program.specs.declared.Step.{Step}
 use Rattle.program.specs.declared.Step.TheVariants as Next
 use Rattle.program.specs.declared.Flushed.{Flushed}
 use Rattle.program.specs.declared.Flushed.TheVariants.{All, Stopped}
-use Rattle.program.specs.Moving.{moved_by, held_in, held_up_to, got_by, most_rounds, Taken, Emptied, Flushes, Receives, bytes_of}
-use Rattle.program.specs.Running.{Claims, Stands, Comes, Onward, Onto, Over, Rounds, Waited, Runs}
+use Rattle.program.specs.Moving.{Known, moved_by, held_in, held_up_to, got_by, most_rounds, Taken, Stops, Emptied, Flushes, Receives, bytes_of}
+use Rattle.program.specs.Running.{Claims, Stands, Comes, Onward, Moves, Onto, Over, Rounds, Waited, Runs}
 use Rattle.program.specs.Running.{Finished, answered, bad_frame, not_read, not_written, endless, Drains, on, stuck, Closes, all, stopped, Ending, none, cut}
-use Rattle.program.proofs.Moves.{few, taken_within}
+use Rattle.program.proofs.Moves.{few, taken_appends, stops_within, stops_appends, appends_none, consumes_none, appends_both, consumes_both, moved_consumes}
 use Rattle.program.proofs.Steps.{said_as, wrote_front}
 
 -- ---- lists
 
 take_part : (n m : ℕ) (l : List ℕ) → n ≤ m → take m l ≡ take n l ++ drop n (take m l)
 take_part n m l h = sym (take-append-drop n (take m l)) ∙ ap (λ (t : List ℕ). t ++ drop n (take m l)) (take-take n m l h)
+
+-- ---- what came and what went
+
+pub moves_none : {left holds : Known} → Moves left left holds holds [] []
+moves_none {left} {holds} = record { read = consumes_none left; wrote = appends_none holds }
+
+moves_out : {left holds held : Known} (sent : List ℕ) → Appends holds held sent → Moves left left holds held [] sent
+moves_out {left} sent h = record { read = consumes_none left; wrote = h }
+
+pub moves_both : {l m n h k j : Known} {a b p q : List ℕ} → Moves l m h k a p → Moves m n k j b q → Moves l n h j (a ++ b) (p ++ q)
+moves_both {l} {m} {n} {h} {k} {j} {a} {b} {p} {q} v w =
+    record { read = consumes_both l m n a b v.read w.read; wrote = appends_both h k j p q v.wrote w.wrote }
 
 -- ---- what was printed is a beginning
 
@@ -78,17 +93,17 @@ module _ (pool : List ℤ) (input out : List ℕ) (r : Run) (arrived text : List
 abbrev run_in : Run → Got → Run
 run_in r (G.Came s) = s
 run_in r (G.Ended s) = s
-run_in r G.Failed = r
+run_in r (G.Failed error) = r
 
 abbrev is_came : Got → Bool
 is_came (G.Came s) = true
 is_came (G.Ended s) = false
-is_came G.Failed = false
+is_came (G.Failed error) = false
 
 abbrev is_ended : Got → Bool
 is_ended (G.Came s) = false
 is_ended (G.Ended s) = true
-is_ended G.Failed = false
+is_ended (G.Failed error) = false
 
 -- what a run that goes on after a read has
 pub record Held (old input : List ℕ) (r s : Run) (piece : List ℕ) : Type 0 where
@@ -130,74 +145,125 @@ module _ {old input : List ℕ} {r : Run} (low : r.at ≤ r.end) (high : r.end �
         held = ap (λ (j : ℕ). take j input) whole ∙ e ∙ sym (append-nil (held_in old r));
       })
 
-  -- bytes came, or none yet
-  pub came_held : {g : Got} {s : Run} (v : Receives old input r g) → g ≡ G.Came s
-      → Held old input r s (piece_of input (r.end - r.at) (moved_by v.answer v.error))
-  unfolding got_by
-  came_held {g} {s} v e =
-      go (moved_by v.answer v.error) (few (length input - (r.end - r.at)) v.answer v.error v.within) (sym v.is ∙ e)
-    where
-      go : (m : Moved) → bytes_of m ≤ length input - (r.end - r.at) → got_by r (r.end - r.at) m ≡ G.Came s
-          → Held old input r s (piece_of input (r.end - r.at) m)
-      go (Bytes n) h i = held_to n s h v.held (ap (run_in r) i)
-      go Nothing h i = never_both refl (ap is_ended i)
-      go Again h i = held_still s v.held (ap (run_in r) i)
-      go Failed h i = never_both (ap is_came i) refl
+  module _ {left rest : Known} where
+    -- bytes came, or none yet
+    pub came_held : {g : Got} {s : Run} (v : Receives left rest old input r g) → g ≡ G.Came s
+        → Held old input r s (piece_of input (r.end - r.at) (moved_by v.answer))
+    unfolding got_by
+    came_held {g} {s} v e = go (moved_by v.answer) (few (length input - (r.end - r.at)) v.answer v.within) (sym v.is ∙ e)
+      where
+        go : (m : Moved) → bytes_of m ≤ length input - (r.end - r.at) → got_by r (r.end - r.at) m ≡ G.Came s
+            → Held old input r s (piece_of input (r.end - r.at) m)
+        go (Bytes n) h i = held_to n s h v.held (ap (run_in r) i)
+        go Nothing h i = never_both refl (ap is_ended i)
+        go Again h i = held_still s v.held (ap (run_in r) i)
+        go (Failed error) h i = never_both (ap is_came i) refl
 
-  -- the input has ended
-  pub ended_held : {g : Got} {s : Run} (v : Receives old input r g) → g ≡ G.Ended s → Held old input r s []
+    -- the input has ended
+    pub ended_held : {g : Got} {s : Run} (v : Receives left rest old input r g) → g ≡ G.Ended s → Held old input r s []
+    unfolding got_by
+    ended_held {g} {s} v e = go (moved_by v.answer) (sym v.is ∙ e)
+      where
+        go : (m : Moved) → got_by r (r.end - r.at) m ≡ G.Ended s → Held old input r s []
+        go (Bytes n) i = never_both refl (ap is_came i)
+        go Nothing i = held_still s v.held (ap (run_in r) i)
+        go Again i = never_both refl (ap is_came i)
+        go (Failed error) i = never_both (ap is_ended i) refl
+
+-- what a read took of the reader
+module _ {left rest : Known} {old input : List ℕ} {r : Run} {g : Got} (v : Receives left rest old input r g) where
+  pub received_piece : Consumes left rest (piece_of input (r.end - r.at) (moved_by v.answer))
+  received_piece = moved_consumes left rest v.answer (drop (r.end - r.at) input) v.read
+
+  -- nothing, where no byte came
+  received_none : bytes_of (moved_by v.answer) ≡ 0 → Consumes left rest []
+  received_none e = subst (λ (n : ℕ). Consumes left rest (take n (drop (r.end - r.at) input))) e received_piece
+
+  pub received_ended : (s : Run) → g ≡ G.Ended s → Consumes left rest []
   unfolding got_by
-  ended_held {g} {s} v e = go (moved_by v.answer v.error) (sym v.is ∙ e)
+  received_ended s e = received_none (go (moved_by v.answer) (sym v.is ∙ e))
     where
-      go : (m : Moved) → got_by r (r.end - r.at) m ≡ G.Ended s → Held old input r s []
+      go : (m : Moved) → got_by r (r.end - r.at) m ≡ G.Ended s → bytes_of m ≡ 0
       go (Bytes n) i = never_both refl (ap is_came i)
-      go Nothing i = held_still s v.held (ap (run_in r) i)
-      go Again i = never_both refl (ap is_came i)
-      go Failed i = never_both (ap is_ended i) refl
+      go Nothing i = refl
+      go Again i = refl
+      go (Failed error) i = refl
+
+  pub received_failed : (error : Error) → g ≡ G.Failed error → Consumes left rest []
+  unfolding got_by
+  received_failed error e = received_none (go (moved_by v.answer) (sym v.is ∙ e))
+    where
+      go : (m : Moved) → got_by r (r.end - r.at) m ≡ G.Failed error → bytes_of m ≡ 0
+      go (Bytes n) i = never_both refl (ap is_came i)
+      go Nothing i = refl
+      go Again i = refl
+      go (Failed x) i = refl
+
+-- what follows the bytes that wait, where the rest of the buffer was lent
+part_after : (buffer part : List ℕ) (rest : ℕ) → rest ≤ length buffer → drop rest (put_mid rest (length buffer - rest) buffer part) ≡ part
+part_after buffer part rest h =
+    let d = length-drop rest buffer in
+    drop_at (take rest buffer) (part ++ post_of rest (length buffer - rest) buffer) rest (length-take-le rest buffer h)
+    ∙ ap (λ (l : List ℕ). part ++ l) (drop_of_length-le (drop rest buffer) {i = length buffer - rest} (omega arith)) ∙ append-nil part
+
+prefix_few : (n : ℕ) (part : List ℕ) (answer : Result ℕ Error) → length part ≡ n → IfOk answer (λ k. IsPrefixLen k part) → IfOk answer (λ k. k ≤ n)
+prefix_few n part (Ok k) e h = omega (arith, h.0, e)
+prefix_few n part (Err error) e h = h
 
 -- one read, by what it answered: the bytes that wait are at the front of the buffer, and what was read is a part of it after them
-pub received : (old buffer part : List ℕ) (r : Run) (rest : ℕ) (answer error : ℤ) {m : Moved} {g : Got} → r.at ≤ r.end → r.end ≤ length old
+pub received : {left remaining : Known} (old buffer part : List ℕ) (r : Run) (rest : ℕ) (answer : Result ℕ Error) {m : Moved} {g : Got} → r.at ≤ r.end → r.end ≤ length old
     → rest ≡ r.end - r.at → length buffer ≡ length old → take (r.end - r.at) buffer ≡ held_in old r
     → length part ≡ length (take (length buffer - rest) (drop rest buffer))
-    → libc.Moved (length (take (length buffer - rest) (drop rest buffer))) answer → m ≡ moved_by answer error → g ≡ got_by r rest m
-    → Receives old (put_mid rest (length buffer - rest) buffer part) r g
-received old buffer part r rest answer error {m} low high e long held size h is got =
+    → IfOk answer (λ k. IsPrefixLen k part) → ReadConsumes left remaining answer part → m ≡ moved_by answer → g ≡ got_by r rest m
+    → Receives left remaining old (put_mid rest (length buffer - rest) buffer part) r g
+received {left} {remaining} old buffer part r rest answer {m} low high e long held size h read is got =
     let input = put_mid rest (length buffer - rest) buffer part in
     let d = length-drop rest buffer in
     let same = same_len_mid rest (length buffer - rest) buffer part size in
-    let left : length buffer - rest ≡ length input - (r.end - r.at) = omega (arith, same, e) in
+    let size_is : length part ≡ length input - (r.end - r.at) =
+    omega (arith, same, e, size, length-take-le (length buffer - rest) (drop rest buffer) (omega arith)) in
     record {
       answer = answer;
-      error = error;
-      within = subst (λ (n : ℕ). libc.Moved n answer) (length-take-le (length buffer - rest) (drop rest buffer) (omega arith) ∙ left) h;
+      within = prefix_few (length input - (r.end - r.at)) part answer size_is h;
       held = ap (λ (n : ℕ). take n input) (sym e) ∙ take_put rest (length buffer - rest) buffer part (omega arith) ∙ ap (λ (n : ℕ). take n buffer) e ∙ held;
       is = got ∙ ap (λ (n : ℕ). got_by r n m) e ∙ ap (got_by r (r.end - r.at)) is;
+      read = subst (ReadConsumes left remaining answer)
+          (sym (ap (λ (n : ℕ). drop n input) (sym e) ∙ part_after buffer part rest (omega arith))) read;
     }
 
-pub received_few : (buffer : List ℕ) (rest : ℕ) (answer error : ℤ) {m : Moved} → rest ≤ length buffer
-    → libc.Moved (length (take (length buffer - rest) (drop rest buffer))) answer → m ≡ moved_by answer error → rest + bytes_of m ≤ length buffer
-received_few buffer rest answer error low h e =
+pub received_few : (buffer part : List ℕ) (rest : ℕ) (answer : Result ℕ Error) {m : Moved} → rest ≤ length buffer
+    → length part ≡ length (take (length buffer - rest) (drop rest buffer)) → IfOk answer (λ k. IsPrefixLen k part)
+    → m ≡ moved_by answer → rest + bytes_of m ≤ length buffer
+received_few buffer part rest answer low size h e =
     let d = length-drop rest buffer in
-    omega (arith, few _ answer error h, ap bytes_of e, length-take-le (length buffer - rest) (drop rest buffer) (omega arith))
+    omega (
+      arith,
+      few (length part) answer (prefix_few (length part) part answer refl h),
+      ap bytes_of e,
+      size,
+      length-take-le (length buffer - rest) (drop rest buffer) (omega arith),
+    )
 
 -- ---- what is left of the output
 
-module _ (r : Run) where
-  pub drains_on : {f : Flushed} {s : Run} → Flushes r f → f ≡ All s → Drains r (Next.Goes s)
+module _ {holds held : Known} {out : List ℕ} (r : Run) where
+  pub drains_on : {f : Flushed} {s : Run} → Flushes holds held out r f → f ≡ All s → Drains holds held out r (Next.Goes s)
   unfolding Flushes
-  drains_on {f} {s} h e = let t = subst (λ (x : Flushed). Flushes r x) e h in on s t.0 t.1
+  drains_on {f} {s} h e = let t = subst (λ (x : Flushed). Flushes holds held out r x) e h in on s t.0 t.1
 
-  pub drains_stuck : {f : Flushed} {n : ℕ} → Flushes r f → f ≡ Stopped n → Drains r (Next.Ends (pos 3))
+  pub drains_stuck : {f : Flushed} {n : ℕ} {error : Option Error} → Flushes holds held out r f → f ≡ Stopped n error
+      → Drains holds held out r (Next.Ends (NotWritten error))
   unfolding Flushes
-  drains_stuck {f} {n} h e = let t = subst (λ (x : Flushed). Flushes r x) e h in stuck n t.0 t.1
+  drains_stuck {f} {n} {error} h e = stuck n error (subst (λ (x : Flushed). Flushes holds held out r x) e h)
 
-  pub closes_all : {f : Flushed} {s : Run} → Flushes r f → f ≡ All s → Closes r (pos 1)
+  pub closes_all : {f : Flushed} {s : Run} → Flushes holds held out r f → f ≡ All s → Closes holds held out r BadFrame
   unfolding Flushes
-  closes_all {f} h e = all (subst (λ (x : Flushed). Flushes r x) e h).0
+  closes_all {f} h e = all (subst (λ (x : Flushed). Flushes holds held out r x) e h).0
 
-  pub closes_stopped : {f : Flushed} {n : ℕ} → Flushes r f → f ≡ Stopped n → Closes r (pos 3)
+  pub closes_stopped : {f : Flushed} {n : ℕ} {error : Option Error} → Flushes holds held out r f → f ≡ Stopped n error
+      → Closes holds held out r (NotWritten error)
   unfolding Flushes
-  closes_stopped {f} {n} h e = let t = subst (λ (x : Flushed). Flushes r x) e h in stopped n t.0 t.1
+  closes_stopped {f} {n} {error} h e = stopped n error (subst (λ (x : Flushed). Flushes holds held out r x) e h)
 
 -- ---- the end of the input
 
@@ -232,58 +298,66 @@ module _ (pool : List ℤ) (input out : List ℕ) (r : Run) (st : Stands pool in
       (omega (arith, st.low, st.high, length-drop r.at input)) r.before)
 
   -- the line of the cut frame, as far as it was taken
-  end_closed : (now : List ℕ) (q : Run) (status : ℤ) → r.at ≢ r.end → take q.filled now ≡ bad_line (suc r.before) → Closes q status
-      → Over pool input out r status
-  end_closed now q status n line (all t) =
-      record {
-        piece = [];
-        sent = take r.filled out ++ take q.filled now;
-        finished = λ a p c. let e = sym (append_assoc p (take r.filled out) (take q.filled now)) ∙ ap (λ (l : List ℕ). written p ++ l) line in
-            bad_frame (written p) (suc r.before) e (end_cut n a p c ∙ sym e);
-      }
-  end_closed now q status n line (stopped k t v) =
-      record {
-        piece = [];
-        sent = take r.filled out ++ take k now;
-        finished = λ a p c. subst (λ (l : List ℕ). Finished (a ++ []) l (pos 3)) (append_assoc p (take r.filled out) (take k now))
-            (part_printed (written p) (bad_line (suc r.before)) k now q.filled [] (taken_within q.filled k t) (sym line)
-            (end_cut n a p c ∙ sym (append-nil (written p ++ bad_line (suc r.before)))));
-      }
+  module _ {left rest holds at held : Known} (ended : Consumes left rest []) (first : Appends holds at (take r.filled out)) where
+    end_closed : (now : List ℕ) (q : Run) (end : End) → r.at ≢ r.end → q.filled ≤ length now → take q.filled now ≡ bad_line (suc r.before) → Closes at held now q end
+        → Over (Moves left rest holds held) pool input out r end
+    end_closed now q end n fit line (all t) =
+        record {
+          piece = [];
+          sent = take r.filled out ++ take q.filled now;
+          moves = record { read = ended; wrote = appends_both holds at held (take r.filled out) (take q.filled now) first (taken_appends fit t) };
+          finished = λ a p c. let e = sym (append_assoc p (take r.filled out) (take q.filled now)) ∙ ap (λ (l : List ℕ). written p ++ l) line in
+              bad_frame (written p) (suc r.before) e (end_cut n a p c ∙ sym e);
+        }
+    end_closed now q end n fit line (stopped k error t) =
+        record {
+          piece = [];
+          sent = take r.filled out ++ take k now;
+          moves = record { read = ended; wrote = appends_both holds at held (take r.filled out) (take k now) first (stops_appends fit t) };
+          finished = λ a p c. subst (λ (l : List ℕ). Finished (a ++ []) l (pos 3)) (append_assoc p (take r.filled out) (take k now))
+              (part_printed (written p) (bad_line (suc r.before)) k now q.filled [] (stops_within t) (sym line)
+              (end_cut n a p c ∙ sym (append-nil (written p ++ bad_line (suc r.before)))));
+        }
 
-  pub wait_ended : (now : List ℕ) {s : Run} (status : ℤ) → s.before ≡ r.before → s.end - s.at ≡ r.end - r.at → s.at ≤ s.end → Ending out now s status
-      → Over pool input out r status
-  wait_ended now {s} status b m low (none e) =
+    pub wait_ended : (now : List ℕ) {s : Run} (end : End) → s.before ≡ r.before → s.end - s.at ≡ r.end - r.at → s.at ≤ s.end → length now ≡ length out
+        → Ending at held out now s end → Over (Moves left rest holds held) pool input out r end
+    wait_ended now {s} end b m low long (none e f) =
+        record {
+          piece = [];
+          sent = take r.filled out;
+          moves = record { read = ended; wrote = subst (λ (k : Known). Appends holds k (take r.filled out)) (sym f) first };
+          finished = end_none (omega (arith, st.low, e, m));
+        }
+    wait_ended now {s} end b m low long (cut q end₁ n w fit closes) =
+        end_closed now q end₁ (λ e. n (omega (arith, e, m, low))) (omega arith) (wrote_front w fit ∙ ap (λ (k : ℕ). bad_line (suc k)) b) closes
+
+  pub wait_failed : {left rest holds held : Known} (error : Error) → Consumes left rest [] → Appends holds held (take r.filled out)
+      → Over (Moves left rest holds held) pool input out r (NotRead error)
+  wait_failed error h w =
       record {
         piece = [];
         sent = take r.filled out;
-        finished = end_none (omega (arith, st.low, e, m));
-      }
-  wait_ended now {s} status b m low (cut q status₁ n w fit closes) =
-      end_closed now q status₁ (λ e. n (omega (arith, e, m, low))) (wrote_front w fit ∙ ap (λ (k : ℕ). bad_line (suc k)) b) closes
-
-  pub wait_failed : Over pool input out r (pos 2)
-  wait_failed =
-      record {
-        piece = [];
-        sent = take r.filled out;
+        moves = record { read = h; wrote = w };
         finished = λ a p c. not_read r.before pool (held_in input r)
             (subst (λ (l : List ℕ). Said l (written p) r.before pool (held_in input r)) (sym (append-nil a)) c) waits;
       }
 
 -- not all that waited could be written
-pub over_stopped : (pool : List ℤ) (input out : List ℕ) (r : Run) (n : ℕ) → Taken r.filled n → Over pool input out r (pos 3)
-over_stopped pool input out r n t =
+pub over_stopped : {left holds held : Known} (pool : List ℤ) (input out : List ℕ) (r : Run) (n : ℕ) (error : Option Error) → r.filled ≤ length out
+    → Stops holds held out r.filled n error → Over (Moves left left holds held) pool input out r (NotWritten error)
+over_stopped pool input out r n error h t =
     record {
       piece = [];
       sent = take n out;
+      moves = moves_out (take n out) (stops_appends h t);
       finished = λ a p c. subst (λ (l : List ℕ). Finished l (p ++ take n out) (pos 3)) (sym (append-nil a))
-          (claims_stopped pool input out r a p c n (taken_within r.filled n t));
+          (claims_stopped pool input out r a p c n (stops_within t));
     }
 
 -- the run goes on with what came
-pub onto_came : (pool : List ℤ) (input out : List ℕ) (r : Run) (input' : List ℕ) {r' : Run} (s : Run) (piece : List ℕ) → Stands pool input out r
-    → Emptied r r' → Held input input' r' s piece → Onto pool input out r pool input' out s
-onto_came pool input out r input' {r'} s piece st e h =
+pub onto_came : {M : List ℕ → List ℕ → Type 0} (pool : List ℤ) (input out : List ℕ) (r : Run) (input' : List ℕ) {r' : Run} (s : Run) (piece : List ℕ) → Stands pool input out r
+    → Emptied r r' → Held input input' r' s piece → M piece (take r.filled out) → Onto M pool input out r pool input' out s
+onto_came pool input out r input' {r'} s piece st e h m =
     record {
       stands = record {
         ready = ready_as st.ready (h.free ∙ e.free);
@@ -294,6 +368,7 @@ onto_came pool input out r input' {r'} s piece st e h =
       counted = omega (arith, h.before, e.before);
       piece = piece;
       sent = take r.filled out;
+      moves = m;
       keeps = λ a p c. claims_on pool input out r a p c input' s piece e h.before h.filled h.held;
     }
 
@@ -312,104 +387,121 @@ module _ (pool : List ℤ) (input out : List ℕ) (r : Run) (pool' : List ℤ) (
       subst (λ (l : List ℕ). Claims pool' input' out' s (a ++ []) l) (sym (append-nil p))
       (subst (λ (l : List ℕ). Claims pool' input' out' s l p) (sym (append-nil a)) c)
 
-  pub onto_comes : (s : Run) → Comes pool input out r pool' out' s → Onto pool input out r pool' input out' s
+  pub onto_comes : {left holds : Known} (s : Run) → Comes pool input out r pool' out' s → Onto (Moves left left holds holds) pool input out r pool' input out' s
   onto_comes s k =
       record {
         stands = k.stands;
         counted = k.counted;
         piece = [];
         sent = [];
+        moves = moves_none;
         keeps = λ a p c. claims_same input s a p (k.keeps a p c);
       }
 
-  -- a run that came to s, and from there on
-  onto_after : (input'' out'' : List ℕ) (s t : Run) (pool'' : List ℤ) → Comes pool input out r pool' out' s → s.before ≤ r.before → Onto pool' input out' s pool'' input'' out'' t
-      → Onto pool input out r pool'' input'' out'' t
-  onto_after input'' out'' s t pool'' k b o =
-      record {
-        stands = o.stands;
-        counted = omega (arith, o.counted);
-        piece = o.piece;
-        sent = o.sent;
-        keeps = λ a p c. o.keeps a p (k.keeps a p c);
-      }
+  module _ {M : List ℕ → List ℕ → Type 0} where
+    -- a run that came to s, and from there on
+    onto_after : (input'' out'' : List ℕ) (s t : Run) (pool'' : List ℤ) → Comes pool input out r pool' out' s → s.before ≤ r.before
+        → Onto M pool' input out' s pool'' input'' out'' t → Onto M pool input out r pool'' input'' out'' t
+    onto_after input'' out'' s t pool'' k b o =
+        record {
+          stands = o.stands;
+          counted = omega (arith, o.counted);
+          piece = o.piece;
+          sent = o.sent;
+          moves = o.moves;
+          keeps = λ a p c. o.keeps a p (k.keeps a p c);
+        }
 
-  pub over_after : (s : Run) (status : ℤ) → Comes pool input out r pool' out' s → Over pool' input out' s status → Over pool input out r status
-  over_after s status k o = record { piece = o.piece; sent = o.sent; finished = λ a p c. o.finished a p (k.keeps a p c) }
+    pub over_after : (s : Run) (end : End) → Comes pool input out r pool' out' s → Over M pool' input out' s end → Over M pool input out r end
+    over_after s end k o = record { piece = o.piece; sent = o.sent; moves = o.moves; finished = λ a p c. o.finished a p (k.keeps a p c) }
 
-  pub round_waited : (input'' out'' : List ℕ) (s : Run) (pool'' : List ℤ) (t : Step) → Comes pool input out r pool' out' s → s.before ≤ r.before
-      → Rounds pool' input out' s pool'' input'' out'' t → Rounds pool input out r pool'' input'' out'' t
+  pub round_waited : (M : List ℕ → List ℕ → Type 0) (input'' out'' : List ℕ) (s : Run) (pool'' : List ℤ) (t : Step) → Comes pool input out r pool' out' s → s.before ≤ r.before
+      → Rounds M pool' input out' s pool'' input'' out'' t → Rounds M pool input out r pool'' input'' out'' t
   unfolding Rounds
-  round_waited input'' out'' s pool'' (Next.Goes n) k b o = onto_after input'' out'' s n pool'' k b o
-  round_waited input'' out'' s pool'' (Next.Ends status) k b o = over_after s status k o
+  round_waited M input'' out'' s pool'' (Next.Goes n) k b o = onto_after input'' out'' s n pool'' k b o
+  round_waited M input'' out'' s pool'' (Next.Ends end) k b o = over_after s end k o
 
-  pub round_drained : (s : Run) (t : Step) → Comes pool input out r pool' out' s → Drains s t → Rounds pool input out r pool' input out' t
-  unfolding Rounds
-  round_drained s t k (on n taken e) =
-      let st = k.stands in
-      record {
-        stands = record {
-          ready = ready_as st.ready e.free;
-          low = omega (arith, st.low, e.at, e.end);
-          high = omega (arith, st.high, e.end);
-          room = omega (arith, e.filled);
-        };
-        counted = omega (arith, k.counted, e.before);
-        piece = [];
-        sent = take s.filled out';
-        keeps = λ a p c. claims_on pool' input out' s a p (k.keeps a p c) input n [] e refl refl (sym (append-nil (held_in input n)));
-      }
-  round_drained s t k (stuck n taken v) = over_after s (pos 3) k (over_stopped pool' input out' s n taken)
+  module _ (left : Known) {holds held : Known} where
+    pub round_drained : (s : Run) (t : Step) → Comes pool input out r pool' out' s → Drains holds held out' s t
+        → Rounds (Moves left left holds held) pool input out r pool' input out' t
+    unfolding Rounds
+    round_drained s t k (on n taken e) =
+        let st = k.stands in
+        record {
+          stands = record {
+            ready = ready_as st.ready e.free;
+            low = omega (arith, st.low, e.at, e.end);
+            high = omega (arith, st.high, e.end);
+            room = omega (arith, e.filled);
+          };
+          counted = omega (arith, k.counted, e.before);
+          piece = [];
+          sent = take s.filled out';
+          moves = moves_out (take s.filled out') (taken_appends st.room taken);
+          keeps = λ a p c. claims_on pool' input out' s a p (k.keeps a p c) input n [] e refl refl (sym (append-nil (held_in input n)));
+        }
+    round_drained s t k (stuck n error v) = over_after s (NotWritten error) k (over_stopped pool' input out' s n error k.stands.room v)
 
-  pub round_ends : (s : Run) (status : ℤ) → take s.filled out' ≡ take r.filled out ++ bad_line (suc r.before)
-      → ((a p : List ℕ) → Claims pool input out r a p → (later : List ℕ) → dustmap (a ++ later) ≡ p ++ take s.filled out')
-      → Closes s status → Over pool input out r status
-  round_ends s status line h (all t) =
-      record {
-        piece = [];
-        sent = take s.filled out';
-        finished = λ a p c. bad_frame (p ++ take r.filled out) (suc r.before)
-            (ap (λ (l : List ℕ). p ++ l) line ∙ sym (append_assoc p (take r.filled out) (bad_line (suc r.before)))) (h a p c []);
-      }
-  round_ends s status line h (stopped k t v) =
-      record {
-        piece = [];
-        sent = take k out';
-        finished = λ a p c. part_printed p (take s.filled out') k out' s.filled [] (taken_within s.filled k t) refl
-            (h a p c [] ∙ sym (append-nil (p ++ take s.filled out')));
-      }
+    pub round_ends : (s : Run) (end : End) → s.filled ≤ length out' → take s.filled out' ≡ take r.filled out ++ bad_line (suc r.before)
+        → ((a p : List ℕ) → Claims pool input out r a p → (later : List ℕ) → dustmap (a ++ later) ≡ p ++ take s.filled out')
+        → Closes holds held out' s end → Over (Moves left left holds held) pool input out r end
+    round_ends s end fit line h (all t) =
+        record {
+          piece = [];
+          sent = take s.filled out';
+          moves = moves_out (take s.filled out') (taken_appends fit t);
+          finished = λ a p c. bad_frame (p ++ take r.filled out) (suc r.before)
+              (ap (λ (l : List ℕ). p ++ l) line ∙ sym (append_assoc p (take r.filled out) (bad_line (suc r.before)))) (h a p c []);
+        }
+    round_ends s end fit line h (stopped k error t) =
+        record {
+          piece = [];
+          sent = take k out';
+          moves = moves_out (take k out') (stops_appends fit t);
+          finished = λ a p c. part_printed p (take s.filled out') k out' s.filled [] (stops_within t) refl
+              (h a p c [] ∙ sym (append-nil (p ++ take s.filled out')));
+        }
 
 -- ---- `wait`
 
-module _ (input out : List ℕ) (r : Run) where
-  pub waited_stopped : {f : Flushed} {n : ℕ} → Flushes r f → f ≡ Stopped n → Waited input out r input out (Next.Ends (pos 3))
-  unfolding Flushes Rounds
-  waited_stopped {f} {n} h e pool st w = over_stopped pool input out r n (subst (λ (x : Flushed). Flushes r x) e h).0
+pub waited_stopped : (left holds held : Known) (input out : List ℕ) (r : Run) {f : Flushed} {n : ℕ} {error : Option Error} → r.filled ≤ length out
+    → Flushes holds held out r f → f ≡ Stopped n error → Waited (Moves left left holds held) input out r input out (Next.Ends (NotWritten error))
+unfolding Flushes Rounds
+waited_stopped left holds held input out r {f} {n} {error} low h e pool st w =
+    over_stopped pool input out r n error low (subst (λ (x : Flushed). Flushes holds held out r x) e h)
 
-  module _ {f : Flushed} (r' : Run) (h : Flushes r f) (e : f ≡ All r') where
-    pub emptied : Emptied r r'
-    unfolding Flushes
-    emptied = (subst (λ (x : Flushed). Flushes r x) e h).1
+module _ (holds at : Known) (input out : List ℕ) (r : Run) {f : Flushed} (r' : Run) (h : Flushes holds at out r f) (e : f ≡ All r') where
+  flushed : Taken holds out r.filled r.filled at × Emptied r r'
+  unfolding Flushes
+  flushed = subst (λ (x : Flushed). Flushes holds at out r x) e h
 
-    module _ (input' : List ℕ) {g : Got} (v : Receives input input' r' g) (same : length input' ≡ length input) where
-      pub waited_came : (s : Run) → g ≡ G.Came s → Waited input out r input' out (Next.Goes s)
-      unfolding Rounds
-      waited_came s i pool st w =
-          onto_came pool input out r input' s _ st emptied
-          (came_held (omega (arith, st.low, emptied.at, emptied.end)) (omega (arith, st.high, emptied.end)) v i)
+  pub emptied : Emptied r r'
+  emptied = flushed.1
 
-      pub waited_failed : Waited input out r input' out (Next.Ends (pos 2))
-      unfolding Rounds
-      waited_failed pool st w = wait_failed pool input out r st w
+  pub emptied_appends : r.filled ≤ length out → Appends holds at (take r.filled out)
+  emptied_appends low = taken_appends low flushed.0
 
-      pub waited_ended : (s : Run) → g ≡ G.Ended s → (now : List ℕ) (status : ℤ) → Ending out now s status
-          → Waited input out r input' now (Next.Ends status)
-      unfolding Rounds
-      waited_ended s i now status end pool st w =
-          let low : r'.at ≤ r'.end = omega (arith, st.low, emptied.at, emptied.end) in
-          let k = ended_held low (omega (arith, st.high, emptied.end)) v i in
-          let m = many_held low (omega (arith, st.high, emptied.end)) k in
-          wait_ended pool input out r st w now status (k.before ∙ emptied.before) (omega (arith, m, emptied.at, emptied.end)) k.low end
+  module _ {left rest : Known} (input' : List ℕ) {g : Got} (v : Receives left rest input input' r' g) (same : length input' ≡ length input) where
+    pub waited_came : (s : Run) → g ≡ G.Came s → Waited (Moves left rest holds at) input out r input' out (Next.Goes s)
+    unfolding Rounds
+    waited_came s i pool st w =
+        onto_came pool input out r input' s _ st emptied
+        (came_held (omega (arith, st.low, emptied.at, emptied.end)) (omega (arith, st.high, emptied.end)) v i)
+        (record { read = received_piece v; wrote = emptied_appends st.room })
+
+    pub waited_failed : (error : Error) → g ≡ G.Failed error → Waited (Moves left rest holds at) input out r input' out (Next.Ends (NotRead error))
+    unfolding Rounds
+    waited_failed error i pool st w = wait_failed pool input out r st w error (received_failed v error i) (emptied_appends st.room)
+
+    pub waited_ended : {held : Known} (s : Run) → g ≡ G.Ended s → (now : List ℕ) (end : End) → length now ≡ length out → Ending at held out now s end
+        → Waited (Moves left rest holds held) input out r input' now (Next.Ends end)
+    unfolding Rounds
+    waited_ended s i now end long last pool st w =
+        let low : r'.at ≤ r'.end = omega (arith, st.low, emptied.at, emptied.end) in
+        let k = ended_held low (omega (arith, st.high, emptied.end)) v i in
+        let m = many_held low (omega (arith, st.high, emptied.end)) k in
+        wait_ended pool input out r st w (received_ended v s i) (emptied_appends st.room) now end (k.before ∙ emptied.before) (omega (arith, m, emptied.at, emptied.end))
+        k.low long last
 
 -- ---- `round`
 
@@ -445,50 +537,46 @@ module _ (pool : List ℤ) (input out : List ℕ) (r : Run) (pool' : List ℤ) (
   pub ends_within : t ≡ Ends s → s.filled ≤ length out'
   ends_within e = (ends_all e).0
 
-  pub rounds_goes : t ≡ Goes s → Rounds pool input out r pool' input out' (Next.Goes s)
+  pub rounds_goes : (left holds : Known) → t ≡ Goes s → Rounds (Moves left left holds holds) pool input out r pool' input out' (Next.Goes s)
   unfolding Rounds
-  rounds_goes e = onto_comes pool input out r pool' out' s (goes_on e)
+  rounds_goes left holds e = onto_comes pool input out r pool' out' s (goes_on e)
 
-  pub rounds_full : t ≡ Full s → (x : Step) → Drains s x → Rounds pool input out r pool' input out' x
-  rounds_full e x d = round_drained pool input out r pool' out' s x (full_on e) d
+  pub rounds_full : (left : Known) {holds held : Known} → t ≡ Full s → (x : Step) → Drains holds held out' s x
+      → Rounds (Moves left left holds held) pool input out r pool' input out' x
+  rounds_full left e x d = round_drained pool input out r pool' out' left s x (full_on e) d
 
-  pub rounds_waits : t ≡ Waits s → (input'' out'' : List ℕ) (x : Step) → Waited input out' s input'' out'' x → Rounds pool input out r pool' input'' out'' x
-  rounds_waits e input'' out'' x w =
-      round_waited pool input out r pool' out' input'' out'' s pool' x (waits_on e) (waits_counted e) (w pool' (waits_on e).stands (waits_all e).1)
+  pub rounds_waits : (M : List ℕ → List ℕ → Type 0) → t ≡ Waits s → (input'' out'' : List ℕ) (x : Step) → Waited M input out' s input'' out'' x
+      → Rounds M pool input out r pool' input'' out'' x
+  rounds_waits M e input'' out'' x w =
+      round_waited pool input out r pool' out' M input'' out'' s pool' x (waits_on e) (waits_counted e) (w pool' (waits_on e).stands (waits_all e).1)
 
-  pub rounds_ends : t ≡ Ends s → (status : ℤ) → Closes s status → Rounds pool input out r pool' input out' (Next.Ends status)
+  pub rounds_ends : (left : Known) {holds held : Known} → t ≡ Ends s → (end : End) → Closes holds held out' s end
+      → Rounds (Moves left left holds held) pool input out r pool' input out' (Next.Ends end)
   unfolding Rounds
-  rounds_ends e status k = let d = ends_all e in round_ends pool input out r pool' out' s status d.1 d.2 k
+  rounds_ends left e end k = let d = ends_all e in round_ends pool input out r pool' out' left s end d.0 d.1 d.2 k
 
 -- ---- the whole run
 
-module _ (pool : List ℤ) (input out : List ℕ) (r : Run) (pool' : List ℤ) (input' out' : List ℕ) (x : Step)
-    (o : Rounds pool input out r pool' input' out' x) where
-  pub step_goes : (s : Run) → x ≡ Next.Goes s → Onto pool input out r pool' input' out' s
+module _ {M : List ℕ → List ℕ → Type 0} (pool : List ℤ) (input out : List ℕ) (r : Run) (pool' : List ℤ) (input' out' : List ℕ) (x : Step)
+    (o : Rounds M pool input out r pool' input' out' x) where
+  pub step_goes : (s : Run) → x ≡ Next.Goes s → Onto M pool input out r pool' input' out' s
   unfolding Rounds
-  step_goes s e = subst (λ (y : Step). Rounds pool input out r pool' input' out' y) e o
+  step_goes s e = subst (λ (y : Step). Rounds M pool input out r pool' input' out' y) e o
 
-  pub step_ends : (status : ℤ) → x ≡ Next.Ends status → Over pool input out r status
+  pub step_ends : (end : End) → x ≡ Next.Ends end → Over M pool input out r end
   unfolding Rounds
-  step_ends status e = subst (λ (y : Step). Rounds pool input out r pool' input' out' y) e o
+  step_ends end e = subst (λ (y : Step). Rounds M pool input out r pool' input' out' y) e o
 
-pub run_endless : (pool : List ℤ) (input out : List ℕ) (r : Run) (arrived text : List ℕ) → Claims pool input out r arrived text
-    → (rounds : ℕ) → rounds ≡ most_rounds → Runs (pos 4)
+pub run_endless : {M : List ℕ → List ℕ → Type 0} (pool : List ℤ) (input out : List ℕ) (r : Run) (arrived text : List ℕ) → M arrived text
+    → Claims pool input out r arrived text → (rounds : ℕ) → rounds ≡ most_rounds → Runs M (pos 4)
 unfolding Said
-run_endless pool input out r arrived text c rounds all_used =
+run_endless pool input out r arrived text moves c rounds all_used =
     let m = length (held_in input r ++ []) in
     let after = printed m (suc r.before) pool (held_in input r ++ []) in
     record {
       arrived = arrived;
       printed = text;
+      moves = moves;
       finished = endless (take r.filled out ++ after)
           (ap dustmap (sym (append-nil arrived)) ∙ c [] m (omega arith) ∙ append_assoc text (take r.filled out) after) rounds all_used;
     }
-
--- a status is a small number
-pub finished_fits : {a p : List ℕ} {status : ℤ} → Finished a p status → SFits w32 status
-finished_fits (answered b q s) = record { sfits = omega arith }
-finished_fits (bad_frame t b e d) = record { sfits = omega arith }
-finished_fits (not_read b q h s w) = record { sfits = omega arith }
-finished_fits (not_written t d) = record { sfits = omega arith }
-finished_fits (endless t d n e) = record { sfits = omega arith }

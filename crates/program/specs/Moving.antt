@@ -1,8 +1,12 @@
--- What the system's calls answered, and what the program makes of it. No contract can say what a call of the system reads or writes: these
--- say how the program goes on for every answer that there may be.
-use Rattle.std.specs.Prelude.{◌≡◌, Bool, cond, ◌||◌, List, ℕ, zero, suc, ◌+◌, ◌-◌, length, take, drop, ℤ, pos, negsuc}
-use Rattle.rules.specs.Lists.{same}
-use Rattle.libc.specs.Io as libc
+-- What a reader and a writer answered, and what the program makes of it. Of a file or a terminal no contract can say what it gives or
+-- takes: these say how the program goes on for every answer that there may be. Where the bytes that a reader has left or that a writer
+-- holds are known, they say what became of them.
+use Rattle.std.specs.Prelude.{◌≡◌, Bool, true, false, cond, List, ℕ, zero, suc, ◌+◌, ◌-◌, ◌≤◌, length, take, drop, Option, None, Some, Result, Ok, Err, IfOk}
+use Rattle.std.specs.Io.KnownBytes.{ReadConsumes, WriteAppends}
+use Rattle.std.specs.declared.io.Error.{Error}
+use Rattle.std.specs.declared.io.ErrorKind.{ErrorKind}
+use Rattle.std.specs.declared.io.ErrorKind.TheVariants.{Interrupted, WouldBlock}
+use Rattle.std.specs.IoError.{error_kind}
 use Rattle.program.specs.declared.Run.{Run}
 use Rattle.program.specs.declared.Moved.{Moved}
 use Rattle.program.specs.declared.Moved.TheVariants.{Bytes, Nothing, Again, Failed}
@@ -13,43 +17,58 @@ use Rattle.program.specs.declared.Flushed.TheVariants.{All, Stopped}
 use Rattle.program.specs.declared.Got.{Got}
 use Rattle.program.specs.declared.Got.TheVariants as G
 
--- a call is made again where a signal came in between (4), or the other side was not ready (11)
-unfoldable pub again : ℤ → Bool
-again error = same error (pos 4) || same error (pos 11)
+-- a signal came in between (4, EINTR), or the other side was not ready (11, EAGAIN)
+abbrev pub passing : ErrorKind → Bool
+passing Interrupted = true
+passing WouldBlock = true
+passing k = false
 
--- what a call moved: bytes, none at the end of the input, or it answers -1 with a number for its error
-unfoldable pub moved_by : ℤ → ℤ → Moved
-moved_by (pos zero) error = Nothing
-moved_by (pos (suc n)) error = Bytes (suc n)
-moved_by (negsuc n) error = cond (again error) Again Failed
+-- a call is made again then
+unfoldable pub again : Error → Bool
+again error = passing (error_kind error)
+
+-- what a call moved: bytes, none at the end of the input, or it answers with its error
+unfoldable pub moved_by : Result ℕ Error → Moved
+moved_by (Ok zero) = Nothing
+moved_by (Ok (suc n)) = Bytes (suc n)
+moved_by (Err error) = cond (again error) Again (Failed error)
 
 -- how many bytes these are
 abbrev pub bytes_of : Moved → ℕ
 bytes_of (Bytes n) = n
 bytes_of Nothing = 0
 bytes_of Again = 0
-bytes_of Failed = 0
+bytes_of (Failed error) = 0
+
+-- the bytes that a reader has left or that a writer holds, where they are known
+abbrev pub Known : Type 0
+Known = Option (List ℕ)
 
 -- ---- writing
 
 -- up to where the output is written after a write of the bytes from `sent` on
 unfoldable pub sent_by : ℕ → Moved → Sent
 sent_by sent (Bytes n) = S.UpTo (sent + n)
-sent_by sent Nothing = S.Failed
+sent_by sent Nothing = S.Failed None
 sent_by sent Again = S.UpTo sent
-sent_by sent Failed = S.Failed
+sent_by sent (Failed error) = S.Failed (Some error)
+
+-- the bytes of the output from `sent` up to `filled`
+abbrev pub part_of : List ℕ → ℕ → ℕ → List ℕ
+part_of out sent filled = take (filled - sent) (drop sent out)
 
 -- one write, of the bytes of the output from `sent` up to `filled`
-pub record Sends (sent filled : ℕ) (r : Sent) : Type 0 where
-  pub answer : ℤ
-  pub error : ℤ
-  pub within : libc.Moved (filled - sent) answer
-  pub is : r ≡ sent_by sent (moved_by answer error)
+pub record Sends (holds held : Known) (out : List ℕ) (sent filled : ℕ) (r : Sent) : Type 0 where
+  pub answer : Result ℕ Error
+  pub within : IfOk answer (λ n. n ≤ filled - sent)
+  pub is : r ≡ sent_by sent (moved_by answer)
+  pub wrote : WriteAppends holds held answer (part_of out sent filled)
 
 -- so many bytes of the output were taken, by one write after another, each of the bytes after those taken before it
-pub data Taken (filled : ℕ) : ℕ → Type 0 where
-  none : Taken filled 0
-  more : (sent next : ℕ) → Taken filled sent → Sends sent filled (S.UpTo next) → Taken filled next
+pub data Taken (holds : Known) (out : List ℕ) (filled : ℕ) : ℕ → Known → Type 0 where
+  none : Taken holds out filled 0 holds
+  more : (sent next : ℕ) (held now : Known) → Taken holds out filled sent held → Sends held now out sent filled (S.UpTo next)
+      → Taken holds out filled next now
 
 -- the run with so much of the output filled
 abbrev pub filled_up_to : Run → ℕ → Run
@@ -68,14 +87,20 @@ abbrev pub most_rounds : ℕ
 most_rounds = 18446744073709551615
 
 -- no more is taken: a write of the bytes from `sent` on failed, or there were too many tries
-pub data Stuck (sent filled : ℕ) : Type 0 where
-  refused : Sends sent filled S.Failed → Stuck sent filled
-  tired : (tries : ℕ) → tries ≡ most_rounds → Stuck sent filled
+pub data Stuck (holds held : Known) (out : List ℕ) (sent filled : ℕ) : Option Error → Type 0 where
+  refused : (error : Option Error) → Sends holds held out sent filled (S.Failed error) → Stuck holds held out sent filled error
+  tired : (tries : ℕ) → tries ≡ most_rounds → held ≡ holds → Stuck holds held out sent filled None
+
+-- so much of the output was taken, and then no more
+pub record Stops (holds held : Known) (out : List ℕ) (filled n : ℕ) (error : Option Error) : Type 0 where
+  pub at : Known
+  pub taken : Taken holds out filled n at
+  pub stuck : Stuck at held out n filled error
 
 -- all that waited is taken, and the run goes on; or a write failed, and only so much was taken
-unfoldable pub Flushes : Run → Flushed → Type 0
-Flushes r (All s) = Taken r.filled r.filled × Emptied r s
-Flushes r (Stopped n) = Taken r.filled n × Stuck n r.filled
+unfoldable pub Flushes : Known → Known → List ℕ → Run → Flushed → Type 0
+Flushes holds held out r (All s) = Taken holds out r.filled r.filled held × Emptied r s
+Flushes holds held out r (Stopped n error) = Stops holds held out r.filled n error
 
 -- ---- reading
 
@@ -92,12 +117,12 @@ unfoldable pub got_by : Run → ℕ → Moved → Got
 got_by r rest (Bytes n) = G.Came (held_up_to r (rest + n))
 got_by r rest Nothing = G.Ended (held_up_to r rest)
 got_by r rest Again = G.Came (held_up_to r rest)
-got_by r rest Failed = G.Failed
+got_by r rest (Failed error) = G.Failed error
 
 -- one read: the bytes that wait are at the front of the input then, and what came follows them
-pub record Receives (old input : List ℕ) (r : Run) (g : Got) : Type 0 where
-  pub answer : ℤ
-  pub error : ℤ
-  pub within : libc.Moved (length input - (r.end - r.at)) answer
+pub record Receives (left rest : Known) (old input : List ℕ) (r : Run) (g : Got) : Type 0 where
+  pub answer : Result ℕ Error
+  pub within : IfOk answer (λ n. n ≤ length input - (r.end - r.at))
   pub held : take (r.end - r.at) input ≡ held_in old r
-  pub is : g ≡ got_by r (r.end - r.at) (moved_by answer error)
+  pub is : g ≡ got_by r (r.end - r.at) (moved_by answer)
+  pub read : ReadConsumes left rest answer (drop (r.end - r.at) input)

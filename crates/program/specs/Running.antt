@@ -1,5 +1,5 @@
 -- What stays true from step to step of the program.
-use Rattle.std.specs.Prelude.{◌≡◌, ◌≢◌, List, [], ◌++◌, ℕ, suc, ◌+◌, ◌*◌, ◌≤◌, length, take, ℤ, pos}
+use Rattle.std.specs.Prelude.{◌≡◌, ◌≢◌, List, [], ◌++◌, ℕ, suc, ◌+◌, ◌*◌, ◌≤◌, length, take, ℤ, pos, Option}
 use Rattle.rules.specs.declared.Edition.TheVariants.{One}
 use Rattle.rules.specs.declared.Request.{Request}
 use Rattle.rules.specs.Layout.{head_size, slot_size}
@@ -13,9 +13,13 @@ use Rattle.request.specs.Serving.{Ready}
 use Rattle.program.specs.declared.Run.{Run}
 use Rattle.program.specs.declared.Then.{Then}
 use Rattle.program.specs.declared.Then.TheVariants.{Goes, Waits, Full, Ends}
+use Rattle.program.specs.declared.End.{End}
+use Rattle.program.specs.declared.End.TheVariants.{Answered, BadFrame, NotRead, NotWritten, Endless}
 use Rattle.program.specs.declared.Step.{Step}
 use Rattle.program.specs.declared.Step.TheVariants as Next
-use Rattle.program.specs.Moving.{most_rounds, held_in, Taken, Stuck, Emptied}
+use Rattle.std.specs.declared.io.Error.{Error}
+use Rattle.std.specs.Io.KnownBytes.{Consumes, Appends}
+use Rattle.program.specs.Moving.{most_rounds, Known, held_in, Taken, Stops, Emptied}
 
 -- "a 128-slot pool (5,384 words)"
 abbrev pub pool_size : ℕ
@@ -69,6 +73,14 @@ passed_by r size free filled = record { before = r.before + 1; free = free; at =
 
 -- ---- the ends of a run
 
+-- the status of each
+abbrev pub status_of : End → ℤ
+status_of Answered = pos 0
+status_of BadFrame = pos 1
+status_of (NotRead error) = pos 2
+status_of (NotWritten error) = pos 3
+status_of Endless = pos 4
+
 -- how a run ends, by its status, when `arrived` has been read and `printed` written
 pub data Finished (arrived printed : List ℕ) : ℤ → Type 0 where
   -- 0: the input has ended, and of all its frames the lines are printed
@@ -84,48 +96,57 @@ pub data Finished (arrived printed : List ℕ) : ℤ → Type 0 where
   endless : (rest : List ℕ) → dustmap arrived ≡ printed ++ rest → (rounds : ℕ) → rounds ≡ most_rounds → Finished arrived printed (pos 4)
 
 -- what waited is written and the run goes on, or not all of it could be
-pub data Drains (r : Run) : Step → Type 0 where
-  on : (s : Run) → Taken r.filled r.filled → Emptied r s → Drains r (Next.Goes s)
-  stuck : (n : ℕ) → Taken r.filled n → Stuck n r.filled → Drains r (Next.Ends (pos 3))
+pub data Drains (holds held : Known) (out : List ℕ) (r : Run) : Step → Type 0 where
+  on : (s : Run) → Taken holds out r.filled r.filled held → Emptied r s → Drains holds held out r (Next.Goes s)
+  stuck : (n : ℕ) (error : Option Error) → Stops holds held out r.filled n error → Drains holds held out r (Next.Ends (NotWritten error))
 
 -- .. and the run ends at a bad frame
-pub data Closes (r : Run) : ℤ → Type 0 where
-  all : Taken r.filled r.filled → Closes r (pos 1)
-  stopped : (n : ℕ) → Taken r.filled n → Stuck n r.filled → Closes r (pos 3)
+pub data Closes (holds held : Known) (out : List ℕ) (r : Run) : End → Type 0 where
+  all : Taken holds out r.filled r.filled held → Closes holds held out r BadFrame
+  stopped : (n : ℕ) (error : Option Error) → Stops holds held out r.filled n error → Closes holds held out r (NotWritten error)
 
 -- the end of the input: no byte is left; or some are, and the line of a bad frame is written
-pub data Ending (out now : List ℕ) (r : Run) : ℤ → Type 0 where
-  none : r.at ≡ r.end → Ending out now r (pos 0)
-  cut : (s : Run) (status : ℤ) → r.at ≢ r.end → Wrote out 0 (bad_line (suc r.before)) now s.filled → s.filled ≤ length out
-      → Closes s status → Ending out now r status
+pub data Ending (holds held : Known) (out now : List ℕ) (r : Run) : End → Type 0 where
+  none : r.at ≡ r.end → held ≡ holds → Ending holds held out now r Answered
+  cut : (s : Run) (end : End) → r.at ≢ r.end → Wrote out 0 (bad_line (suc r.before)) now s.filled → s.filled ≤ length out
+      → Closes holds held now s end → Ending holds held out now r end
 
 -- ---- a round
 
+-- `piece` came from the reader and `sent` went to the writer, where their bytes are known: the reader had left the piece and then `rest`,
+-- and the writer holds what it held and then what was sent
+pub record Moves (left rest holds held : Known) (piece sent : List ℕ) : Type 0 where
+  pub read : Consumes left rest piece
+  pub wrote : Appends holds held sent
+
 -- a run has come from one to the other: `piece` came from the input, and `sent` went to the output. Nothing is printed that is not to be, and
 -- nothing is left out
-pub record Onto (pool : List ℤ) (input out : List ℕ) (r : Run) (pool' : List ℤ) (input' out' : List ℕ) (s : Run) : Type 0 where
+pub record Onto (Moved : List ℕ → List ℕ → Type 0) (pool : List ℤ) (input out : List ℕ) (r : Run) (pool' : List ℤ) (input' out' : List ℕ) (s : Run) : Type 0 where
   pub stands : Stands pool' input' out' s
   pub counted : s.before ≤ suc r.before
   pub piece : List ℕ
   pub sent : List ℕ
+  pub moves : Moved piece sent
   pub keeps : (arrived printed : List ℕ) → Claims pool input out r arrived printed → Claims pool' input' out' s (arrived ++ piece) (printed ++ sent)
 
-pub record Over (pool : List ℤ) (input out : List ℕ) (r : Run) (status : ℤ) : Type 0 where
+pub record Over (Moved : List ℕ → List ℕ → Type 0) (pool : List ℤ) (input out : List ℕ) (r : Run) (end : End) : Type 0 where
   pub piece : List ℕ
   pub sent : List ℕ
-  pub finished : (arrived printed : List ℕ) → Claims pool input out r arrived printed → Finished (arrived ++ piece) (printed ++ sent) status
+  pub moves : Moved piece sent
+  pub finished : (arrived printed : List ℕ) → Claims pool input out r arrived printed → Finished (arrived ++ piece) (printed ++ sent) (status_of end)
 
-unfoldable pub Rounds : List ℤ → List ℕ → List ℕ → Run → List ℤ → List ℕ → List ℕ → Step → Type 0
-Rounds pool input out r pool' input' out' (Next.Goes s) = Onto pool input out r pool' input' out' s
-Rounds pool input out r pool' input' out' (Next.Ends status) = Over pool input out r status
+unfoldable pub Rounds : (List ℕ → List ℕ → Type 0) → List ℤ → List ℕ → List ℕ → Run → List ℤ → List ℕ → List ℕ → Step → Type 0
+Rounds Moved pool input out r pool' input' out' (Next.Goes s) = Onto Moved pool input out r pool' input' out' s
+Rounds Moved pool input out r pool' input' out' (Next.Ends end) = Over Moved pool input out r end
 
 -- a round that waits for input, where the end of a frame has yet to come
-abbrev pub Waited : List ℕ → List ℕ → Run → List ℕ → List ℕ → Step → Type 0
-Waited input out r input' out' t =
-    (pool : List ℤ) → Stands pool input out r → framed (held_in input r) ≡ F.Waits → Rounds pool input out r pool input' out' t
+abbrev pub Waited : (List ℕ → List ℕ → Type 0) → List ℕ → List ℕ → Run → List ℕ → List ℕ → Step → Type 0
+Waited Moved input out r input' out' t =
+    (pool : List ℤ) → Stands pool input out r → framed (held_in input r) ≡ F.Waits → Rounds Moved pool input out r pool input' out' t
 
--- a whole run
-pub record Runs (status : ℤ) : Type 0 where
+-- a whole run: what it read and wrote, and how it ended
+pub record Runs (Moved : List ℕ → List ℕ → Type 0) (status : ℤ) : Type 0 where
   pub arrived : List ℕ
   pub printed : List ℕ
+  pub moves : Moved arrived printed
   pub finished : Finished arrived printed status

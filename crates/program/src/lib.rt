@@ -1,6 +1,6 @@
-// The program `dustmap`: reads frames from standard input into a 128-slot pool and prints the lines of each. Crate `frames` knows how a
-// frame is read and how lines are written, and crate `request` what a request does; here one follows the other. What the system is asked
-// to read and to write is in `receive` and `send` alone.
+// The program `dustmap`: reads frames from a reader into a 128-slot pool and prints the lines of each to a writer. Crate `frames` knows how a
+// frame is read and how lines are written, and crate `request` what a request does; here one follows the other. What the reader and the
+// writer are asked is in `receive` and `send` alone. Where it is known what bytes they have, the contracts say what became of them.
 #![tactic(auto)]
 
 ghost use Rattle.std.specs.Prelude.{◌≡◌, true, suc, ◌+◌, ◌-◌, ◌≤◌, ◌<◌, min, length, replicate};
@@ -12,18 +12,22 @@ ghost use Rattle.found_items.specs.Items.{shown_from, Pointing};
 ghost use Rattle.request.specs.Serving.{Ready};
 ghost use Rattle.frames.specs.Writing.{Wrote};
 ghost use Rattle.program.specs.Moving.{most_rounds, again, moved_by, bytes_of, held_up_to, filled_up_to, got_by, Sends, Flushes, Receives};
-ghost use Rattle.program.specs.Running.{pool_size, Begins, Stands, Onward, Replies, passed_by, Drains, Closes, Ending, Waited, Rounds, Runs};
+ghost use Rattle.program.specs.Running.{pool_size, status_of, Begins, Stands, Onward, Replies, passed_by, Drains, Closes, Ending, Moves, Waited, Rounds, Runs};
 
 use frames::Framed;
 use free_slots::FreeSlots;
-use libc::{STDIN_FILENO, STDOUT_FILENO};
 use rules::{Edition, FoundRecord, RecordNumber, Rect, Request};
+use std::hint;
+use std::io::{Eprint, Error, ErrorKind, Read, Result, Write};
 
 // "a 128-slot pool (5,384 words)"
 const WORDS: usize = 5384;
 
 // The lines of one frame take no more bytes of the output than this.
 const ROOM: usize = 7124;
+
+// The bytes that are read at a time, and those that wait to be written.
+const BUFFER: usize = 65536;
 
 // How a run ends. The numbers are the program's status.
 pub const ANSWERED: i32 = 0;
@@ -35,6 +39,32 @@ pub const NOT_READ: i32 = 2;
 pub const NOT_WRITTEN: i32 = 3;
 
 pub const ENDLESS: i32 = 4;
+
+// How a run ends, and what could not be read or written.
+#[derive(Clone, Copy)]
+enum End {
+    Answered,
+    BadFrame,
+    NotRead(Error),
+    // Without an error, no byte was taken.
+    NotWritten(Option<Error>),
+    Endless,
+}
+
+impl End {
+    // The program's status.
+    fn status(self) -> i32
+        ensures { result ≡ status_of self }
+    {
+        match self {
+            Self::Answered => ANSWERED,
+            Self::BadFrame => BAD_FRAME,
+            Self::NotRead(_) => NOT_READ,
+            Self::NotWritten(_) => NOT_WRITTEN,
+            Self::Endless => ENDLESS,
+        }
+    }
+}
 
 // How far the run has come: so many frames came before, the bytes of the input from `at` up to `end` are not done, and the first `filled`
 // of the output are not written.
@@ -174,7 +204,7 @@ fn turn(pool: &mut [i32], work: &mut [i32], input: &[u8], run: Run, out: &mut [u
     }
 }
 
-// ---- the system's calls
+// ---- the reader's and the writer's calls
 
 // What a call of `read` or `write` answered.
 #[derive(Clone, Copy)]
@@ -185,58 +215,58 @@ enum Moved {
     Nothing,
     // None for now, since a signal came in between or the other side was not ready.
     Again,
-    Failed,
+    Failed(Error),
 }
 
 // A call is made again where a signal came in between, or the other side was not ready.
-fn try_again(error: i32) -> bool
+fn try_again(error: Error) -> bool
     ensures { result ≡ again error }
 {
-    geometry::or(
-        geometry::same(error, libc::EINTR),
-        geometry::same(error, libc::EAGAIN),
-    )
+    matches!(error.kind(), ErrorKind::Interrupted | ErrorKind::WouldBlock)
 }
 
-// What a call moved, by its answer and the system's number for its error.
-fn what_moved(answer: isize, error: i32) -> Moved
-    ensures { result ≡ moved_by answer error }
+// What a call moved, by its answer.
+fn what_moved(answer: Result<usize>) -> Moved
+    ensures { result ≡ moved_by answer }
 {
-    if answer < 0 {
-        if try_again(error) {
-            return Moved::Again;
+    match answer {
+        Ok(n) => {
+            if n == 0 {
+                return Moved::Nothing;
+            }
+            Moved::Bytes(n)
         }
-        return Moved::Failed;
+        Err(error) => {
+            if try_again(error) {
+                return Moved::Again;
+            }
+            Moved::Failed(error)
+        }
     }
-    let n = answer as usize;
-    if n == 0 {
-        return Moved::Nothing;
-    }
-    Moved::Bytes(n)
 }
 
 // How far the output is written.
 #[derive(Clone, Copy)]
 enum Sent {
     UpTo(usize),
-    Failed,
+    // Without an error, no byte was taken.
+    Failed(Option<Error>),
 }
 
 // Hands the bytes of the output from `sent` up to `filled` to `write`, once. It may take fewer than all.
-fn send(out: &[u8], sent: usize, filled: usize) -> Sent
+fn send<W: Write>(writer: &mut W, out: &[u8], sent: usize, filled: usize) -> Sent
     requires { (sent ≤ filled) × (filled ≤ length out.now) }
-    ensures { Sends sent filled result }
+    ensures { Sends (W.contents writer.old) (W.contents writer.new) out.now sent filled result }
 {
-    let answer = libc::write(STDOUT_FILENO, &out[sent..filled]);
-    let error = os::errno();
-    match what_moved(answer, error) {
+    let answer = writer.write(&out[sent..filled]);
+    match what_moved(answer) {
         Moved::Bytes(n) => Sent::UpTo(sent + n),
-        Moved::Nothing => Sent::Failed,
+        Moved::Nothing => Sent::Failed(None),
         Moved::Again => {
-            libc::sched_yield();
+            hint::spin_loop();
             Sent::UpTo(sent)
         }
-        Moved::Failed => Sent::Failed,
+        Moved::Failed(error) => Sent::Failed(Some(error)),
     }
 }
 
@@ -244,14 +274,14 @@ fn send(out: &[u8], sent: usize, filled: usize) -> Sent
 #[derive(Clone, Copy)]
 enum Flushed {
     All(Run),
-    Stopped(usize),
+    Stopped(usize, Option<Error>),
 }
 
 // Writes all that is not written yet. Nothing is written after a `write` that failed. The tries are counted down from a number that no
 // run uses up, since nothing says that the other side will ever be ready, and a loop has to end.
-fn flush(out: &[u8], run: Run) -> Flushed
+fn flush<W: Write>(writer: &mut W, out: &[u8], run: Run) -> Flushed
     requires { run.filled ≤ length out.now }
-    ensures { Flushes run result }
+    ensures { Flushes (W.contents writer.old) (W.contents writer.new) out.now run result }
 {
     let filled = run.filled;
     let mut sent: usize = 0;
@@ -260,13 +290,13 @@ fn flush(out: &[u8], run: Run) -> Flushed
         if sent == filled {
             return Flushed::All(filled_to(run, 0));
         }
-        let Sent::UpTo(next) = send(out, sent, filled) else {
-            return Flushed::Stopped(sent);
-        };
-        sent = next;
+        match send(writer, out, sent, filled) {
+            Sent::UpTo(next) => sent = next,
+            Sent::Failed(error) => return Flushed::Stopped(sent, error),
+        }
         tries -= 1;
     }
-    Flushed::Stopped(sent)
+    Flushed::Stopped(sent, None)
 }
 
 // What came of reading once.
@@ -276,19 +306,18 @@ enum Got {
     Came(Run),
     // The input has ended.
     Ended(Run),
-    Failed,
+    Failed(Error),
 }
 
 // Reads once, to the place after the bytes that wait, which go to the front of the input first.
-fn receive(input: &mut [u8], run: Run) -> Got
+fn receive<R: Read>(reader: &mut R, input: &mut [u8], run: Run) -> Got
     requires bytes { (run.at ≤ run.end) × (run.end ≤ length input.old) }
     requires room { run.end - run.at < length input.old }
-    ensures { Receives input.old input.new run result }
+    ensures { Receives (R.remaining reader.old) (R.remaining reader.new) input.old input.new run result }
 {
     let rest = frames::keep_rest(input, run.at, run.end);
-    let answer = libc::read(STDIN_FILENO, &mut input[rest..]);
-    let error = os::errno();
-    after_read(run, rest, what_moved(answer, error))
+    let answer = reader.read(&mut input[rest..]);
+    after_read(run, rest, what_moved(answer))
 }
 
 // How the run goes on after a read to the place after the `rest` bytes that wait.
@@ -300,10 +329,10 @@ fn after_read(run: Run, rest: usize, moved: Moved) -> Got
         Moved::Bytes(n) => Got::Came(held(run, rest + n)),
         Moved::Nothing => Got::Ended(held(run, rest)),
         Moved::Again => {
-            libc::sched_yield();
+            hint::spin_loop();
             Got::Came(held(run, rest))
         }
-        Moved::Failed => Got::Failed,
+        Moved::Failed(error) => Got::Failed(error),
     }
 }
 
@@ -323,47 +352,47 @@ fn held(run: Run, end: usize) -> Run
 
 // ---- the run
 
-// What is next after a round: another, or the end of the run with its status.
+// What is next after a round: another, or the end of the run.
 #[derive(Clone, Copy)]
 enum Step {
     Goes(Run),
-    Ends(i32),
+    Ends(End),
 }
 
 // The answers are written, and the run goes on.
-fn drain(out: &[u8], run: Run) -> Step
+fn drain<W: Write>(writer: &mut W, out: &[u8], run: Run) -> Step
     requires { run.filled ≤ length out.now }
-    ensures { Drains run result }
+    ensures { Drains (W.contents writer.old) (W.contents writer.new) out.now run result }
 {
-    match flush(out, run) {
+    match flush(writer, out, run) {
         Flushed::All(r) => Step::Goes(r),
-        Flushed::Stopped(_) => Step::Ends(NOT_WRITTEN),
+        Flushed::Stopped(_, error) => Step::Ends(End::NotWritten(error)),
     }
 }
 
 // The bad frame's line is written, and the run ends.
-fn close(out: &[u8], run: Run) -> i32
+fn close<W: Write>(writer: &mut W, out: &[u8], run: Run) -> End
     requires { run.filled ≤ length out.now }
-    ensures { Closes run result }
+    ensures { Closes (W.contents writer.old) (W.contents writer.new) out.now run result }
 {
-    match flush(out, run) {
-        Flushed::All(_) => BAD_FRAME,
-        Flushed::Stopped(_) => NOT_WRITTEN,
+    match flush(writer, out, run) {
+        Flushed::All(_) => End::BadFrame,
+        Flushed::Stopped(_, error) => End::NotWritten(error),
     }
 }
 
 // At the end of the input the bytes that are left are a cut frame.
-fn last_line(out: &mut [u8], run: Run) -> i32
+fn last_line<W: Write>(writer: &mut W, out: &mut [u8], run: Run) -> End
     requires counted { run.before < most_rounds }
     requires room { 31 ≤ length out.old }
-    ensures { Ending out.old out.new run result }
+    ensures { Ending (W.contents writer.old) (W.contents writer.new) out.old out.new run result }
 {
     let at = run.at;
     let end = run.end;
     let free = run.free;
     let before = run.before;
     if at == end {
-        return ANSWERED;
+        return End::Answered;
     }
     let filled = frames::bad_line(out, 0, before);
     let last = Run {
@@ -373,42 +402,59 @@ fn last_line(out: &mut [u8], run: Run) -> i32
         end,
         filled,
     };
-    close(out, last)
+    close(writer, out, last)
 }
 
 // The answers to the frames that have arrived are seen before more input is waited for.
-fn wait(input: &mut [u8], out: &mut [u8], run: Run) -> Step
+fn wait<R: Read, W: Write>(
+    reader: &mut R,
+    writer: &mut W,
+    input: &mut [u8],
+    out: &mut [u8],
+    run: Run,
+) -> Step
     requires bytes { (run.at ≤ run.end) × (run.end ≤ length input.old) }
     requires room { run.end - run.at < length input.old }
     requires lines { (run.filled ≤ length out.old) × (31 ≤ length out.old) }
     requires counted { run.before < most_rounds }
-    ensures { Waited input.old out.old run input.new out.new result }
+    ensures { Waited (Moves (R.remaining reader.old) (R.remaining reader.new) (W.contents writer.old) (W.contents writer.new))
+        input.old out.old run input.new out.new result }
 {
-    let Flushed::All(next) = flush(out, run) else {
-        return Step::Ends(NOT_WRITTEN);
+    let next = match flush(writer, out, run) {
+        Flushed::All(next) => next,
+        Flushed::Stopped(_, error) => return Step::Ends(End::NotWritten(error)),
     };
-    match receive(input, next) {
+    match receive(reader, input, next) {
         Got::Came(r) => Step::Goes(r),
-        Got::Ended(r) => Step::Ends(last_line(out, r)),
-        Got::Failed => Step::Ends(NOT_READ),
+        Got::Ended(r) => Step::Ends(last_line(writer, out, r)),
+        Got::Failed(error) => Step::Ends(End::NotRead(error)),
     }
 }
 
 // One frame, or what it takes to get to the next.
-fn round(pool: &mut [i32], work: &mut [i32], input: &mut [u8], out: &mut [u8], run: Run) -> Step
+fn round<R: Read, W: Write>(
+    reader: &mut R,
+    writer: &mut W,
+    pool: &mut [i32],
+    work: &mut [i32],
+    input: &mut [u8],
+    out: &mut [u8],
+    run: Run,
+) -> Step
     requires stands { Stands pool.old input.old out.old run }
     requires words { length pool.old ≡ pool_size }
     requires space { length work.old ≡ pool_size }
     requires bytes { 40 ≤ length input.old }
     requires room { 7124 ≤ length out.old }
     requires counted { run.before < most_rounds }
-    ensures { Rounds pool.old input.old out.old run pool.new input.new out.new result }
+    ensures { Rounds (Moves (R.remaining reader.old) (R.remaining reader.new) (W.contents writer.old) (W.contents writer.new))
+        pool.old input.old out.old run pool.new input.new out.new result }
 {
     match turn(pool, work, input, run, out) {
         Then::Goes(r) => Step::Goes(r),
-        Then::Full(r) => drain(out, r),
-        Then::Waits(r) => wait(input, out, r),
-        Then::Ends(r) => Step::Ends(close(out, r)),
+        Then::Full(r) => drain(writer, out, r),
+        Then::Waits(r) => wait(reader, writer, input, out, r),
+        Then::Ends(r) => Step::Ends(close(writer, out, r)),
     }
 }
 
@@ -430,44 +476,48 @@ fn first_run(pool: &mut [i32]) -> Run
 
 // Reads and answers frame after frame. Nothing says that the input ends, and a loop has to: so the rounds are counted down, from a number
 // that no run uses up.
-fn answer_all() -> i32
-    ensures { Runs result }
+fn answer_all<R: Read, W: Write>(reader: &mut R, writer: &mut W) -> End
+    ensures { Runs (Moves (R.remaining reader.old) (R.remaining reader.new) (W.contents writer.old) (W.contents writer.new))
+        (status_of result) }
 {
     let mut pool = [0i32; WORDS];
     let mut work = [0i32; WORDS];
-    let mut input = io::large_buffer();
-    let mut out = io::large_buffer();
+    let mut input = [0u8; BUFFER];
+    let mut out = [0u8; BUFFER];
     let mut run = first_run(&mut pool);
     let mut rounds = u64::MAX;
     while rounds > 0 {
-        match round(&mut pool, &mut work, &mut input, &mut out, run) {
+        match round(
+            reader, writer, &mut pool, &mut work, &mut input, &mut out, run,
+        ) {
             Step::Goes(next) => {
                 run = next;
                 rounds -= 1;
             }
-            Step::Ends(status) => {
-                return status;
+            Step::Ends(end) => {
+                return end;
             }
         }
     }
-    ENDLESS
+    End::Endless
 }
 
 // Says on standard error what could not be read or written, with the system's word for it.
-fn report(status: i32) {
-    if status == NOT_READ {
-        os::fail(b"dustmap: standard input");
-    }
-    if status == NOT_WRITTEN {
-        os::fail(b"dustmap: standard output");
-    }
+fn report<E: Eprint>(errors: &E, end: End) {
+    let said = match end {
+        End::NotRead(error) => eprintln!(errors; "dustmap: standard input: {error}"),
+        End::NotWritten(Some(error)) => eprintln!(errors; "dustmap: standard output: {error}"),
+        End::NotWritten(None) => eprintln!(errors; "dustmap: standard output: no byte was taken"),
+        _ => Ok(()),
+    };
+    let _ = said;
 }
 
 // The whole program. Its result is the status that it ends with.
-pub fn whole_run() -> i32
-    ensures { Runs result }
+pub fn whole_run<R: Read, W: Write, E: Eprint>(reader: &mut R, writer: &mut W, errors: &E) -> i32
+    ensures { Runs (Moves (R.remaining reader.old) (R.remaining reader.new) (W.contents writer.old) (W.contents writer.new)) result }
 {
-    let status = answer_all();
-    report(status);
-    status
+    let end = answer_all(reader, writer);
+    report(errors, end);
+    end.status()
 }
