@@ -8,26 +8,23 @@ import os, shutil, subprocess, tempfile
 ROOT = os.path.dirname(os.path.dirname(os.path.abspath(__file__)))
 
 HEAD = """-- Closed statements, written by tools/.
-use mathlib.Core.Path.{_≡_, refl}
-use mathlib.Core.List.{List, [], _∷_}
-use Prim.Native.Nat.{ℕ}
-use lib.IntN.{ℤ, pos}
-use lib.ListN.{replicate}
-use lib.Ieee.{binary64, ofBits}
-use Rattle·rules·specs.specs.declared.Edition.the-variants.{One, Two}
-use Rattle·rules·specs.specs.declared.Request.{Request}
-use Rattle·rules·specs.specs.declared.Answer.{Answer}
-use Rattle·rules·specs.specs.declared.Query.the-variants.{Point, Box, Disc}
-use Rattle·rules·specs.specs.declared.Surveyed.the-variants.{Rounded, BadSurvey}
-use Rattle·rules·specs.specs.Owners.{owner}
-use Rattle·rules·specs.specs.Pool.{number, rectangle, noRecord}
-use Rattle·rules·specs.specs.Answers.{answer}
-use Rattle·rules·specs.specs.Call.{Left}
-use Rattle·rules·specs.specs.Frames.{dustmap}
-use Rattle·rules·specs.specs.Survey.{queryWindow}
-use Rattle·rules·specs.specs.Computed.{document01, document02}
-use Rattle·rules·specs.specs.Histories.{minus, asking, historyOf}
-use Rattle·rules·specs.specs.Layout.{blankWordsOf}
+use Rattle.std.specs.Prelude.{◌≡◌, refl, List, [], ◌∷◌, ℕ, ℤ, pos, replicate}
+use Rattle.std.specs.Float.{binary64}
+use Rattle.std.specs.Float.Ieee.{of_bits}
+use Rattle.rules.specs.declared.Edition.TheVariants.{One, Two}
+use Rattle.rules.specs.declared.Request.{Request}
+use Rattle.rules.specs.declared.Answer.{Answer}
+use Rattle.rules.specs.declared.Query.TheVariants.{Point, Box, Disc}
+use Rattle.rules.specs.declared.Surveyed.TheVariants.{Rounded, BadSurvey}
+use Rattle.rules.specs.Owners.{owner}
+use Rattle.rules.specs.Pool.{number, rectangle, no_record}
+use Rattle.rules.specs.Answers.{answer}
+use Rattle.rules.specs.Call.{Left}
+use Rattle.rules.specs.Frames.{dustmap}
+use Rattle.rules.specs.Survey.{query_window}
+use Rattle.rules.specs.Computed.{document01, document02}
+use Rattle.rules.specs.Histories.{minus, asking, history_of}
+use Rattle.rules.specs.Layout.{blank_words_of}
 """
 
 
@@ -80,7 +77,7 @@ def start(script):
     blank = lines_of(script, "blank")
     if blank:
         slots, edition = (numbers(blank[0]) + [1])[:2]
-        return f"blankWordsOf {EDITIONS[edition]} {slots}"
+        return f"blank_words_of {EDITIONS[edition]} {slots}"
     return words(numbers(lines_of(script, "pool")[0]))
 
 
@@ -95,26 +92,26 @@ def statement(name, script, output):
     requests = [request(l) for l in lines_of(script, *KINDS)]
     workspace = pool if result == 0 else start(script)
     return f"""
-{name}-start : List ℤ
-{name}-start = {start(script)}
+{name}_start : List ℤ
+{name}_start = {start(script)}
 
-{name}-requests : List Request
-{name}-requests = {listed(requests)}
+{name}_requests : List Request
+{name}_requests = {listed(requests)}
 
-{name}-pool : List ℤ
-{name}-pool = {pool}
+{name}_pool : List ℤ
+{name}_pool = {pool}
 
-{name}-left : Left
-{name}-left =
+{name}_left : Left
+{name}_left =
     record {{
       number = {integer(result)};
-      pool = {name}-pool;
+      pool = {name}_pool;
       workspace = {workspace};
       answers = {listed(answers)};
-      found = {listed(filled, f'replicate {places - len(filled)} noRecord')} }}
+      found = {listed(filled, f'replicate {places - len(filled)} no_record')} }}
 
-{name} : historyOf (owner ({integer(whose)})) {name}-start {places} {name}-requests ≡ {name}-left
-unfolding document01 {name}-start {name}-requests {name}-pool {name}-left
+{name} : history_of (owner ({integer(whose)})) {name}_start {places} {name}_requests ≡ {name}_left
+unfolding document01 {name}_start {name}_requests {name}_pool {name}_left
 {name} = refl
 """
 
@@ -122,14 +119,14 @@ unfolding document01 {name}-start {name}-requests {name}-pool {name}-left
 def run_statement(name, frames, lines):
     """That the definitions print, for the bytes of frames, the bytes of lines."""
     return f"""
-{name}-input : List ℕ
-{name}-input = {listed(frames)}
+{name}_input : List ℕ
+{name}_input = {listed(frames)}
 
-{name}-output : List ℕ
-{name}-output = {listed(lines)}
+{name}_output : List ℕ
+{name}_output = {listed(lines)}
 
-{name} : dustmap {name}-input ≡ {name}-output
-unfolding document01 {name}-input {name}-output
+{name} : dustmap {name}_input ≡ {name}_output
+unfolding document01 {name}_input {name}_output
 {name} = refl
 """
 
@@ -138,7 +135,7 @@ def survey_statement(name, line):
     """That the definitions make of a query what the second program says: a line `KIND BITS .. -> A B C D`, or `-> 12`."""
     asked, becomes = line.split(" -> ")
     kind, *bits = asked.split()
-    doubles = [f"(ofBits binary64 {n})" for n in bits]
+    doubles = [f"(of_bits binary64 {n})" for n in bits]
     if kind == "box":
         sides = "; ".join(f"{side} = {x}" for side, x in zip(("lowX", "lowY", "highX", "highY"), doubles, strict=True))
         query = f"Box (record {{ {sides} }})"
@@ -146,7 +143,7 @@ def survey_statement(name, line):
         query = f"{kind.capitalize()} {' '.join(doubles)}"
     rounded = "BadSurvey" if becomes == "12" else f"Rounded {rect([int(n) for n in becomes.split()])}"
     return f"""
-{name} : queryWindow ({query}) ≡ {rounded}
+{name} : query_window ({query}) ≡ {rounded}
 unfolding document02
 {name} = refl
 """
@@ -156,7 +153,7 @@ def prove(statements, head=HEAD):
     """Has the checker prove the statements, in a copy of the crate `rules` outside the repository. (proved, what it said)"""
     room = tempfile.mkdtemp()
     try:
-        no_edits = shutil.ignore_patterns("must-fail", "wrong")
+        no_edits = shutil.ignore_patterns("must-fail", "wrong", "out")
         shutil.copytree(os.path.join(ROOT, "crates", "rules"), os.path.join(room, "crates", "rules"), ignore=no_edits)
         specs = os.path.join(room, "crates", "rules", "specs")
         with open(os.path.join(room, "crates.txt"), "w") as f:
@@ -165,7 +162,7 @@ def prove(statements, head=HEAD):
             f.write("pub mod Closed\n")
         with open(os.path.join(specs, "Closed.antt"), "w") as f:
             f.write(head + "".join(statements))
-        run = subprocess.run(["rt", "check"], cwd=room, capture_output=True, text=True, stdin=subprocess.DEVNULL)
+        run = subprocess.run(["rt", "check"], cwd=os.path.join(room, "crates", "rules"), capture_output=True, text=True, stdin=subprocess.DEVNULL)
         said = run.stdout + run.stderr
         return run.returncode == 0 and "logic=proved" in said, said
     finally:
