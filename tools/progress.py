@@ -1,12 +1,13 @@
 #!/usr/bin/env python3
 """Runs a command that proves or builds, keeps all that it says in a log, and shows on standard error how far it is.
 
-usage: tools/progress.py LOG rt check CRATE ..          which crate is proved, how many there are, the time so far
-       tools/progress.py LOG rt staticlib CRATE
-       tools/progress.py --what WORDS LOG COMMAND ..    for another command: these words, and the time so far
+usage: tools/progress.py --in crates/NAME LOG rt check    which crate is proved, how many there are, the time so far
+       tools/progress.py --in crates/NAME LOG rt lib
+       tools/progress.py LOG rt all check                 the same of every crate, where crates.txt is
+       tools/progress.py --what WORDS LOG COMMAND ..      for another command: these words, and the time so far
 
-Run it where crates.txt is. A terminal has one line, which is written over; a file or a pipe gets a line for each crate. What takes less than a
-second is not shown: so nothing is printed where every crate is proved already. Where the command fails, the end of the log is shown.
+A terminal has one line, which is written over; a file or a pipe gets a line for each crate. What takes less than a
+second is not shown. Where the command fails, the end of the log is shown.
 Its status is the command's, or 127 where there is no such command. The tools in Python call `run` and `show_end`.
 """
 import os
@@ -16,12 +17,13 @@ import sys
 import time
 from typing import BinaryIO, Optional, TextIO
 
-# `rt` says of each crate, when it is done with it: rt: NAME proved (12 s), rt: NAME proved (unchanged ..) or rt: NAME NOT PROVED ..
-OUTCOME = re.compile(r"rt: (\w+) (proved \(\d+ s\)|proved \(unchanged|NOT PROVED)")
-# Seconds: how long a command is silent before something is shown; how long, where `rt` seems to see only whether a crate is unchanged, which
-# takes its time on a busy machine; and how often its log is looked at.
+# `rt` says of a crate, when it begins it: rt: chose --jobs 2 for NAME; and when it is done with it: crate NAME: modules loaded=3 checked=9 and, some
+# lines below, logic=proved .. or logic=not-proved. It says nothing of a library that is built already.
+BEGUN = re.compile(r"rt: chose --jobs \d+ for (\w+)$")
+CHECKED = re.compile(r"crate (\w+): modules loaded=\d+ checked=\d+$")
+OUTCOME = re.compile(r"logic=(proved|not-proved)\b")
+# Seconds: how long a command is silent before something is shown; and how often its log is looked at.
 PATIENCE = 1.0
-LONGER = 10.0
 TICK = 0.2
 # Where the command fails: how many lines of the log's end are shown, how many of the first errors, and how much of a line.
 END = 20
@@ -31,33 +33,36 @@ ERROR = re.compile(r"(^|: )error(\[\w+\])?:")
 
 
 def ordered(wanted: list[str], listing: str) -> list[str]:
-    """The crates that have to be proved for those that are wanted, in the order in which `rt` takes them: those that need nothing, those
-    that need only these, and so on. `listing` is what crates.txt says: NAME: DEP DEP .."""
+    """The crates that have to be proved for those that are wanted, in the order in which `rt` takes them: before each the libraries that it needs.
+    `listing` is what crates.txt says: NAME: DEP DEP .."""
     pairs = [line.split("#")[0].partition(":") for line in listing.splitlines()]
-    needs = {name.strip(): deps.split() for name, colon, deps in pairs if colon}
-    level: dict[str, int] = {}
-
-    def visit(name: str) -> int:
-        if name not in level:
-            level[name] = 0  # crates in a circle: `rt` refuses them
-            level[name] = max((visit(dep) + 1 for dep in needs[name] if dep in needs), default=0)
-            order.append(name)
-        return level[name]
-
+    needs = {name.split()[0]: deps.split() for name, colon, deps in pairs if colon}
     order: list[str] = []
+    begun: set[str] = set()
+
+    def visit(name: str) -> None:
+        if name in needs and name not in begun:  # also where crates are in a circle, which `rt` refuses
+            begun.add(name)
+            for dep in needs[name]:
+                visit(dep)
+            order.append(name)
+
     for name in wanted or needs:
-        if name in needs:
-            visit(name)
-    return sorted(order, key=level.__getitem__)
+        visit(name)
+    return order
 
 
 def crates_of(command: list[str], folder: str) -> list[str]:
-    """The crates that a command of `rt` proves; none for another command."""
-    if command[:2] not in (["rt", "check"], ["rt", "staticlib"]):
+    """The crates that a command of `rt` proves in a folder; none for another command."""
+    folder = os.path.abspath(folder)
+    top, wanted = folder, []
+    if command[:2] in (["rt", "check"], ["rt", "lib"], ["rt", "run"]):
+        top, wanted = os.path.dirname(os.path.dirname(folder)), [os.path.basename(folder)]
+    elif command[:2] != ["rt", "all"]:
         return []
     try:
-        with open(os.path.join(folder, "crates.txt"), encoding="utf-8") as f:
-            return ordered(command[2:], f.read())
+        with open(os.path.join(top, "crates.txt"), encoding="utf-8") as f:
+            return ordered(wanted, f.read())
     except OSError:
         return []
 
@@ -111,38 +116,38 @@ class Progress:
 
     def __init__(self, command: list[str], folder: str, what: str, log: str, shown: Shown) -> None:
         crates = crates_of(command, folder)
-        self.command, self.folder = command, folder
-        self.left, self.total = list(crates), len(crates)
+        self.left, self.total, self.in_turn = list(crates), len(crates), command[1:2] != ["all"]
         self.what, self.log, self.shown = what, log, shown
+        self.now = self.checked = ""  # the crate that is proved now, and the one that the next outcome is of
         self.began = self.heard_at = time.monotonic()
         self.named: set[str] = set()  # of what has been shown
 
     def heard(self, line: str) -> None:
         """Takes in a line that the command has said."""
-        outcome = OUTCOME.match(line)
-        if not outcome or outcome[1] not in self.left:
-            return
-        crate, how = outcome.groups()
-        self.heard_at = time.monotonic()
-        if how == "NOT PROVED":
-            self.shown.line(shortened(line))
-        elif "unchanged" not in how and crate not in self.named:
-            # `rt check` proves several crates at a time, and only one of them was named
-            self.show("proved", crate)
-        self.left.remove(crate)
-
-    def patience(self) -> float:
-        """`rt` removes a crate's stamp before it proves the crate. A library is proved as it is written, whatever its stamp says."""
-        if not self.left or self.command[1:] == ["staticlib", self.left[0]]:
-            return PATIENCE
-        return LONGER if os.path.exists(os.path.join(self.folder, "target", "stamp", self.left[0])) else PATIENCE
+        if self.in_turn and (begun := BEGUN.match(line)) and begun[1] in self.left:
+            # those before it that nothing was said of are built already
+            self.now, self.left = begun[1], self.left[self.left.index(begun[1]) :]
+            self.heard_at = time.monotonic()
+        elif checked := CHECKED.match(line):
+            self.checked = checked[1]
+        elif (outcome := OUTCOME.match(line)) and self.checked in self.left:
+            crate, self.checked = self.checked, ""
+            self.heard_at = time.monotonic()
+            if outcome[1] == "not-proved":
+                self.shown.line(f"{crate} is not proved")
+            elif crate not in self.named and len(self.left) > 1:
+                self.show("proved", crate)
+            self.left.remove(crate)
+            self.now = ""
 
     def waiting(self) -> None:
         """The command still runs: shows what it does, unless it has only just said something."""
-        if time.monotonic() - self.heard_at < self.patience():
+        if time.monotonic() - self.heard_at < PATIENCE:
             return
-        if self.left:
-            self.show("proving", self.left[0])
+        if self.now:
+            self.show("proving", self.now)
+        elif self.left:
+            self.show("looking what is proved")
         else:
             self.show(self.what or "finishing")
 
@@ -221,13 +226,13 @@ def show_end(log: str) -> None:
 
 def main() -> int:
     words = sys.argv[1:]
-    what = ""
-    if words[:1] == ["--what"]:
-        what, words = " ".join(words[1:2]), words[2:]
+    given = {"--what": "", "--in": "."}
+    while len(words) > 1 and words[0] in given:
+        given[words[0]], words = words[1], words[2:]
     if len(words) < 2:
         print(__doc__.strip(), file=sys.stderr)
         return 2
-    status = run(words[1:], words[0], what)
+    status = run(words[1:], words[0], given["--what"], given["--in"])
     if status != 0:
         show_end(words[0])
     return status
