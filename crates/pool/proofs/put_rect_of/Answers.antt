@@ -16,4 +16,6 @@ put_rect-requires c =
     rw c.spot-at.ensures (rect_inside c.requires.in_pool _ (omega (arith, slot_few c.requires.in_pool, c.requires.i_in_bounds)))
 
 pub returns : goal.returns
-returns c = record { is = both.0; fit = both.1 }
+returns c =
+    let both = rect_stored c.requires.fit_2 c.requires.in_pool c.args.i c.args.r c.requires.i_in_bounds c.put_rect.new.pool (rw (← c.spot-at.ensures) c.put_rect.ensures) in
+    record { is = both.0; fit = both.1 }

@@ -27,8 +27,8 @@ loop-rounds-init g c =
 pub loop-rounds-preserved : goal.loop-rounds-preserved
 loop-rounds-preserved g c =
     let t = c.loop-rounds.invariant in
-    let o = step_goes c.loop-rounds.pool c.loop-rounds.input c.loop-rounds.out c.loop-rounds.run c.round.new.pool c.round.new.input
-    c.round.new.out c.round.result c.round.ensures c.in-Goes.next c.in-Goes.is in
+    let o = step_goes c.loop-rounds.pool c.loop-rounds.input c.loop-rounds.out c.loop-rounds.run c.round.new.pool c.round.new.input c.round.new.out c.round.result
+    c.round.ensures c.in-Goes.next c.in-Goes.is in
     record {
       words = c.round.auto.pool ∙ t.words;
       space = c.round.auto.work ∙ t.space;
@@ -46,6 +46,9 @@ loop-rounds-preserved g c =
 
 pub returns-in-Ends : goal.returns-in-Ends
 returns-in-Ends g c =
+    let t = c.loop-rounds.invariant in
+    let o = step_ends c.loop-rounds.pool c.loop-rounds.input c.loop-rounds.out c.loop-rounds.run c.round.new.pool c.round.new.input c.round.new.out c.round.result
+    c.round.ensures c.in-Ends.end c.in-Ends.is in
     record {
       arrived = t.arrived ++ o.piece;
       printed = t.printed ++ o.sent;
