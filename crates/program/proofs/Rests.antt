@@ -1,7 +1,7 @@
 -- The claim goes on when lines are written and bytes are read, and holds at each end of a run.
 use mathlib.Core.Path.{◌≡◌, refl, sym, ap, ap₂, subst, ◌∙◌}
 use mathlib.Core.Logic.{◌≢◌}
-use mathlib.Core.Bool.{Bool, true, false}
+use mathlib.Core.Bool.{Bool, true, false, cond}
 use mathlib.Core.List.{List, [], ◌∷◌, ◌++◌, append_assoc, append-nil}
 use Prim.Native.Nat.{ℕ, zero, suc, ◌+◌, ◌-◌, ◌≤◌, ◌<◌}
 use native.Mathlib.Omega.{arith}
@@ -9,9 +9,9 @@ use lib.ListN.{length, take, drop, length-drop, take-append-drop, drop_of_length
 use lib.Seq.{length-take-le, take-take, take-add, drop_at}
 use lib.IntN.{ℤ, pos}
 use borrow.Rule.Slice.PartMut.{put_mid, take_put, same_len_mid, post_of}
-use Rattle.std.specs.Prelude.{Option, Result, Ok, Err, IfOk}
+use Rattle.std.specs.Prelude.{Option, None, Some, Result, Ok, Err, IfOk}
 use Rattle.std.specs.Counts.{IsPrefixLen}
-use Rattle.std.specs.Io.KnownBytes.{Appends, Consumes, ReadConsumes}
+use Rattle.std.specs.Io.KnownBytes.{Appends, Consumes, ReadConsumes, IsAtEnd}
 use Rattle.std.specs.declared.io.Error.{Error}
 use Rattle.rules.specs.Frames.{bad_line, printed, dustmap}
 use Rattle.rules_laws.proofs.Orders.{never_both}
@@ -29,13 +29,14 @@ use Rattle.program.specs.declared.Got.TheVariants as G
 use Rattle.program.specs.declared.Then.{Then}
 use Rattle.program.specs.declared.Then.TheVariants.{Goes, Waits, Full, Ends}
 use Rattle.program.specs.declared.End.{End}
-use Rattle.program.specs.declared.End.TheVariants.{BadFrame, NotRead, NotWritten}
+use Rattle.program.specs.declared.End.TheVariants.{Answered, BadFrame, NotRead, NotWritten, Endless}
 use Rattle.program.specs.declared.Step.{Step}
 use Rattle.program.specs.declared.Step.TheVariants as Next
 use Rattle.program.specs.declared.Flushed.{Flushed}
 use Rattle.program.specs.declared.Flushed.TheVariants.{All, Stopped}
-use Rattle.program.specs.Moving.{Known, moved_by, held_in, held_up_to, got_by, most_rounds, Taken, Stops, Emptied, Flushes, Receives, bytes_of}
-use Rattle.program.specs.Running.{Claims, Stands, Comes, Onward, Moves, Onto, Over, Rounds, Waited, Runs}
+use Rattle.program.specs.Moving.{again, Known, moved_by, held_in, held_up_to, got_by, most_rounds, Taken, Stops, Emptied, Flushes, Receives, bytes_of}
+use Rattle.rules.specs.Lists.{same}
+use Rattle.program.specs.Running.{status_of, Claims, Stands, Comes, Onward, Moves, Wholly, is_whole, Onto, Over, Rounds, Waited, RunsTo, Runs, whole_status, PrintsAll}
 use Rattle.program.specs.Running.{Finished, answered, bad_frame, not_read, not_written, endless, Drains, on, stuck, Closes, all, stopped, Ending, none, cut}
 use Rattle.program.proofs.Moves.{few, taken_appends, stops_within, stops_appends, appends_none, consumes_none, appends_both, consumes_both, moved_consumes}
 use Rattle.program.proofs.Steps.{said_as, wrote_front}
@@ -56,6 +57,18 @@ moves_out {left} sent h = record { read = consumes_none left; wrote = h }
 pub moves_both : {l m n h k j : Known} {a b p q : List ℕ} → Moves l m h k a p → Moves m n k j b q → Moves l n h j (a ++ b) (p ++ q)
 moves_both {l} {m} {n} {h} {k} {j} {a} {b} {p} {q} v w =
     record { read = consumes_both l m n a b v.read w.read; wrote = appends_both h k j p q v.wrote w.wrote }
+
+-- ---- all is printed
+
+-- nothing is left
+wholly_end : {rest : Known} (arrived printed : List ℕ) → IsAtEnd rest → dustmap arrived ≡ printed → Wholly rest arrived printed
+wholly_end {rest} arrived printed h d later e =
+    let none : later ≡ [] = subst IsAtEnd e h in
+    ap (λ (l : List ℕ). dustmap (arrived ++ l)) none ∙ ap dustmap (append-nil arrived) ∙ d
+
+-- whatever is left
+wholly_any : {rest : Known} (arrived printed : List ℕ) → ((later : List ℕ) → dustmap (arrived ++ later) ≡ printed) → Wholly rest (arrived ++ []) printed
+wholly_any arrived printed h later e = ap (λ (l : List ℕ). dustmap (l ++ later)) (append-nil arrived) ∙ h later
 
 -- ---- what was printed is a beginning
 
@@ -189,6 +202,20 @@ module _ {left rest : Known} {old input : List ℕ} {r : Run} {g : Got} (v : Rec
       go Again i = refl
       go (Failed error) i = refl
 
+  -- the reader is at its end then
+  pub received_at_end : (s : Run) → g ≡ G.Ended s → r.end - r.at < length input → IsAtEnd rest
+  unfolding got_by moved_by
+  received_at_end s e h = go v.answer (sym v.is ∙ e) v.read
+    where
+      refused : (error : Error) (b : Bool) → got_by r (r.end - r.at) (cond b Again (Failed error)) ≡ G.Ended s → IsAtEnd rest
+      refused error true i = never_both refl (ap is_came i)
+      refused error false i = never_both (ap is_ended i) refl
+
+      go : (a : Result ℕ Error) → got_by r (r.end - r.at) (moved_by a) ≡ G.Ended s → ReadConsumes left rest a (drop (r.end - r.at) input) → IsAtEnd rest
+      go (Ok zero) i k = k.1 refl (omega (arith, h, length-drop (r.end - r.at) input))
+      go (Ok (suc n)) i k = never_both refl (ap is_came i)
+      go (Err error) i k = refused error (again error) i
+
   pub received_failed : (error : Error) → g ≡ G.Failed error → Consumes left rest []
   unfolding got_by
   received_failed error e = received_none (go (moved_by v.answer) (sym v.is ∙ e))
@@ -289,6 +316,13 @@ module _ (pool : List ℤ) (input out : List ℕ) (r : Run) (st : Stands pool in
       (subst (λ (l : List ℕ). Said (arrived ++ []) (written text) r.before pool l) (none_held (r.end - r.at) (drop r.at input) (omega arith))
       (subst (λ (l : List ℕ). Said l (written text) r.before pool (held_in input r)) (sym (append-nil arrived)) c))
 
+  -- all is printed then
+  end_whole : r.at ≡ r.end → (arrived text : List ℕ) → Claims pool input out r arrived text → dustmap (arrived ++ []) ≡ written text
+  unfolding cut_line
+  end_whole e arrived text c =
+      ap dustmap (append-nil arrived) ∙ said_end arrived (written text) r.before pool (held_in input r) c waits
+      ∙ ap (λ (l : List ℕ). written text ++ cut_line r.before l) (none_held (r.end - r.at) (drop r.at input) (omega arith)) ∙ append-nil (written text)
+
   -- what is to be printed then
   end_cut : r.at ≢ r.end → (arrived text : List ℕ) → Claims pool input out r arrived text → dustmap (arrived ++ []) ≡ written text ++ bad_line (suc r.before)
   end_cut n arrived text c =
@@ -298,9 +332,9 @@ module _ (pool : List ℤ) (input out : List ℕ) (r : Run) (st : Stands pool in
       (omega (arith, st.low, st.high, length-drop r.at input)) r.before)
 
   -- the line of the cut frame, as far as it was taken
-  module _ {left rest holds at held : Known} (ended : Consumes left rest []) (first : Appends holds at (take r.filled out)) where
+  module _ {left rest holds at held : Known} (ended : Consumes left rest []) (last : IsAtEnd rest) (first : Appends holds at (take r.filled out)) where
     end_closed : (now : List ℕ) (q : Run) (end : End) → r.at ≢ r.end → q.filled ≤ length now → take q.filled now ≡ bad_line (suc r.before) → Closes at held now q end
-        → Over (Moves left rest holds held) pool input out r end
+        → Over (Moves left rest holds held) rest pool input out r end
     end_closed now q end n fit line (all t) =
         record {
           piece = [];
@@ -308,6 +342,8 @@ module _ (pool : List ℤ) (input out : List ℕ) (r : Run) (st : Stands pool in
           moves = record { read = ended; wrote = appends_both holds at held (take r.filled out) (take q.filled now) first (taken_appends fit t) };
           finished = λ a p c. let e = sym (append_assoc p (take r.filled out) (take q.filled now)) ∙ ap (λ (l : List ℕ). written p ++ l) line in
               bad_frame (written p) (suc r.before) e (end_cut n a p c ∙ sym e);
+          whole = λ w a p c. let e = sym (append_assoc p (take r.filled out) (take q.filled now)) ∙ ap (λ (l : List ℕ). written p ++ l) line in
+              wholly_end (a ++ []) (p ++ (take r.filled out ++ take q.filled now)) last (end_cut n a p c ∙ sym e);
         }
     end_closed now q end n fit line (stopped k error t) =
         record {
@@ -317,22 +353,24 @@ module _ (pool : List ℤ) (input out : List ℕ) (r : Run) (st : Stands pool in
           finished = λ a p c. subst (λ (l : List ℕ). Finished (a ++ []) l (pos 3)) (append_assoc p (take r.filled out) (take k now))
               (part_printed (written p) (bad_line (suc r.before)) k now q.filled [] (stops_within t) (sym line)
               (end_cut n a p c ∙ sym (append-nil (written p ++ bad_line (suc r.before)))));
+          whole = λ w. never_both w refl;
         }
 
     pub wait_ended : (now : List ℕ) {s : Run} (end : End) → s.before ≡ r.before → s.end - s.at ≡ r.end - r.at → s.at ≤ s.end → length now ≡ length out
-        → Ending at held out now s end → Over (Moves left rest holds held) pool input out r end
+        → Ending at held out now s end → Over (Moves left rest holds held) rest pool input out r end
     wait_ended now {s} end b m low long (none e f) =
         record {
           piece = [];
           sent = take r.filled out;
           moves = record { read = ended; wrote = subst (λ (k : Known). Appends holds k (take r.filled out)) (sym f) first };
           finished = end_none (omega (arith, st.low, e, m));
+          whole = λ w a p c. wholly_end (a ++ []) (written p) last (end_whole (omega (arith, st.low, e, m)) a p c);
         }
     wait_ended now {s} end b m low long (cut q end₁ n w fit closes) =
         end_closed now q end₁ (λ e. n (omega (arith, e, m, low))) (omega arith) (wrote_front w fit ∙ ap (λ (k : ℕ). bad_line (suc k)) b) closes
 
   pub wait_failed : {left rest holds held : Known} (error : Error) → Consumes left rest [] → Appends holds held (take r.filled out)
-      → Over (Moves left rest holds held) pool input out r (NotRead error)
+      → Over (Moves left rest holds held) rest pool input out r (NotRead error)
   wait_failed error h w =
       record {
         piece = [];
@@ -340,11 +378,12 @@ module _ (pool : List ℤ) (input out : List ℕ) (r : Run) (st : Stands pool in
         moves = record { read = h; wrote = w };
         finished = λ a p c. not_read r.before pool (held_in input r)
             (subst (λ (l : List ℕ). Said l (written p) r.before pool (held_in input r)) (sym (append-nil a)) c) waits;
+        whole = λ w. never_both w refl;
       }
 
 -- not all that waited could be written
 pub over_stopped : {left holds held : Known} (pool : List ℤ) (input out : List ℕ) (r : Run) (n : ℕ) (error : Option Error) → r.filled ≤ length out
-    → Stops holds held out r.filled n error → Over (Moves left left holds held) pool input out r (NotWritten error)
+    → Stops holds held out r.filled n error → Over (Moves left left holds held) left pool input out r (NotWritten error)
 over_stopped pool input out r n error h t =
     record {
       piece = [];
@@ -352,6 +391,7 @@ over_stopped pool input out r n error h t =
       moves = moves_out (take n out) (stops_appends h t);
       finished = λ a p c. subst (λ (l : List ℕ). Finished l (p ++ take n out) (pos 3)) (sym (append-nil a))
           (claims_stopped pool input out r a p c n (stops_within t));
+      whole = λ w. never_both w refl;
     }
 
 -- the run goes on with what came
@@ -412,18 +452,25 @@ module _ (pool : List ℤ) (input out : List ℕ) (r : Run) (pool' : List ℤ) (
           keeps = λ a p c. o.keeps a p (k.keeps a p c);
         }
 
-    pub over_after : (s : Run) (end : End) → Comes pool input out r pool' out' s → Over M pool' input out' s end → Over M pool input out r end
-    over_after s end k o = record { piece = o.piece; sent = o.sent; moves = o.moves; finished = λ a p c. o.finished a p (k.keeps a p c) }
+    pub over_after : {rest : Known} (s : Run) (end : End) → Comes pool input out r pool' out' s → Over M rest pool' input out' s end → Over M rest pool input out r end
+    over_after s end k o =
+        record {
+          piece = o.piece;
+          sent = o.sent;
+          moves = o.moves;
+          finished = λ a p c. o.finished a p (k.keeps a p c);
+          whole = λ w a p c. o.whole w a p (k.keeps a p c);
+        }
 
-  pub round_waited : (M : List ℕ → List ℕ → Type 0) (input'' out'' : List ℕ) (s : Run) (pool'' : List ℤ) (t : Step) → Comes pool input out r pool' out' s → s.before ≤ r.before
-      → Rounds M pool' input out' s pool'' input'' out'' t → Rounds M pool input out r pool'' input'' out'' t
+  pub round_waited : (M : List ℕ → List ℕ → Type 0) (rest : Known) (input'' out'' : List ℕ) (s : Run) (pool'' : List ℤ) (t : Step) → Comes pool input out r pool' out' s → s.before ≤ r.before
+      → Rounds M rest pool' input out' s pool'' input'' out'' t → Rounds M rest pool input out r pool'' input'' out'' t
   unfolding Rounds
-  round_waited M input'' out'' s pool'' (Next.Goes n) k b o = onto_after input'' out'' s n pool'' k b o
-  round_waited M input'' out'' s pool'' (Next.Ends end) k b o = over_after s end k o
+  round_waited M rest input'' out'' s pool'' (Next.Goes n) k b o = onto_after input'' out'' s n pool'' k b o
+  round_waited M rest input'' out'' s pool'' (Next.Ends end) k b o = over_after s end k o
 
   module _ (left : Known) {holds held : Known} where
     pub round_drained : (s : Run) (t : Step) → Comes pool input out r pool' out' s → Drains holds held out' s t
-        → Rounds (Moves left left holds held) pool input out r pool' input out' t
+        → Rounds (Moves left left holds held) left pool input out r pool' input out' t
     unfolding Rounds
     round_drained s t k (on n taken e) =
         let st = k.stands in
@@ -444,7 +491,7 @@ module _ (pool : List ℤ) (input out : List ℕ) (r : Run) (pool' : List ℤ) (
 
     pub round_ends : (s : Run) (end : End) → s.filled ≤ length out' → take s.filled out' ≡ take r.filled out ++ bad_line (suc r.before)
         → ((a p : List ℕ) → Claims pool input out r a p → (later : List ℕ) → dustmap (a ++ later) ≡ p ++ take s.filled out')
-        → Closes holds held out' s end → Over (Moves left left holds held) pool input out r end
+        → Closes holds held out' s end → Over (Moves left left holds held) left pool input out r end
     round_ends s end fit line h (all t) =
         record {
           piece = [];
@@ -452,6 +499,7 @@ module _ (pool : List ℤ) (input out : List ℕ) (r : Run) (pool' : List ℤ) (
           moves = moves_out (take s.filled out') (taken_appends fit t);
           finished = λ a p c. bad_frame (p ++ take r.filled out) (suc r.before)
               (ap (λ (l : List ℕ). p ++ l) line ∙ sym (append_assoc p (take r.filled out) (bad_line (suc r.before)))) (h a p c []);
+          whole = λ w a p c. wholly_any a (p ++ take s.filled out') (h a p c);
         }
     round_ends s end fit line h (stopped k error t) =
         record {
@@ -460,12 +508,13 @@ module _ (pool : List ℤ) (input out : List ℕ) (r : Run) (pool' : List ℤ) (
           moves = moves_out (take k out') (stops_appends fit t);
           finished = λ a p c. part_printed p (take s.filled out') k out' s.filled [] (stops_within t) refl
               (h a p c [] ∙ sym (append-nil (p ++ take s.filled out')));
+          whole = λ w. never_both w refl;
         }
 
 -- ---- `wait`
 
 pub waited_stopped : (left holds held : Known) (input out : List ℕ) (r : Run) {f : Flushed} {n : ℕ} {error : Option Error} → r.filled ≤ length out
-    → Flushes holds held out r f → f ≡ Stopped n error → Waited (Moves left left holds held) input out r input out (Next.Ends (NotWritten error))
+    → Flushes holds held out r f → f ≡ Stopped n error → Waited (Moves left left holds held) left input out r input out (Next.Ends (NotWritten error))
 unfolding Flushes Rounds
 waited_stopped left holds held input out r {f} {n} {error} low h e pool st w =
     over_stopped pool input out r n error low (subst (λ (x : Flushed). Flushes holds held out r x) e h)
@@ -482,25 +531,25 @@ module _ (holds at : Known) (input out : List ℕ) (r : Run) {f : Flushed} (r' :
   emptied_appends low = taken_appends low flushed.0
 
   module _ {left rest : Known} (input' : List ℕ) {g : Got} (v : Receives left rest input input' r' g) (same : length input' ≡ length input) where
-    pub waited_came : (s : Run) → g ≡ G.Came s → Waited (Moves left rest holds at) input out r input' out (Next.Goes s)
+    pub waited_came : (s : Run) → g ≡ G.Came s → Waited (Moves left rest holds at) rest input out r input' out (Next.Goes s)
     unfolding Rounds
     waited_came s i pool st w =
         onto_came pool input out r input' s _ st emptied
         (came_held (omega (arith, st.low, emptied.at, emptied.end)) (omega (arith, st.high, emptied.end)) v i)
         (record { read = received_piece v; wrote = emptied_appends st.room })
 
-    pub waited_failed : (error : Error) → g ≡ G.Failed error → Waited (Moves left rest holds at) input out r input' out (Next.Ends (NotRead error))
+    pub waited_failed : (error : Error) → g ≡ G.Failed error → Waited (Moves left rest holds at) rest input out r input' out (Next.Ends (NotRead error))
     unfolding Rounds
     waited_failed error i pool st w = wait_failed pool input out r st w error (received_failed v error i) (emptied_appends st.room)
 
-    pub waited_ended : {held : Known} (s : Run) → g ≡ G.Ended s → (now : List ℕ) (end : End) → length now ≡ length out → Ending at held out now s end
-        → Waited (Moves left rest holds held) input out r input' now (Next.Ends end)
+    pub waited_ended : {held : Known} (s : Run) → g ≡ G.Ended s → (now : List ℕ) (end : End) → length now ≡ length out → r.end - r.at < length input → Ending at held out now s end
+        → Waited (Moves left rest holds held) rest input out r input' now (Next.Ends end)
     unfolding Rounds
-    waited_ended s i now end long last pool st w =
+    waited_ended s i now end long room last pool st w =
         let low : r'.at ≤ r'.end = omega (arith, st.low, emptied.at, emptied.end) in
         let k = ended_held low (omega (arith, st.high, emptied.end)) v i in
         let m = many_held low (omega (arith, st.high, emptied.end)) k in
-        wait_ended pool input out r st w (received_ended v s i) (emptied_appends st.room) now end (k.before ∙ emptied.before) (omega (arith, m, emptied.at, emptied.end))
+        wait_ended pool input out r st w (received_ended v s i) (received_at_end v s i (omega (arith, room, same, emptied.at, emptied.end))) (emptied_appends st.room) now end (k.before ∙ emptied.before) (omega (arith, m, emptied.at, emptied.end))
         k.low long last
 
 -- ---- `round`
@@ -537,38 +586,38 @@ module _ (pool : List ℤ) (input out : List ℕ) (r : Run) (pool' : List ℤ) (
   pub ends_within : t ≡ Ends s → s.filled ≤ length out'
   ends_within e = (ends_all e).0
 
-  pub rounds_goes : (left holds : Known) → t ≡ Goes s → Rounds (Moves left left holds holds) pool input out r pool' input out' (Next.Goes s)
+  pub rounds_goes : (left holds : Known) → t ≡ Goes s → Rounds (Moves left left holds holds) left pool input out r pool' input out' (Next.Goes s)
   unfolding Rounds
   rounds_goes left holds e = onto_comes pool input out r pool' out' s (goes_on e)
 
   pub rounds_full : (left : Known) {holds held : Known} → t ≡ Full s → (x : Step) → Drains holds held out' s x
-      → Rounds (Moves left left holds held) pool input out r pool' input out' x
+      → Rounds (Moves left left holds held) left pool input out r pool' input out' x
   rounds_full left e x d = round_drained pool input out r pool' out' left s x (full_on e) d
 
-  pub rounds_waits : (M : List ℕ → List ℕ → Type 0) → t ≡ Waits s → (input'' out'' : List ℕ) (x : Step) → Waited M input out' s input'' out'' x
-      → Rounds M pool input out r pool' input'' out'' x
-  rounds_waits M e input'' out'' x w =
-      round_waited pool input out r pool' out' M input'' out'' s pool' x (waits_on e) (waits_counted e) (w pool' (waits_on e).stands (waits_all e).1)
+  pub rounds_waits : (M : List ℕ → List ℕ → Type 0) (rest : Known) → t ≡ Waits s → (input'' out'' : List ℕ) (x : Step) → Waited M rest input out' s input'' out'' x
+      → Rounds M rest pool input out r pool' input'' out'' x
+  rounds_waits M rest e input'' out'' x w =
+      round_waited pool input out r pool' out' M rest input'' out'' s pool' x (waits_on e) (waits_counted e) (w pool' (waits_on e).stands (waits_all e).1)
 
   pub rounds_ends : (left : Known) {holds held : Known} → t ≡ Ends s → (end : End) → Closes holds held out' s end
-      → Rounds (Moves left left holds held) pool input out r pool' input out' (Next.Ends end)
+      → Rounds (Moves left left holds held) left pool input out r pool' input out' (Next.Ends end)
   unfolding Rounds
   rounds_ends left e end k = let d = ends_all e in round_ends pool input out r pool' out' left s end d.0 d.1 d.2 k
 
 -- ---- the whole run
 
-module _ {M : List ℕ → List ℕ → Type 0} (pool : List ℤ) (input out : List ℕ) (r : Run) (pool' : List ℤ) (input' out' : List ℕ) (x : Step)
-    (o : Rounds M pool input out r pool' input' out' x) where
+module _ {M : List ℕ → List ℕ → Type 0} (rest : Known) (pool : List ℤ) (input out : List ℕ) (r : Run) (pool' : List ℤ) (input' out' : List ℕ) (x : Step)
+    (o : Rounds M rest pool input out r pool' input' out' x) where
   pub step_goes : (s : Run) → x ≡ Next.Goes s → Onto M pool input out r pool' input' out' s
   unfolding Rounds
-  step_goes s e = subst (λ (y : Step). Rounds M pool input out r pool' input' out' y) e o
+  step_goes s e = subst (λ (y : Step). Rounds M rest pool input out r pool' input' out' y) e o
 
-  pub step_ends : (end : End) → x ≡ Next.Ends end → Over M pool input out r end
+  pub step_ends : (end : End) → x ≡ Next.Ends end → Over M rest pool input out r end
   unfolding Rounds
-  step_ends end e = subst (λ (y : Step). Rounds M pool input out r pool' input' out' y) e o
+  step_ends end e = subst (λ (y : Step). Rounds M rest pool input out r pool' input' out' y) e o
 
-pub run_endless : {M : List ℕ → List ℕ → Type 0} (pool : List ℤ) (input out : List ℕ) (r : Run) (arrived text : List ℕ) → M arrived text
-    → Claims pool input out r arrived text → (rounds : ℕ) → rounds ≡ most_rounds → Runs M (pos 4)
+pub run_endless : {M : List ℕ → List ℕ → Type 0} {rest : Known} (pool : List ℤ) (input out : List ℕ) (r : Run) (arrived text : List ℕ) → M arrived text
+    → Claims pool input out r arrived text → (rounds : ℕ) → rounds ≡ most_rounds → RunsTo M rest Endless
 unfolding Said
 run_endless pool input out r arrived text moves c rounds all_used =
     let m = length (held_in input r ++ []) in
@@ -579,4 +628,27 @@ run_endless pool input out r arrived text moves c rounds all_used =
       moves = moves;
       finished = endless (take r.filled out ++ after)
           (ap dustmap (sym (append-nil arrived)) ∙ c [] m (omega arith) ∙ append_assoc text (take r.filled out) after) rounds all_used;
+      whole = λ w. never_both w refl;
     }
+
+-- ---- by its status
+
+pub runs_by : {M : List ℕ → List ℕ → Type 0} {rest : Known} {end : End} {status : ℤ} → RunsTo M rest end → status ≡ status_of end → Runs M status
+runs_by o e = record { arrived = o.arrived; printed = o.printed; moves = o.moves; finished = subst (Finished o.arrived o.printed) (sym e) o.finished }
+
+whole_end : (end : End) → whole_status (status_of end) ≡ true → is_whole end ≡ true
+unfolding whole_status same
+whole_end Answered h = refl
+whole_end BadFrame h = refl
+whole_end (NotRead error) h = h
+whole_end (NotWritten error) h = h
+whole_end Endless h = h
+
+pub prints_all : {left rest holds held : Known} {end : End} {status : ℤ} → RunsTo (Moves left rest holds held) rest end → status ≡ status_of end
+    → PrintsAll left holds held status
+prints_all {left} {rest} {holds} {held} {end} {status} o e input k w =
+    go rest (subst (λ (l : Known). Consumes l rest o.arrived) k o.moves.read) (o.whole (whole_end end (ap whole_status (sym e) ∙ w)))
+  where
+    go : (left-over : Known) → Consumes (Some input) left-over o.arrived → Wholly left-over o.arrived o.printed → Appends holds held (dustmap input)
+    go None h f = absurd h
+    go (Some later) h f = subst (Appends holds held) (sym (f later refl) ∙ ap dustmap (sym h)) o.moves.wrote

@@ -1,7 +1,8 @@
 -- What stays true from step to step of the program.
-use Rattle.std.specs.Prelude.{◌≡◌, ◌≢◌, List, [], ◌++◌, ℕ, suc, ◌+◌, ◌*◌, ◌≤◌, length, take, ℤ, pos, Option}
+use Rattle.std.specs.Prelude.{Bool, true, false, ◌||◌, Some, ◌≡◌, ◌≢◌, List, [], ◌++◌, ℕ, suc, ◌+◌, ◌*◌, ◌≤◌, length, take, ℤ, pos, Option}
 use Rattle.rules.specs.declared.Edition.TheVariants.{One}
 use Rattle.rules.specs.declared.Request.{Request}
+use Rattle.rules.specs.Lists.{same}
 use Rattle.rules.specs.Layout.{head_size, slot_size}
 use Rattle.rules.specs.Frames.{frame_call, bad_line, dustmap}
 use Rattle.free_slots.specs.declared.FreeSlots.{FreeSlots}
@@ -119,6 +120,18 @@ pub record Moves (left rest holds held : Known) (piece sent : List ℕ) : Type 0
   pub read : Consumes left rest piece
   pub wrote : Appends holds held sent
 
+-- of a reader that has `rest` left all is printed that is to be: for what arrived, and for whatever is known to be left
+abbrev pub Wholly : Known → List ℕ → List ℕ → Type 0
+Wholly rest arrived printed = (later : List ℕ) → rest ≡ Some later → dustmap (arrived ++ later) ≡ printed
+
+-- at these ends it is
+abbrev pub is_whole : End → Bool
+is_whole Answered = true
+is_whole BadFrame = true
+is_whole (NotRead error) = false
+is_whole (NotWritten error) = false
+is_whole Endless = false
+
 -- a run has come from one to the other: `piece` came from the input, and `sent` went to the output. Nothing is printed that is not to be, and
 -- nothing is left out
 pub record Onto (Moved : List ℕ → List ℕ → Type 0) (pool : List ℤ) (input out : List ℕ) (r : Run) (pool' : List ℤ) (input' out' : List ℕ) (s : Run) : Type 0 where
@@ -129,24 +142,43 @@ pub record Onto (Moved : List ℕ → List ℕ → Type 0) (pool : List ℤ) (in
   pub moves : Moved piece sent
   pub keeps : (arrived printed : List ℕ) → Claims pool input out r arrived printed → Claims pool' input' out' s (arrived ++ piece) (printed ++ sent)
 
-pub record Over (Moved : List ℕ → List ℕ → Type 0) (pool : List ℤ) (input out : List ℕ) (r : Run) (end : End) : Type 0 where
+-- .. or it has ended, with `rest` left in the reader
+pub record Over (Moved : List ℕ → List ℕ → Type 0) (rest : Known) (pool : List ℤ) (input out : List ℕ) (r : Run) (end : End) : Type 0 where
   pub piece : List ℕ
   pub sent : List ℕ
   pub moves : Moved piece sent
   pub finished : (arrived printed : List ℕ) → Claims pool input out r arrived printed → Finished (arrived ++ piece) (printed ++ sent) (status_of end)
+  pub whole : is_whole end ≡ true → (arrived printed : List ℕ) → Claims pool input out r arrived printed
+      → Wholly rest (arrived ++ piece) (printed ++ sent)
 
-unfoldable pub Rounds : (List ℕ → List ℕ → Type 0) → List ℤ → List ℕ → List ℕ → Run → List ℤ → List ℕ → List ℕ → Step → Type 0
-Rounds Moved pool input out r pool' input' out' (Next.Goes s) = Onto Moved pool input out r pool' input' out' s
-Rounds Moved pool input out r pool' input' out' (Next.Ends end) = Over Moved pool input out r end
+unfoldable pub Rounds : (List ℕ → List ℕ → Type 0) → Known → List ℤ → List ℕ → List ℕ → Run → List ℤ → List ℕ → List ℕ → Step → Type 0
+Rounds Moved rest pool input out r pool' input' out' (Next.Goes s) = Onto Moved pool input out r pool' input' out' s
+Rounds Moved rest pool input out r pool' input' out' (Next.Ends end) = Over Moved rest pool input out r end
 
 -- a round that waits for input, where the end of a frame has yet to come
-abbrev pub Waited : (List ℕ → List ℕ → Type 0) → List ℕ → List ℕ → Run → List ℕ → List ℕ → Step → Type 0
-Waited Moved input out r input' out' t =
-    (pool : List ℤ) → Stands pool input out r → framed (held_in input r) ≡ F.Waits → Rounds Moved pool input out r pool input' out' t
+abbrev pub Waited : (List ℕ → List ℕ → Type 0) → Known → List ℕ → List ℕ → Run → List ℕ → List ℕ → Step → Type 0
+Waited Moved rest input out r input' out' t =
+    (pool : List ℤ) → Stands pool input out r → framed (held_in input r) ≡ F.Waits → Rounds Moved rest pool input out r pool input' out' t
 
--- a whole run: what it read and wrote, and how it ended
+-- a whole run: what it read and wrote, and how it ended, with `rest` left in the reader
+pub record RunsTo (Moved : List ℕ → List ℕ → Type 0) (rest : Known) (end : End) : Type 0 where
+  pub arrived : List ℕ
+  pub printed : List ℕ
+  pub moves : Moved arrived printed
+  pub finished : Finished arrived printed (status_of end)
+  pub whole : is_whole end ≡ true → Wholly rest arrived printed
+
+-- .. by its status
 pub record Runs (Moved : List ℕ → List ℕ → Type 0) (status : ℤ) : Type 0 where
   pub arrived : List ℕ
   pub printed : List ℕ
   pub moves : Moved arrived printed
   pub finished : Finished arrived printed status
+
+-- 0 or 1: all is printed
+unfoldable pub whole_status : ℤ → Bool
+whole_status status = same status (pos 0) || same status (pos 1)
+
+-- where all that the reader has is known, and all is printed: what the writer holds is what it held, and after it what `dustmap` prints of that
+abbrev pub PrintsAll : Known → Known → Known → ℤ → Type 0
+PrintsAll left holds held status = (input : List ℕ) → left ≡ Some input → whole_status status ≡ true → Appends holds held (dustmap input)

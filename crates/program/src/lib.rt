@@ -12,7 +12,7 @@ ghost use Rattle.found_items.specs.Items.{shown_from, Pointing};
 ghost use Rattle.request.specs.Serving.{Ready};
 ghost use Rattle.frames.specs.Writing.{Wrote};
 ghost use Rattle.program.specs.Moving.{most_rounds, again, moved_by, bytes_of, held_up_to, filled_up_to, got_by, Sends, Flushes, Receives};
-ghost use Rattle.program.specs.Running.{pool_size, status_of, Begins, Stands, Onward, Replies, passed_by, Drains, Closes, Ending, Moves, Waited, Rounds, Runs};
+ghost use Rattle.program.specs.Running.{pool_size, status_of, Begins, Stands, Onward, Replies, passed_by, Drains, Closes, Ending, Moves, Waited, Rounds, RunsTo, Runs, PrintsAll};
 
 use frames::Framed;
 use free_slots::FreeSlots;
@@ -417,7 +417,7 @@ fn wait<R: Read, W: Write>(
     requires room { run.end - run.at < length input.old }
     requires lines { (run.filled ≤ length out.old) × (31 ≤ length out.old) }
     requires counted { run.before < most_rounds }
-    ensures { Waited (Moves (R.remaining reader.old) (R.remaining reader.new) (W.contents writer.old) (W.contents writer.new))
+    ensures { Waited (Moves (R.remaining reader.old) (R.remaining reader.new) (W.contents writer.old) (W.contents writer.new)) (R.remaining reader.new)
         input.old out.old run input.new out.new result }
 {
     let next = match flush(writer, out, run) {
@@ -447,7 +447,7 @@ fn round<R: Read, W: Write>(
     requires bytes { 40 ≤ length input.old }
     requires room { 7124 ≤ length out.old }
     requires counted { run.before < most_rounds }
-    ensures { Rounds (Moves (R.remaining reader.old) (R.remaining reader.new) (W.contents writer.old) (W.contents writer.new))
+    ensures { Rounds (Moves (R.remaining reader.old) (R.remaining reader.new) (W.contents writer.old) (W.contents writer.new)) (R.remaining reader.new)
         pool.old input.old out.old run pool.new input.new out.new result }
 {
     match turn(pool, work, input, run, out) {
@@ -477,8 +477,8 @@ fn first_run(pool: &mut [i32]) -> Run
 // Reads and answers frame after frame. Nothing says that the input ends, and a loop has to: so the rounds are counted down, from a number
 // that no run uses up.
 fn answer_all<R: Read, W: Write>(reader: &mut R, writer: &mut W) -> End
-    ensures { Runs (Moves (R.remaining reader.old) (R.remaining reader.new) (W.contents writer.old) (W.contents writer.new))
-        (status_of result) }
+    ensures { RunsTo (Moves (R.remaining reader.old) (R.remaining reader.new) (W.contents writer.old) (W.contents writer.new))
+        (R.remaining reader.new) result }
 {
     let mut pool = [0i32; WORDS];
     let mut work = [0i32; WORDS];
@@ -515,7 +515,8 @@ fn report<E: Eprint>(errors: &E, end: End) {
 
 // The whole program. Its result is the status that it ends with.
 pub fn whole_run<R: Read, W: Write, E: Eprint>(reader: &mut R, writer: &mut W, errors: &E) -> i32
-    ensures { Runs (Moves (R.remaining reader.old) (R.remaining reader.new) (W.contents writer.old) (W.contents writer.new)) result }
+    ensures ran { Runs (Moves (R.remaining reader.old) (R.remaining reader.new) (W.contents writer.old) (W.contents writer.new)) result }
+    ensures whole { PrintsAll (R.remaining reader.old) (W.contents writer.old) (W.contents writer.new) result }
 {
     let end = answer_all(reader, writer);
     report(errors, end);

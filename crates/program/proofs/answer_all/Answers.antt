@@ -4,6 +4,7 @@ use mathlib.Core.List.{[], ◌++◌}
 use Prim.Native.Nat.{◌+◌}
 use native.Mathlib.Omega.{arith}
 use borrow.Author.Rules.{rules}
+use Rattle.program.specs.Running.{Moves}
 use Rattle.program.proofs.Rests.{moves_none, moves_both, step_goes, step_ends, run_endless}
 use Rattle.program.proofs.answer_all.Goals as goal
 
@@ -27,7 +28,8 @@ loop-rounds-init g c =
 pub loop-rounds-preserved : goal.loop-rounds-preserved
 loop-rounds-preserved g c =
     let t = c.loop-rounds.invariant in
-    let o = step_goes c.loop-rounds.pool c.loop-rounds.input c.loop-rounds.out c.loop-rounds.run c.round.new.pool c.round.new.input c.round.new.out c.round.result
+    let moves = Moves (g.R.Read.remaining c.loop-rounds.reader) (g.R.Read.remaining c.round.new.reader) (g.W.Write.contents c.loop-rounds.writer) (g.W.Write.contents c.round.new.writer) in
+    let o = step_goes {M = moves} (g.R.Read.remaining c.round.new.reader) c.loop-rounds.pool c.loop-rounds.input c.loop-rounds.out c.loop-rounds.run c.round.new.pool c.round.new.input c.round.new.out c.round.result
     c.round.ensures c.in-Goes.next c.in-Goes.is in
     record {
       words = c.round.auto.pool ∙ t.words;
@@ -47,13 +49,15 @@ loop-rounds-preserved g c =
 pub returns-in-Ends : goal.returns-in-Ends
 returns-in-Ends g c =
     let t = c.loop-rounds.invariant in
-    let o = step_ends c.loop-rounds.pool c.loop-rounds.input c.loop-rounds.out c.loop-rounds.run c.round.new.pool c.round.new.input c.round.new.out c.round.result
+    let moves = Moves (g.R.Read.remaining c.loop-rounds.reader) (g.R.Read.remaining c.round.new.reader) (g.W.Write.contents c.loop-rounds.writer) (g.W.Write.contents c.round.new.writer) in
+    let o = step_ends {M = moves} (g.R.Read.remaining c.round.new.reader) c.loop-rounds.pool c.loop-rounds.input c.loop-rounds.out c.loop-rounds.run c.round.new.pool c.round.new.input c.round.new.out c.round.result
     c.round.ensures c.in-Ends.end c.in-Ends.is in
     record {
       arrived = t.arrived ++ o.piece;
       printed = t.printed ++ o.sent;
       moves = moves_both t.moves o.moves;
       finished = o.finished t.arrived t.printed t.claims;
+      whole = λ w. o.whole w t.arrived t.printed t.claims;
     }
 
 pub returns : goal.returns

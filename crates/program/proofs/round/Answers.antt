@@ -40,7 +40,7 @@ pub returns-in-Waits : goal.returns-in-Waits
 returns-in-Waits g c =
     rounds_waits c.args.pool.now c.args.input.now c.args.out.now c.args.run c.turn.new.pool c.turn.new.out c.turn.result c.turn.ensures c.in-Waits.r
     (Moves (g.R.Read.remaining c.args.reader.now) (g.R.Read.remaining c.wait.new.reader) (g.W.Write.contents c.args.writer.now) (g.W.Write.contents c.wait.new.writer))
-    c.in-Waits.is c.wait.new.input c.wait.new.out c.wait.result c.wait.ensures
+    (g.R.Read.remaining c.wait.new.reader) c.in-Waits.is c.wait.new.input c.wait.new.out c.wait.result c.wait.ensures
 
 pub returns-in-Ends : goal.returns-in-Ends
 returns-in-Ends g c =

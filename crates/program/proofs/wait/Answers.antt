@@ -29,7 +29,7 @@ returns-in-Came g c =
 pub returns-in-Ended : goal.returns-in-Ended
 returns-in-Ended g c =
     waited_ended (g.W.Write.contents c.args.writer.now) (g.W.Write.contents c.flush.new.writer) c.args.input.now c.args.out.now c.args.run c.in-All.next c.flush.ensures
-    c.in-All.is c.receive.new.input c.receive.ensures c.receive.auto.input c.in-Ended.r c.in-Ended.is c.last_line.new.out c.last_line.result c.last_line.auto.out
+    c.in-All.is c.receive.new.input c.receive.ensures c.receive.auto.input c.in-Ended.r c.in-Ended.is c.last_line.new.out c.last_line.result c.last_line.auto.out c.requires.room
     c.last_line.ensures
 
 pub returns-in-Failed : goal.returns-in-Failed
