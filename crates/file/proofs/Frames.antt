@@ -13,7 +13,8 @@ use Rattle.rules.specs.declared.FoundRecord.{FoundRecord}
 use Rattle.rules.specs.Lists.{joined}
 use Rattle.rules.specs.Owners.{edition_number, of_owner}
 use Rattle.rules.specs.Layout.{edition_of, read}
-use Rattle.rules.specs.File.{pair_bytes, word_bytes, frame_bytes, head_frame, record_kind, pair_words, record_words, record_size, record_frame, end_frame, file_bytes, carried_of, records_carried, pool_file}
+use Rattle.rules.specs.File.{pair_bytes, word_bytes, frame_bytes, head_frame, record_kind, pair_words, record_words}
+use Rattle.rules.specs.File.{record_size, record_frame, end_frame, file_bytes, carried_of, records_carried, pool_file}
 use Rattle.rules_laws.proofs.Joins.{joined_none, joined_more, joined_append}
 use Rattle.layout_laws.proofs.Written.{edition_is}
 use Rattle.frames.specs.Writing.{Wrote}

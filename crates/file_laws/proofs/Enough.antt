@@ -155,7 +155,8 @@ module _ (c : Choice) (lawful : Lawful c) (ed : Edition) where
 
   head_right : (n : ℕ) → good_head ed (pos (edition_number ed) ∷ pos n ∷ []) ≡ true
   unfolding good_head word_at
-  head_right n = both_and (same (pos (edition_number ed)) (pos (edition_number ed))) (le_z (pos 0) (pos n)) ((same_is (pos (edition_number ed)) (pos (edition_number ed))).1 refl) (le-leb 0 n (omega arith))
+  head_right n =
+      both_and (same (pos (edition_number ed)) (pos (edition_number ed))) (le_z (pos 0) (pos n)) ((same_is (pos (edition_number ed)) (pos (edition_number ed))).1 refl) (le-leb 0 n (omega arith))
 
   head_many : (n : ℕ) → count_in (pos (edition_number ed) ∷ pos n ∷ []) ≡ n
   unfolding count_in word_at natural

@@ -22,7 +22,8 @@ use Rattle.rules.specs.Owners.{edition_number}
 use Rattle.rules.specs.Pool.{Node, slot, entry, no_entry, free_node, node_at, entries_at, entry_from, entry_at, rects}
 use Rattle.rules.specs.Numbers.{most}
 use Rattle.rules.specs.Layout.{head_size, edition_place, root_place, height_place, records_place, rect_size, entry_size, slot_head, slot_size, slot_start, level_place, count_place, entry_place}
-use Rattle.rules.specs.Layout.{pointer_place, edition_of, valid_length, pointer_word, owner_word, owner_words, owner_at, entry_words, padded, node_words, head_words, words, natural, word_at, pointer_of, read}
+use Rattle.rules.specs.Layout.{pointer_place, edition_of, valid_length, pointer_word, owner_word, owner_words, owner_at}
+use Rattle.rules.specs.Layout.{entry_words, padded, node_words, head_words, words, natural, word_at, pointer_of, read}
 use Rattle.rules.specs.Choose.{rect_from}
 use Rattle.rules.specs.Sound.{nothing_else}
 use Rattle.rules_laws.proofs.Bools.{and_both, both_and}

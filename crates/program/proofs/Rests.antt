@@ -549,7 +549,8 @@ module _ (holds at : Known) (input out : List ℕ) (r : Run) {f : Flushed} (r' :
         let low : r'.at ≤ r'.end = omega (arith, st.low, emptied.at, emptied.end) in
         let k = ended_held low (omega (arith, st.high, emptied.end)) v i in
         let m = many_held low (omega (arith, st.high, emptied.end)) k in
-        wait_ended pool input out r st w (received_ended v s i) (received_at_end v s i (omega (arith, room, same, emptied.at, emptied.end))) (emptied_appends st.room) now end (k.before ∙ emptied.before) (omega (arith, m, emptied.at, emptied.end))
+        wait_ended pool input out r st w (received_ended v s i) (received_at_end v s i (omega (arith, room, same, emptied.at, emptied.end)))
+        (emptied_appends st.room) now end (k.before ∙ emptied.before) (omega (arith, m, emptied.at, emptied.end))
         k.low long last
 
 -- ---- `round`

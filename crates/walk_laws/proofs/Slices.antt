@@ -6,7 +6,8 @@
 --     looks, shuts     [OwnShr ys; [κ]_q; Γ]  ↔  Looked ys ++ Γ
 --     opens, closes    [Own ys; [κ]_q; Γ]  →  Opened ys ys ++ Γ,   Opened ys zs ++ Γ  →  [Own zs; [κ]_q; Γ]
 --     doubles          [OwnShr ys; Γ]  →  [OwnShr ys; OwnShr ys; Γ]
--- Each takes the slice's formula apart, does the kit's step on a row, and puts the formula together. `looks` takes that T is Copy as `denote/Copied.antt` has it, and `doubles` that what a `&` to a T holds may be had twice. Assumes `Logic`.
+-- Each takes the slice's formula apart, does the kit's step on a row, and puts the formula together. `looks` takes that T is Copy as `denote/Copied.antt` has it,
+-- and `doubles` that what a `&` to a T holds may be had twice. Assumes `Logic`.
 use mathlib.Core.Path.{◌≡◌, refl, sym, subst}
 use mathlib.Core.List.{List, [], ◌∷◌, ◌++◌}
 use Prim.Native.Nat.{ℕ}

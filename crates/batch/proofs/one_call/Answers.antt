@@ -19,7 +19,8 @@ returns-then-n-ne0 c =
     let e = to_z-of_z {w = w32} c.ranges.owner in
     let is = rw e at c.refusal-n.ensures in
     let known = when_refused l c.all_asked-all.result c.all_asked-all.ensures z is c.if-n-ne0.true in
-    subst (λ (n : ℤ). Allowed l (left n c.args.pool.now c.args.work.now c.args.answers.now c.args.found.now)) (sym (to_z-of_z {w = w32} (sfits_of c.refusal-n.type_inv))) known
+    subst (λ (n : ℤ). Allowed l (left n c.args.pool.now c.args.work.now c.args.answers.now c.args.found.now))
+    (sym (to_z-of_z {w = w32} (sfits_of c.refusal-n.type_inv))) known
 
 pub serve-requires : goal.serve-requires
 serve-requires c =
@@ -27,7 +28,8 @@ serve-requires c =
     let e = to_z-of_z {w = w32} c.ranges.owner in
     let is = rw e at c.refusal-n.ensures in
     let known = when_served l c.all_asked-all.result c.all_asked-all.ensures c.refusal-n.result is c.if-n-ne0.false in
-    subst (λ (o : ℤ). call_fault (lent (owner o) c.args.pool.now c.args.work.now c.args.requests.now c.args.answers.now c.args.found.now) ≡ none) (sym e) known
+    subst (λ (o : ℤ). call_fault (lent (owner o) c.args.pool.now c.args.work.now c.args.requests.now c.args.answers.now c.args.found.now)
+    ≡ none) (sym e) known
 
 pub copy-requires : goal.copy-requires
 copy-requires c =
@@ -43,5 +45,7 @@ returns c =
     let e = to_z-of_z {w = w32} c.ranges.owner in
     let is = rw e at c.refusal-n.ensures in
     let known = when_served l c.all_asked-all.result c.all_asked-all.ensures c.refusal-n.result is c.if-n-ne0.false in
-    let done = subst (λ (o : ℤ). Batched (batch_of (lent (owner o) c.args.pool.now c.args.work.now c.args.requests.now c.args.answers.now c.args.found.now)) c.serve.new.pool c.serve.new.answers c.serve.new.found) e c.serve.ensures in
+    let done = subst (λ (o : ℤ). Batched
+    (batch_of (lent (owner o) c.args.pool.now c.args.work.now c.args.requests.now c.args.answers.now c.args.found.now)) c.serve.new.pool
+    c.serve.new.answers c.serve.new.found) e c.serve.ensures in
     left_served l known c.serve.new.pool c.copy.new.target c.serve.new.answers c.serve.new.found done c.copy.ensures

@@ -15,10 +15,14 @@ use Rattle.batch.proofs.Batches.{fine, Going, going, st_of, started, finished, n
 use Rattle.batch.proofs.serve.Goals as goal
 
 pub begun-p-requires : goal.begun-p-requires
-begun-p-requires c = (fine (lent (owner c.args.owner) c.args.pool.now c.args.work.now c.args.requests.now c.args.answers.now c.args.found.now) c.requires).right
+begun-p-requires c =
+    (fine (lent (owner c.args.owner) c.args.pool.now c.args.work.now c.args.requests.now c.args.answers.now c.args.found.now) c.requires).right
 
 pub loop-p-init : goal.loop-p-init
-loop-p-init c o q f = going (lent (owner o) c.args.pool.now c.args.work.now c.args.requests.now c.args.answers.now c.args.found.now) f (started (lent (owner o) c.args.pool.now c.args.work.now c.args.requests.now c.args.answers.now c.args.found.now) f c.begun-p.result c.begun-p.ensures)
+loop-p-init c o q f =
+    going (lent (owner o) c.args.pool.now c.args.work.now c.args.requests.now c.args.answers.now c.args.found.now) f
+    (started (lent (owner o) c.args.pool.now c.args.work.now c.args.requests.now c.args.answers.now c.args.found.now) f c.begun-p.result
+    c.begun-p.ensures)
 
 pub overflow_sub-room : goal.overflow_sub-room
 overflow_sub-room c =
@@ -54,7 +58,9 @@ step-t-requires c =
     let r = c.one_request-s.result in
     let p = c.one_request-s.new.pool in
     let w = c.one_request-s.new.work in
-    let does = subst (λ (z : ℤ). ServesTo c.loop-p.pool (owner_in (edition_of c.loop-p.pool) (owner z)) (get_or c.args.requests.now c.loop-p.p.done none) c.loop-p.p.filled (length c.loop-p.found - c.loop-p.p.filled) r p w) (sym q) c.one_request-s.ensures in
+    let does = subst (λ (z : ℤ). ServesTo c.loop-p.pool (owner_in (edition_of c.loop-p.pool) (owner z))
+    (get_or c.args.requests.now c.loop-p.p.done none) c.loop-p.p.filled (length c.loop-p.found - c.loop-p.p.filled) r p w) (sym q)
+    c.one_request-s.ensures in
     (done_few l f s c.loop-p-test.true, many l f s c.loop-p-test.true, listed_few l f s c.loop-p-test.true r p w does)
 
 pub carry-requires : goal.carry-requires
@@ -67,10 +73,15 @@ carry-requires c =
     let r = c.one_request-s.result in
     let p = c.one_request-s.new.pool in
     let w = c.one_request-s.new.work in
-    let does = subst (λ (z : ℤ). ServesTo c.loop-p.pool (owner_in (edition_of c.loop-p.pool) (owner z)) (get_or c.args.requests.now c.loop-p.p.done none) c.loop-p.p.filled (length c.loop-p.found - c.loop-p.p.filled) r p w) (sym q) c.one_request-s.ensures in
+    let does = subst (λ (z : ℤ). ServesTo c.loop-p.pool (owner_in (edition_of c.loop-p.pool) (owner z))
+    (get_or c.args.requests.now c.loop-p.p.done none) c.loop-p.p.filled (length c.loop-p.found - c.loop-p.p.filled) r p w) (sym q)
+    c.one_request-s.ensures in
     let e = c.step-t.ensures ∙ step_gives c.loop-p.p r in
-    subst (λ (x : Stepped). (2 * x.listed ≤ length w) × Pointing p w 0 x.listed × (x.start + x.listed ≤ length c.loop-p.found)) (sym e)
-    (listed_words l f s c.loop-p-test.true r p w does, listed_there l f s c.loop-p-test.true r p w does, listed_room l f s c.loop-p-test.true r p w does)
+    subst (λ (x : Stepped). (2 * x.listed ≤ length w) × Pointing p w 0 x.listed × (x.start + x.listed ≤ length c.loop-p.found)) (sym e) (
+      listed_words l f s c.loop-p-test.true r p w does,
+      listed_there l f s c.loop-p-test.true r p w does,
+      listed_room l f s c.loop-p-test.true r p w does,
+    )
 
 pub offset_bounds-answers-place : goal.offset_bounds-answers-place
 offset_bounds-answers-place c =
@@ -82,7 +93,9 @@ offset_bounds-answers-place c =
     let r = c.one_request-s.result in
     let p = c.one_request-s.new.pool in
     let w = c.one_request-s.new.work in
-    let does = subst (λ (z : ℤ). ServesTo c.loop-p.pool (owner_in (edition_of c.loop-p.pool) (owner z)) (get_or c.args.requests.now c.loop-p.p.done none) c.loop-p.p.filled (length c.loop-p.found - c.loop-p.p.filled) r p w) (sym q) c.one_request-s.ensures in
+    let does = subst (λ (z : ℤ). ServesTo c.loop-p.pool (owner_in (edition_of c.loop-p.pool) (owner z))
+    (get_or c.args.requests.now c.loop-p.p.done none) c.loop-p.p.filled (length c.loop-p.found - c.loop-p.p.filled) r p w) (sym q)
+    c.one_request-s.ensures in
     let e = c.step-t.ensures ∙ step_gives c.loop-p.p r in
     omega (arith, ap (λ (x : Stepped). x.place) e, c.loop-p-test.true, s.answers_long, f.answers, f.many)
 
@@ -96,7 +109,9 @@ bounds-answers-place c =
     let r = c.one_request-s.result in
     let p = c.one_request-s.new.pool in
     let w = c.one_request-s.new.work in
-    let does = subst (λ (z : ℤ). ServesTo c.loop-p.pool (owner_in (edition_of c.loop-p.pool) (owner z)) (get_or c.args.requests.now c.loop-p.p.done none) c.loop-p.p.filled (length c.loop-p.found - c.loop-p.p.filled) r p w) (sym q) c.one_request-s.ensures in
+    let does = subst (λ (z : ℤ). ServesTo c.loop-p.pool (owner_in (edition_of c.loop-p.pool) (owner z))
+    (get_or c.args.requests.now c.loop-p.p.done none) c.loop-p.p.filled (length c.loop-p.found - c.loop-p.p.filled) r p w) (sym q)
+    c.one_request-s.ensures in
     let e = c.step-t.ensures ∙ step_gives c.loop-p.p r in
     omega (arith, ap (λ (x : Stepped). x.place) e, c.loop-p-test.true, s.answers_long, f.answers)
 
@@ -110,7 +125,9 @@ loop-p-smaller c =
     let r = c.one_request-s.result in
     let p = c.one_request-s.new.pool in
     let w = c.one_request-s.new.work in
-    let does = subst (λ (z : ℤ). ServesTo c.loop-p.pool (owner_in (edition_of c.loop-p.pool) (owner z)) (get_or c.args.requests.now c.loop-p.p.done none) c.loop-p.p.filled (length c.loop-p.found - c.loop-p.p.filled) r p w) (sym q) c.one_request-s.ensures in
+    let does = subst (λ (z : ℤ). ServesTo c.loop-p.pool (owner_in (edition_of c.loop-p.pool) (owner z))
+    (get_or c.args.requests.now c.loop-p.p.done none) c.loop-p.p.filled (length c.loop-p.found - c.loop-p.p.filled) r p w) (sym q)
+    c.one_request-s.ensures in
     let e = c.step-t.ensures ∙ step_gives c.loop-p.p r in
     omega (arith, ap (λ (x : Stepped). x.next.done) e, c.loop-p-test.true)
 
@@ -121,7 +138,9 @@ loop-p-preserved c o q f =
     let r = c.one_request-s.result in
     let p = c.one_request-s.new.pool in
     let w = c.one_request-s.new.work in
-    let does = subst (λ (z : ℤ). ServesTo c.loop-p.pool (owner_in (edition_of c.loop-p.pool) (owner z)) (get_or c.args.requests.now c.loop-p.p.done none) c.loop-p.p.filled (length c.loop-p.found - c.loop-p.p.filled) r p w) (sym q) c.one_request-s.ensures in
+    let does = subst (λ (z : ℤ). ServesTo c.loop-p.pool (owner_in (edition_of c.loop-p.pool) (owner z))
+    (get_or c.args.requests.now c.loop-p.p.done none) c.loop-p.p.filled (length c.loop-p.found - c.loop-p.p.filled) r p w) (sym q)
+    c.one_request-s.ensures in
     let e = c.step-t.ensures ∙ step_gives c.loop-p.p r in
     let fs = c.carry.new.found in
     let carried = subst (λ (x : Stepped). fs ≡ sets c.loop-p.found x.start (shown_from p w 0 x.listed)) e c.carry.ensures in

@@ -18,8 +18,13 @@ use Rattle.choose.proofs.Turns.{in_node, step_least, least_is, first, last}
 use Rattle.choose.proofs.choose_child.Invariants.{Turn}
 use Rattle.choose.proofs.choose_child.Goals as goal
 
-turn : {rs : List Rect} {new : Rect} {n at least i : ℕ} → Turn rs new n at least i → i < n → (grows : ℕ) → pos grows ≡ enlargement (rect_from rs i) new
-    → (grows ≡ least → ⊥) → Turn rs new n (cond (ltb grows least) i at) (cond (ltb grows least) grows least) (i + 1)
+turn : {rs : List Rect} {new : Rect} {n at least i : ℕ}
+    → Turn rs new n at least i
+    → i < n
+    → (grows : ℕ)
+    → pos grows ≡ enlargement (rect_from rs i) new
+    → (grows ≡ least → ⊥)
+    → Turn rs new n (cond (ltb grows least) i at) (cond (ltb grows least) grows least) (i + 1)
 turn {rs} {new} {n} {at} {least} {i} t h grows e differ = record {
   size = t.size;
   most = omega arith;
@@ -66,7 +71,10 @@ choose_tied-requires c =
       in_pool = c.requires.in_pool;
       choosable = c.requires.choosable;
       value = c.requires.value;
-      first_in_bounds = (omega (arith, c.loop-i.invariant.size, c.loop-i.invariant.there), omega (arith, c.loop-i.invariant.size, c.loop-i.invariant.most));
+      first_in_bounds = (
+        omega (arith, c.loop-i.invariant.size, c.loop-i.invariant.there),
+        omega (arith, c.loop-i.invariant.size, c.loop-i.invariant.most),
+      );
     }
 
 pub returns-then-grows-least : goal.returns-then-grows-least
@@ -78,7 +86,8 @@ returns-then-grows-least c =
 
 pub loop-i-preserved : goal.loop-i-preserved
 loop-i-preserved c =
-    rw (c.place_by-at.ensures, c.key_by-least.ensures) (turn c.loop-i.invariant c.loop-i-test.true c.growth-grows.result c.growth-grows.ensures c.if-grows-least.false)
+    rw (c.place_by-at.ensures, c.key_by-least.ensures)
+    (turn c.loop-i.invariant c.loop-i-test.true c.growth-grows.result c.growth-grows.ensures c.if-grows-least.false)
 
 pub returns : goal.returns
 returns c =

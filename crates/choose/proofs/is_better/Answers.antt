@@ -43,7 +43,8 @@ pub returns-then-p-q : goal.returns-then-p-q
 unfolding takes_better
 returns-then-p-q c =
     ties (as_pos c.requires.measured.grows c.requires.measured_2.grows) _ c.if-a-b.false
-    (decides (as_pos (rw c.rect_of-x.ensures at c.half_enlargement-p.ensures) (rw c.rect_of-y.ensures at c.half_enlargement-q.ensures)) _ c.if-p-q.true)
+    (decides (as_pos (rw c.rect_of-x.ensures at c.half_enlargement-p.ensures) (rw c.rect_of-y.ensures at c.half_enlargement-q.ensures)) _
+    c.if-p-q.true)
 
 pub returns-then-a-b-2 : goal.returns-then-a-b-2
 unfolding takes_better

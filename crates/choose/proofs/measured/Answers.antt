@@ -23,5 +23,9 @@ pub returns : goal.returns
 returns c =
     record {
       at = refl;
-      is = record { there = c.requires.i_in_bounds; grows = rw c.rect_of-r.ensures at c.enlargement-grows.ensures.is; size = rw c.rect_of-r.ensures at c.area-size.ensures.is };
+      is = record {
+        there = c.requires.i_in_bounds;
+        grows = rw c.rect_of-r.ensures at c.enlargement-grows.ensures.is;
+        size = rw c.rect_of-r.ensures at c.area-size.ensures.is;
+      };
     }

@@ -37,7 +37,8 @@ insert_at-requires c = let h = c.loop-left-test.true in
 
 pub returns-in_default : goal.returns-in_default
 returns-in_default c =
-    let both = returning_refused c.loop-left.invariant c.loop-left-test.true _ c.insert_at.new.pool c.insert_at.result c.in_default.is c.insert_at.ensures in
+    let both = returning_refused c.loop-left.invariant c.loop-left-test.true _ c.insert_at.new.pool c.insert_at.result c.in_default.is
+    c.insert_at.ensures in
     record { is = both.0; high = both.1 }
 
 pub overflow_sub-left : goal.overflow_sub-left
@@ -50,7 +51,8 @@ loop-left-smaller c =
 
 pub loop-left-preserved : goal.loop-left-preserved
 loop-left-preserved c =
-    returning_next c.loop-left.invariant c.loop-left-test.true _ c.insert_at.new.pool (search rules) c.insert_at.result c.in-Made.after c.in-Made.is c.insert_at.ensures
+    returning_next c.loop-left.invariant c.loop-left-test.true _ c.insert_at.new.pool (search rules) c.insert_at.result c.in-Made.after
+    c.in-Made.is c.insert_at.ensures
 
 pub returns : goal.returns
 returns c =

@@ -57,11 +57,12 @@ returns-then-not-tightened c =
     let w = c.args.pool.now in
     record {
       is = done.0
-          ∙ tights_done (read w) c.args.way c.args.height c.requires.comes_down c.requires.keeps_enough (read c.take_out.new.pool) c.take_out.ensures.is;
+          ∙ tights_done (read w) c.args.way c.args.height c.requires.comes_down c.requires.keeps_enough (read c.take_out.new.pool)
+          c.take_out.ensures.is;
       fit = c.tightened.ensures.fit;
       free = (λ f k. done.1 f
-          (out_still w c.requires.fit_2 (few_read c.requires.fit_2) c.args.way c.args.height c.requires.comes_down
-          c.requires.keeps_enough c.take_out.new.pool c.take_out.ensures.is f k));
+          (out_still w c.requires.fit_2 (few_read c.requires.fit_2) c.args.way c.args.height c.requires.comes_down c.requires.keeps_enough
+          c.take_out.new.pool c.take_out.ensures.is f k));
     }
 
 pub overflow_add-l : goal.overflow_add-l
@@ -81,11 +82,12 @@ returns c =
     let w = c.args.pool.now in
     record {
       is = tightening_last c.loop-l.invariant c.loop-l-test.false
-          ∙ tights_done (read w) c.args.way c.args.height c.requires.comes_down c.requires.keeps_enough (read c.take_out.new.pool) c.take_out.ensures.is;
+          ∙ tights_done (read w) c.args.way c.args.height c.requires.comes_down c.requires.keeps_enough (read c.take_out.new.pool)
+          c.take_out.ensures.is;
       fit = c.loop-l.invariant.fit;
       free = (λ f k. c.loop-l.invariant.known f
-          (out_still w c.requires.fit_2 (few_read c.requires.fit_2) c.args.way c.args.height c.requires.comes_down
-          c.requires.keeps_enough c.take_out.new.pool c.take_out.ensures.is f k));
+          (out_still w c.requires.fit_2 (few_read c.requires.fit_2) c.args.way c.args.height c.requires.comes_down c.requires.keeps_enough
+          c.take_out.new.pool c.take_out.ensures.is f k));
     }
 
 pub bounds-nodes-0 : goal.bounds-nodes-0

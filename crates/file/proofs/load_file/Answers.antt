@@ -42,7 +42,8 @@ returns-then-not-le c =
 
 pub overflow_cast-count : goal.overflow_cast-count
 overflow_cast-count c =
-    cast_fits _ (word_kept {z = c.word_at-count.result} c.word_at-count.type_inv) c.word_at-count.type_inv (sym c.le.ensures ∙ not_false _ c.if-not-le.false-raw)
+    cast_fits _ (word_kept {z = c.word_at-count.result} c.word_at-count.type_inv) c.word_at-count.type_inv
+    (sym c.le.ensures ∙ not_false _ c.if-not-le.false-raw)
 
 pub load_records-requires : goal.load_records-requires
 load_records-requires c =

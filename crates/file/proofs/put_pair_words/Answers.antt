@@ -14,7 +14,14 @@ put_word-lowY-requires c =
 
 pub put_word-highX-requires : goal.put_word-highX-requires
 put_word-highX-requires c =
-    omega (arith, c.requires, word_next _ c.put_word-lowX.ensures, c.put_word-lowX.auto.out, word_next _ c.put_word-lowY.ensures, c.put_word-lowY.auto.out)
+    omega (
+      arith,
+      c.requires,
+      word_next _ c.put_word-lowX.ensures,
+      c.put_word-lowX.auto.out,
+      word_next _ c.put_word-lowY.ensures,
+      c.put_word-lowY.auto.out,
+    )
 
 pub put_word-highY-requires : goal.put_word-highY-requires
 put_word-highY-requires c =
@@ -54,5 +61,5 @@ returns c =
     let highY = word_kept {z = r.rect.highY} c.struct_told-5-1.given.1.1.1.0.1 in
     wrote_as ((λ i. word_bytes (number i) ++ word_bytes (lowX i) ++ word_bytes (lowY i) ++ word_bytes (highX i) ++ word_bytes (highY i))
     ∙ pair_text r)
-    (wrote_then (wrote_then (wrote_then (wrote_then c.put_word-lowX.ensures c.put_word-lowY.ensures) c.put_word-highX.ensures) c.put_word-highY.ensures)
-    c.put_word.ensures)
+    (wrote_then (wrote_then (wrote_then (wrote_then c.put_word-lowX.ensures c.put_word-lowY.ensures) c.put_word-highX.ensures)
+    c.put_word-highY.ensures) c.put_word.ensures)

@@ -57,10 +57,12 @@ pub find_in-w-requires : goal.find_in-w-requires
 find_in-w-requires t c =
     let p = read c.args.pool.now in
     let two = above_leaf p c.args.level c.args.s c.requires.tree c.if-level-eq1.false in
-    let there =
-    hit_there p c.args.r c.args.level c.args.s _ _ c.loop-k.k c.loop-k.invariant c.loop-k-test.true in (
+    let there = hit_there p c.args.r c.args.level c.args.s _ _ c.loop-k.k c.loop-k.invariant c.loop-k-test.true in (
       omega (arith, c.decreases, two),
-      (c.requires.pool_value, (rw c.child_of.ensures (child_tree p c.args.level c.args.s two c.requires.tree _ there), omega (arith, c.requires.level_bound))),
+      (
+        c.requires.pool_value,
+        (rw c.child_of.ensures (child_tree p c.args.level c.args.s two c.requires.tree _ there), omega (arith, c.requires.level_bound)),
+      ),
     )
 
 pub with_place-requires : goal.with_place-requires

@@ -13,8 +13,19 @@ pub returns : goal.returns
 returns c =
     record {
       wrote = wrote_as (line_of_four _ _ _ _
-          ∙ (λ i. line (nat_shown (add-one c.args.before i) ∷ nat_shown (c.long.ensures i) ∷ nat_shown (c.long-2.ensures i) ∷ nat_shown (c.long-3.ensures i) ∷ []))
+          ∙ (λ i. line (nat_shown (add-one c.args.before i)
+          ∷ nat_shown (c.long.ensures i)
+          ∷ nat_shown (c.long-2.ensures i)
+          ∷ nat_shown (c.long-3.ensures i)
+          ∷ []))
           ∙ answer_is (suc c.args.before) c.args.answer)
-          (wrote_then (wrote_then (wrote_then c.put_field-number.ensures.wrote c.put_field-found.ensures.wrote) c.put_field-opened.ensures.wrote) c.put_field.ensures.wrote);
-      short = omega (arith, c.put_field-number.ensures.short, c.put_field-found.ensures.short, c.put_field-opened.ensures.short, c.put_field.ensures.short);
+          (wrote_then (wrote_then (wrote_then c.put_field-number.ensures.wrote c.put_field-found.ensures.wrote)
+          c.put_field-opened.ensures.wrote) c.put_field.ensures.wrote);
+      short = omega (
+        arith,
+        c.put_field-number.ensures.short,
+        c.put_field-found.ensures.short,
+        c.put_field-opened.ensures.short,
+        c.put_field.ensures.short,
+      );
     }

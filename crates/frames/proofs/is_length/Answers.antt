@@ -14,4 +14,5 @@ pub returns-in-38 : goal.returns-in-38
 returns-in-38 c = sym (ap some_length c.in-38.is ∙ some_38)
 
 pub returns-in_default : goal.returns-in_default
-returns-in_default c = sym (some_none c.args.n c.in_default.in_default-own.rest.0.0.1 c.in_default.in_default-own.rest.0.1 c.in_default.in_default-own.rest.1)
+returns-in_default c =
+    sym (some_none c.args.n c.in_default.in_default-own.rest.0.0.1 c.in_default.in_default-own.rest.0.1 c.in_default.in_default-own.rest.1)

@@ -38,7 +38,8 @@ returns c =
       many = omega arith;
       front = moved_all c.args.at (c.args.end - c.args.at) c.args.buffer.now c.loop-i.buffer (omega arith) c.loop-i.invariant.size
           (λ k h. c.loop-i.invariant.moved k (omega arith));
-      others = others_kept (c.args.end - c.args.at) c.args.buffer.now c.loop-i.buffer c.loop-i.invariant.size (λ k h. c.loop-i.invariant.same k (omega arith));
+      others = others_kept (c.args.end - c.args.at) c.args.buffer.now c.loop-i.buffer c.loop-i.invariant.size
+          (λ k h. c.loop-i.invariant.same k (omega arith));
     }
 
 pub overflow_sub-rest : goal.overflow_sub-rest

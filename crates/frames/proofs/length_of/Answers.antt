@@ -44,6 +44,8 @@ pub returns-in_default : goal.returns-in_default
 returns-in_default c =
     let k = c.args.kind in
     record {
-      is = sym (length_none k c.in_default.in_default-own.rest.0.0.0.0.0.1 c.in_default.in_default-own.rest.0.0.0.0.1 c.in_default.in_default-own.rest.0.0.0.1 (past_searches k c.in_default.in_default-own.rest.0.0.1 c.in_default.in_default-own.rest.0.1 c.in_default.in_default-own.rest.1));
+      is = sym (length_none k c.in_default.in_default-own.rest.0.0.0.0.0.1 c.in_default.in_default-own.rest.0.0.0.0.1
+          c.in_default.in_default-own.rest.0.0.0.1
+          (past_searches k c.in_default.in_default-own.rest.0.0.1 c.in_default.in_default-own.rest.0.1 c.in_default.in_default-own.rest.1));
       small = omega arith;
     }

@@ -34,7 +34,8 @@ pub returns-then-bytes-size : goal.returns-then-bytes-size
 returns-then-bytes-size c =
     sym (waits_words c.args.bytes.now c.if-bytes-lt4.false
     (ap some_length (sym c.pair_at-length.ensures.is) ∙ sym c.is_length.ensures ∙ not-false _ c.if-not-is_length.false-raw)
-    (ap kind_length (sym c.pair_at-kind.ensures.is) ∙ sym c.length_of.ensures.is ∙ c.if-length_of-length.false ∙ c.pair_at-length.ensures.is) (omega arith))
+    (ap kind_length (sym c.pair_at-kind.ensures.is) ∙ sym c.length_of.ensures.is ∙ c.if-length_of-length.false ∙ c.pair_at-length.ensures.is)
+    (omega arith))
 
 pub request_in-request-requires : goal.request_in-request-requires
 request_in-request-requires c =
@@ -48,7 +49,9 @@ request_in-request-requires c =
 pub returns : goal.returns
 returns c =
     ap₂ (λ (q : Request) (n : ℕ). Asks q n)
-    (c.request_in-request.ensures ∙ ap (λ (k : ℕ). request_from k c.args.bytes.now) c.pair_at-kind.ensures.is) (ap (λ (n : ℕ). 2 + n) c.pair_at-length.ensures.is)
+    (c.request_in-request.ensures ∙ ap (λ (k : ℕ). request_from k c.args.bytes.now) c.pair_at-kind.ensures.is)
+    (ap (λ (n : ℕ). 2 + n) c.pair_at-length.ensures.is)
     ∙ sym (asks_all c.args.bytes.now
     (ap some_length (sym c.pair_at-length.ensures.is) ∙ sym c.is_length.ensures ∙ not-false _ c.if-not-is_length.false-raw)
-    (ap kind_length (sym c.pair_at-kind.ensures.is) ∙ sym c.length_of.ensures.is ∙ c.if-length_of-length.false ∙ c.pair_at-length.ensures.is) (omega arith))
+    (ap kind_length (sym c.pair_at-kind.ensures.is) ∙ sym c.length_of.ensures.is ∙ c.if-length_of-length.false ∙ c.pair_at-length.ensures.is)
+    (omega arith))

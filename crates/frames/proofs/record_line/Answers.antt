@@ -34,6 +34,15 @@ returns c =
     record {
       wrote = wrote_as (line_of_five _ _ _ _ _
           ∙ (λ i. line (int_shown (n i) ∷ int_shown (lowX i) ∷ int_shown (lowY i) ∷ int_shown (highX i) ∷ int_shown (highY i) ∷ []))
-          ∙ record_line_lem r) (wrote_then (wrote_then (wrote_then (wrote_then c.put_signed-lowX.ensures.wrote c.put_signed-lowY.ensures.wrote) c.put_signed-highX.ensures.wrote) c.put_signed-highY.ensures.wrote) c.put_signed.ensures.wrote);
-      short = omega (arith, c.put_signed-lowX.ensures.short, c.put_signed-lowY.ensures.short, c.put_signed-highX.ensures.short, c.put_signed-highY.ensures.short, c.put_signed.ensures.short);
+          ∙ record_line_lem r)
+          (wrote_then (wrote_then (wrote_then (wrote_then c.put_signed-lowX.ensures.wrote c.put_signed-lowY.ensures.wrote)
+          c.put_signed-highX.ensures.wrote) c.put_signed-highY.ensures.wrote) c.put_signed.ensures.wrote);
+      short = omega (
+        arith,
+        c.put_signed-lowX.ensures.short,
+        c.put_signed-lowY.ensures.short,
+        c.put_signed-highX.ensures.short,
+        c.put_signed-highY.ensures.short,
+        c.put_signed.ensures.short,
+      );
     }

@@ -22,7 +22,8 @@ change_in-requires c = omega (arith, c.requires.whole, length_2 c.args.kind c.in
 pub change_in-requires-in_default : goal.change_in-requires-in_default
 change_in-requires-in_default c =
     let k = only_insert c.args.kind c.requires.known c.in_default.in_default-own.rest.0.0.0.0.1
-    (past_searches c.args.kind c.in_default.in_default-own.rest.0.0.0.1 c.in_default.in_default-own.rest.0.0.1 c.in_default.in_default-own.rest.0.1) c.in_default.in_default-own.rest.1 in
+    (past_searches c.args.kind c.in_default.in_default-own.rest.0.0.0.1 c.in_default.in_default-own.rest.0.0.1
+    c.in_default.in_default-own.rest.0.1) c.in_default.in_default-own.rest.1 in
     omega (arith, c.requires.whole, length_1 c.args.kind k)
 
 pub returns-in-3 : goal.returns-in-3
@@ -47,5 +48,6 @@ returns-in-2 c = c.change_in.ensures ∙ sym (from_change c.args.bytes.now c.in-
 pub returns-in_default : goal.returns-in_default
 returns-in_default c =
     let k = only_insert c.args.kind c.requires.known c.in_default.in_default-own.rest.0.0.0.0.1
-    (past_searches c.args.kind c.in_default.in_default-own.rest.0.0.0.1 c.in_default.in_default-own.rest.0.0.1 c.in_default.in_default-own.rest.0.1) c.in_default.in_default-own.rest.1 in
+    (past_searches c.args.kind c.in_default.in_default-own.rest.0.0.0.1 c.in_default.in_default-own.rest.0.0.1
+    c.in_default.in_default-own.rest.0.1) c.in_default.in_default-own.rest.1 in
     c.change_in-in_default.ensures ∙ sym (from_change c.args.bytes.now k (omega arith))

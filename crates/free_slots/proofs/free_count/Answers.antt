@@ -48,4 +48,8 @@ loop-at-preserved c =
 pub returns : goal.returns
 returns c =
     let w = c.args.pool.now in
-    omega (arith, count_end (read w) c.loop-at.at (omega (arith, c.loop-at-test.false, c.slot_count-n.ensures, read_slots w)), c.loop-at.invariant.rest)
+    omega (
+      arith,
+      count_end (read w) c.loop-at.at (omega (arith, c.loop-at-test.false, c.slot_count-n.ensures, read_slots w)),
+      c.loop-at.invariant.rest,
+    )

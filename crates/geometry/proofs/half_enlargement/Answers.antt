@@ -8,11 +8,11 @@ half_perimeter-requires c =
 
 pub overflow_sub-result : goal.overflow_sub-result
 overflow_sub-result c =
-    halves.grows c.args.a c.args.b c.half_perimeter-2.result c.half_perimeter.result c.requires.a_value c.requires.b_value c.half_perimeter-2.ensures.is
-    (rw c.cover.ensures at c.half_perimeter.ensures.is)
+    halves.grows c.args.a c.args.b c.half_perimeter-2.result c.half_perimeter.result c.requires.a_value c.requires.b_value
+    c.half_perimeter-2.ensures.is (rw c.cover.ensures at c.half_perimeter.ensures.is)
 
 pub returns : goal.returns
 unfolding half_enlargement
 returns c =
-    enlarged halves c.args.a c.args.b c.requires.a_value c.requires.b_value c.half_perimeter-2.result c.half_perimeter.result c.half_perimeter-2.ensures.is
-    (rw c.cover.ensures at c.half_perimeter.ensures.is)
+    enlarged halves c.args.a c.args.b c.requires.a_value c.requires.b_value c.half_perimeter-2.result c.half_perimeter.result
+    c.half_perimeter-2.ensures.is (rw c.cover.ensures at c.half_perimeter.ensures.is)

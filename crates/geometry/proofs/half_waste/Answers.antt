@@ -19,5 +19,6 @@ overflow_add-result-2 c = omega (arith, c.half_perimeter.ensures.small)
 pub returns : goal.returns
 unfolding half_waste
 returns c =
-    wasted halves c.args.a c.args.b c.requires.a_value c.requires.b_value c.half_perimeter-2.result c.half_perimeter.result c.half_perimeter-2.ensures.is
-    (rw c.cover.ensures at c.half_perimeter.ensures.is) c.half_perimeter-3.result c.half_perimeter-3.ensures.is
+    wasted halves c.args.a c.args.b c.requires.a_value c.requires.b_value c.half_perimeter-2.result c.half_perimeter.result
+    c.half_perimeter-2.ensures.is (rw c.cover.ensures at c.half_perimeter.ensures.is) c.half_perimeter-3.result
+    c.half_perimeter-3.ensures.is

@@ -45,14 +45,18 @@ pub full_run-r-requires : goal.full_run-r-requires
 full_run-r-requires t c =
     let more : 1 ≤ c.args.n = omega (arith, c.if-n-eq0.false) in (
       omega (arith, c.decreases),
-      (c.requires.pool_value, way_down c.requires.way_down more c.choose_child-i.result c.child_of-c.result c.choose_child-i.ensures.is c.child_of-c.ensures),
+      (
+        c.requires.pool_value,
+        way_down c.requires.way_down more c.choose_child-i.result c.child_of-c.result c.choose_child-i.ensures.is c.child_of-c.ensures,
+      ),
     )
 
 pub returns-then-r-n : goal.returns-then-r-n
 returns-then-r-n t c =
-    let more : 1 ≤ c.args.n = omega (arith, c.if-n-eq0.false) in record {
-      is = run_shorter c.requires.way_down more c.choose_child-i.result c.child_of-c.result c.choose_child-i.ensures.is c.child_of-c.ensures c.full_run-r.result
-          c.full_run-r.ensures.is c.if-r-n.true;
+    let more : 1 ≤ c.args.n = omega (arith, c.if-n-eq0.false) in
+    record {
+      is = run_shorter c.requires.way_down more c.choose_child-i.result c.child_of-c.result c.choose_child-i.ensures.is c.child_of-c.ensures
+          c.full_run-r.result c.full_run-r.ensures.is c.if-r-n.true;
       most = omega (arith, c.if-r-n.true);
     }
 
@@ -67,9 +71,10 @@ overflow_add-result t c =
 
 pub returns : goal.returns
 returns t c =
-    let more : 1 ≤ c.args.n = omega (arith, c.if-n-eq0.false) in record {
-      is = run_longer c.requires.way_down more c.choose_child-i.result c.child_of-c.result c.choose_child-i.ensures.is c.child_of-c.ensures c.full_run-r.result
-          c.full_run-r.ensures.is (omega (arith, c.if-r-n.false, c.full_run-r.ensures.most)) c.one_if_full-2.result
+    let more : 1 ≤ c.args.n = omega (arith, c.if-n-eq0.false) in
+    record {
+      is = run_longer c.requires.way_down more c.choose_child-i.result c.child_of-c.result c.choose_child-i.ensures.is c.child_of-c.ensures
+          c.full_run-r.result c.full_run-r.ensures.is (omega (arith, c.if-r-n.false, c.full_run-r.ensures.most)) c.one_if_full-2.result
           c.one_if_full-2.ensures.is;
       most = omega (arith, c.one_if_full-2.ensures.most);
     }

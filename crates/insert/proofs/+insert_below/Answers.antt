@@ -49,17 +49,21 @@ pub insert_below-grown-requires : goal.insert_below-grown-requires
 insert_below-grown-requires t c =
     let more : 1 ≤ c.args.n = omega (arith, c.if-n-eq0.false) in (
       omega (arith, c.decreases),
-      (c.requires.fitted, goes_down c.requires.goes_down more c.choose_child-i.result c.child_of-c.result c.choose_child-i.ensures.is c.child_of-c.ensures),
+      (
+        c.requires.fitted,
+        goes_down c.requires.goes_down more c.choose_child-i.result c.child_of-c.result c.choose_child-i.ensures.is c.child_of-c.ensures,
+      ),
     )
 
 pub adjust-requires : goal.adjust-requires
 adjust-requires t c =
     let more : 1 ≤ c.args.n = omega (arith, c.if-n-eq0.false) in
-    way_back c.requires.goes_down more c.choose_child-i.result c.child_of-c.result c.choose_child-i.ensures.is c.child_of-c.ensures c.insert_below-grown.result
-    c.insert_below-grown.new.pool c.insert_below-grown.ensures
+    way_back c.requires.goes_down more c.choose_child-i.result c.child_of-c.result c.choose_child-i.ensures.is c.child_of-c.ensures
+    c.insert_below-grown.result c.insert_below-grown.new.pool c.insert_below-grown.ensures
 
 pub returns : goal.returns
 returns t c =
     let more : 1 ≤ c.args.n = omega (arith, c.if-n-eq0.false) in
-    way_up_lem c.requires.goes_down more c.choose_child-i.result c.child_of-c.result c.choose_child-i.ensures.is c.child_of-c.ensures c.insert_below-grown.result
-    c.insert_below-grown.new.pool c.insert_below-grown.ensures c.adjust.result c.adjust.new.pool c.adjust.ensures
+    way_up_lem c.requires.goes_down more c.choose_child-i.result c.child_of-c.result c.choose_child-i.ensures.is c.child_of-c.ensures
+    c.insert_below-grown.result c.insert_below-grown.new.pool c.insert_below-grown.ensures c.adjust.result c.adjust.new.pool
+    c.adjust.ensures

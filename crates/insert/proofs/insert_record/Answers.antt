@@ -26,7 +26,8 @@ insert_at-outcome-requires c =
       fit = c.put_records.ensures.fit;
       upright = head_upright w c.requires.fit.right c.requires.whole _ c.put_records.new.pool c.put_records.ensures.is;
       level_bound = head_levels w c.requires.fit.right c.requires.whole _ c.put_records.new.pool c.put_records.ensures.is;
-      may_go = head_goes w c.requires.fit.right c.requires.whole _ c.put_records.new.pool c.put_records.ensures.is c.args.r c.requires.rect_value.0 c.requires.rect_value.1 c.requires.rect_value.2;
+      may_go = head_goes w c.requires.fit.right c.requires.whole _ c.put_records.new.pool c.put_records.ensures.is c.args.r
+          c.requires.rect_value.0 c.requires.rect_value.1 c.requires.rect_value.2;
       known = head_known w c.requires.fit.right c.requires.whole _ c.put_records.new.pool c.put_records.ensures.is _ c.requires.known;
     }
 
@@ -39,8 +40,8 @@ unfolding leaf_entry
 put_records-requires-in-Refused c =
     let w = c.args.pool.now in
     record {
-      fit_2 = refused_fit c.args.r c.put_records.new.pool c.insert_at-outcome.new.pool c.insert_at-outcome.result c.insert_at-outcome.ensures c.in-Refused.is
-          c.put_records.ensures.fit;
+      fit_2 = refused_fit c.args.r c.put_records.new.pool c.insert_at-outcome.new.pool c.insert_at-outcome.result
+          c.insert_at-outcome.ensures c.in-Refused.is c.put_records.ensures.fit;
       n_bound = omega (arith, records_few w c.requires.fit.right c.requires.whole, c.records_of-n.ensures);
     }
 
@@ -48,12 +49,13 @@ pub returns-in-Made : goal.returns-in-Made
 unfolding leaf_entry
 returns-in-Made c =
     let w = c.args.pool.now in
-    record_made w c.args.r c.records_of-n.result c.records_of-n.ensures c.put_records.new.pool c.put_records.ensures.is c.insert_at-outcome.result c.insert_at-outcome.new.pool
-    c.insert_at-outcome.ensures c.in-Made.left c.in-Made.is
+    record_made w c.args.r c.records_of-n.result c.records_of-n.ensures c.put_records.new.pool c.put_records.ensures.is
+    c.insert_at-outcome.result c.insert_at-outcome.new.pool c.insert_at-outcome.ensures c.in-Made.left c.in-Made.is
 
 pub returns-in-Refused : goal.returns-in-Refused
 unfolding leaf_entry
 returns-in-Refused c =
     let w = c.args.pool.now in
-    record_refused w c.args.r c.records_of-n.result c.records_of-n.ensures c.put_records.new.pool c.put_records.ensures.is c.insert_at-outcome.result c.insert_at-outcome.new.pool
-    c.insert_at-outcome.ensures c.in-Refused.is c.requires.fit c.put_records-in-Refused.new.pool c.put_records-in-Refused.ensures.fit c.put_records-in-Refused.ensures.is
+    record_refused w c.args.r c.records_of-n.result c.records_of-n.ensures c.put_records.new.pool c.put_records.ensures.is
+    c.insert_at-outcome.result c.insert_at-outcome.new.pool c.insert_at-outcome.ensures c.in-Refused.is c.requires.fit
+    c.put_records-in-Refused.new.pool c.put_records-in-Refused.ensures.fit c.put_records-in-Refused.ensures.is

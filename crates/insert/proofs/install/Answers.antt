@@ -28,7 +28,8 @@ add_entry-requires c =
 
 pub returns-then-count_of-lt-MOST : goal.returns-then-count_of-lt-MOST
 returns-then-count_of-lt-MOST c =
-    room_grows c.requires.fitted c.requires.here (omega (arith, c.if-count_of-lt-MOST.true, c.count_of.ensures.is)) c.add_entry.new.pool c.add_entry.ensures.fit c.add_entry.ensures.is
+    room_grows c.requires.fitted c.requires.here (omega (arith, c.if-count_of-lt-MOST.true, c.count_of.ensures.is)) c.add_entry.new.pool
+    c.add_entry.ensures.fit c.add_entry.ensures.is
 
 pub split_node-partner-requires : goal.split_node-partner-requires
 split_node-partner-requires c =
@@ -50,9 +51,11 @@ less_slot-left-requires c =
 
 pub returns-in-At : goal.returns-in-At
 returns-in-At c =
-    split_grows c.requires.fitted c.requires.here (omega (arith, c.if-count_of-lt-MOST.false, c.count_of.ensures.is)) _ (sym c.lowest-lowest.ensures ∙ c.in-At.is) c.split_node-partner.new.pool
-    c.split_node-partner.ensures.fit c.split_node-partner.result c.split_node-partner.ensures.is c.less_slot-left.result c.less_slot-left.ensures
+    split_grows c.requires.fitted c.requires.here (omega (arith, c.if-count_of-lt-MOST.false, c.count_of.ensures.is)) _
+    (sym c.lowest-lowest.ensures ∙ c.in-At.is) c.split_node-partner.new.pool c.split_node-partner.ensures.fit c.split_node-partner.result
+    c.split_node-partner.ensures.is c.less_slot-left.result c.less_slot-left.ensures
 
 pub returns-in-Nowhere : goal.returns-in-Nowhere
 returns-in-Nowhere c =
-    none_grows c.requires.fitted c.requires.here (omega (arith, c.if-count_of-lt-MOST.false, c.count_of.ensures.is)) (sym c.lowest-lowest.ensures ∙ c.in-Nowhere.is) _
+    none_grows c.requires.fitted c.requires.here (omega (arith, c.if-count_of-lt-MOST.false, c.count_of.ensures.is))
+    (sym c.lowest-lowest.ensures ∙ c.in-Nowhere.is) _

@@ -22,8 +22,11 @@ put_node-requires c =
     let w = c.args.pool.now in
     let few = most_slots_lem w c.requires.fitted.fit.right in
     let low = sym c.lowest-lowest.ensures ∙ c.in-At.is in
-    let a = old_stored c.requires.beside few c.root_of-root.result c.root_of-root.ensures c.height_of-height.result c.height_of-height.ensures in
-    let b = partner_stored c.requires.beside few c.root_of-root.result c.root_of-root.ensures c.height_of-height.result c.height_of-height.ensures in record {
+    let a =
+    old_stored c.requires.beside few c.root_of-root.result c.root_of-root.ensures c.height_of-height.result c.height_of-height.ensures in
+    let b = partner_stored c.requires.beside few c.root_of-root.result c.root_of-root.ensures c.height_of-height.result
+    c.height_of-height.ensures in
+    record {
       fit_2 = c.requires.fitted.fit;
       in_pool = slot_in w c.in-At.t c.requires.fitted.fit.right (lowest_slot (read w) c.in-At.t low);
       level_le_most_slots = omega (arith, c.requires.beside.few, c.height_of-height.ensures);
@@ -37,10 +40,14 @@ put_root-requires c =
     let w = c.args.pool.now in
     let few = most_slots_lem w c.requires.fitted.fit.right in
     let low = sym c.lowest-lowest.ensures ∙ c.in-At.is in
-    let a = beside_slot c.requires.beside few c.root_of-root.result c.root_of-root.ensures c.height_of-height.result c.height_of-height.ensures in
+    let a =
+    beside_slot c.requires.beside few c.root_of-root.result c.root_of-root.ensures c.height_of-height.result c.height_of-height.ensures in
     record {
       fit_2 = c.put_node.ensures.fit;
-      s_le_most_slots = (omega (arith, (lowest_slot (read w) c.in-At.t low).high, few, a.high), omega (arith, c.requires.beside.few, c.height_of-height.ensures));
+      s_le_most_slots = (
+        omega (arith, (lowest_slot (read w) c.in-At.t low).high, few, a.high),
+        omega (arith, c.requires.beside.few, c.height_of-height.ensures),
+      );
     }
 
 pub less_slot-left-requires : goal.less_slot-left-requires
@@ -56,9 +63,9 @@ less_slot-left-requires c =
 pub returns-in-At : goal.returns-in-At
 returns-in-At c =
     let low = sym c.lowest-lowest.ensures ∙ c.in-At.is in
-    new_made c.requires.fitted c.args.partner c.in-At.t low c.root_of-root.result c.root_of-root.ensures c.height_of-height.result c.height_of-height.ensures c.cover_of-rect.result
-    c.cover_of-rect.ensures (read c.put_node.new.pool) c.put_node.ensures.is c.put_root.new.pool c.put_root.ensures.fit c.put_root.ensures.is
-    c.less_slot-left.result c.less_slot-left.ensures
+    new_made c.requires.fitted c.args.partner c.in-At.t low c.root_of-root.result c.root_of-root.ensures c.height_of-height.result
+    c.height_of-height.ensures c.cover_of-rect.result c.cover_of-rect.ensures (read c.put_node.new.pool) c.put_node.ensures.is
+    c.put_root.new.pool c.put_root.ensures.fit c.put_root.ensures.is c.less_slot-left.result c.less_slot-left.ensures
 
 pub returns-in-Nowhere : goal.returns-in-Nowhere
 returns-in-Nowhere c =

@@ -40,8 +40,9 @@ pub put_group-requires : goal.put_group-requires
 put_group-requires c =
     let w = c.args.pool.now in
     let few = most_slots_lem w c.requires.fit_2.right in
-    let kinds =
-    nine_kind c.requires.here few c.requires.in_bounds c.nine_entries-nine.result c.nine_entries-nine.ensures _ (edition_is w) (fine_at (slot_in w c.args.s c.requires.fit_2.right (here_node c.requires.here).slot)) c.level_of-level.result c.level_of-level.ensures in
+    let kinds = nine_kind c.requires.here few c.requires.in_bounds c.nine_entries-nine.result c.nine_entries-nine.ensures _
+    (edition_is w) (fine_at (slot_in w c.args.s c.requires.fit_2.right (here_node c.requires.here).slot)) c.level_of-level.result
+    c.level_of-level.ensures in
     record {
       fit_2 = c.requires.fit_2;
       in_pool = slot_in w c.args.s c.requires.fit_2.right (here_node c.requires.here).slot;
@@ -57,8 +58,9 @@ pub put_group-requires-2 : goal.put_group-requires-2
 put_group-requires-2 c =
     let w = c.args.pool.now in
     let few = most_slots_lem w c.requires.fit_2.right in
-    let kinds =
-    nine_kind c.requires.here few c.requires.in_bounds c.nine_entries-nine.result c.nine_entries-nine.ensures _ (edition_is w) (fine_at (slot_in w c.args.s c.requires.fit_2.right (here_node c.requires.here).slot)) c.level_of-level.result c.level_of-level.ensures in
+    let kinds = nine_kind c.requires.here few c.requires.in_bounds c.nine_entries-nine.result c.nine_entries-nine.ensures _
+    (edition_is w) (fine_at (slot_in w c.args.s c.requires.fit_2.right (here_node c.requires.here).slot)) c.level_of-level.result
+    c.level_of-level.ensures in
     let same-edition = edition_put w c.put_group.new.pool c.args.s _ c.put_group.ensures.is in
     record {
       fit_2 = c.put_group.ensures.fit;
@@ -74,14 +76,17 @@ put_group-requires-2 c =
 
 pub returns : goal.returns
 returns c =
-    let a : Parts c.requires.here c.requires.in_bounds c.requires.pool_value c.nine_entries-nine.result c.rects_of.result c.split_nine-g.result = record {
+    let a : Parts c.requires.here c.requires.in_bounds c.requires.pool_value c.nine_entries-nine.result c.rects_of.result
+    c.split_nine-g.result =
+    record {
       entries = c.nine_entries-nine.ensures;
       rects_are = c.rects_of.ensures;
       one = c.split_nine-g.ensures.one;
       two = c.split_nine-g.ensures.two;
       whole = c.split_nine-g.ensures.whole;
-    } in record {
-      is = split_made c.requires.here c.requires.in_bounds c.requires.pool_value a c.level_of-level.result c.level_of-level.ensures (read c.put_group.new.pool) (read c.put_group-2.new.pool)
-          c.put_group.ensures.is c.put_group-2.ensures.is;
+    } in
+    record {
+      is = split_made c.requires.here c.requires.in_bounds c.requires.pool_value a c.level_of-level.result c.level_of-level.ensures
+          (read c.put_group.new.pool) (read c.put_group-2.new.pool) c.put_group.ensures.is c.put_group-2.ensures.is;
       fit = c.put_group-2.ensures.fit;
     }

@@ -8,8 +8,8 @@ use Rattle.insert.proofs.too_few.Goals as goal
 pub returns-then-height_of-count : goal.returns-then-height_of-count
 returns-then-height_of-count c =
     let p = read c.args.pool.now in
-    enough_free p c.args.level c.args.e c.requires.upright c.requires.level_bound.0 c.requires.level_bound.1 c.requires.fits c.args.free.count c.height_of.result c.height_of.ensures
-    c.if-height_of-count.true
+    enough_free p c.args.level c.args.e c.requires.upright c.requires.level_bound.0 c.requires.level_bound.1 c.requires.fits
+    c.args.free.count c.height_of.result c.height_of.ensures c.if-height_of-count.true
 
 pub needed-requires : goal.needed-requires
 needed-requires c =

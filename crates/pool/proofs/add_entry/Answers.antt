@@ -49,6 +49,11 @@ returns c =
     let slot = c.args.s in
     let ed = edition_of w in
     let z = to_z_pos w32 (c.count_of-n.result + 1) (omega (arith, c.count_of-n.ensures.most)) in
-    let many = ap (λ (k : ℕ). set (sets w (entry_place ed slot k) (entry_words ed e)) (count_place ed slot) (pos (k + 1))) c.count_of-n.ensures.is in
-    let both = more_stored c.requires.fit_2 c.requires.in_pool e c.requires.s_len_bound c.requires.kind_of _ ((λ j. set (c.put_entry.ensures j) (c.count_place-at.ensures j) (z j)) ∙ (λ j. set (sets w (c.spot.ensures j) (entry_words (c.edition_of-edition.ensures j) e)) (count_place ed slot) (pos (c.count_of-n.result + 1))) ∙ many) in
+    let many =
+    ap (λ (k : ℕ). set (sets w (entry_place ed slot k) (entry_words ed e)) (count_place ed slot) (pos (k + 1))) c.count_of-n.ensures.is in
+    let both = more_stored c.requires.fit_2 c.requires.in_pool e c.requires.s_len_bound c.requires.kind_of _
+    ((λ j. set (c.put_entry.ensures j) (c.count_place-at.ensures j) (z j))
+    ∙ (λ j. set (sets w (c.spot.ensures j) (entry_words (c.edition_of-edition.ensures j) e)) (count_place ed slot)
+    (pos (c.count_of-n.result + 1)))
+    ∙ many) in
     record { is = both.0; fit = both.1 }

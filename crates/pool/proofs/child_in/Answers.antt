@@ -17,7 +17,8 @@ spot_in-requires c = record {
 
 pub overflow_add-spot_in : goal.overflow_add-spot_in
 overflow_add-spot_in c =
-    let at = spot_few c.args.edition c.args.s c.args.i (few c.requires.in_pool) (omega (arith, slot_few c.requires.in_pool, c.requires.i_in_bounds)) in
+    let at = spot_few c.args.edition c.args.s c.args.i (few c.requires.in_pool)
+    (omega (arith, slot_few c.requires.in_pool, c.requires.i_in_bounds)) in
     record { fits = omega (arith, c.spot_in.ensures, at) }
 
 pub number_at-requires : goal.number_at-requires

@@ -44,4 +44,5 @@ loop-i-preserved c =
 pub returns : goal.returns
 returns c =
     let s = c.args.source.now in
-    ext_get_or (pos 0) c.loop-i.target s (c.loop-i.invariant.size ∙ sym c.requires) (λ k b. c.loop-i.invariant.is k (omega (arith, c.loop-i-test.false)))
+    ext_get_or (pos 0) c.loop-i.target s (c.loop-i.invariant.size ∙ sym c.requires)
+    (λ k b. c.loop-i.invariant.is k (omega (arith, c.loop-i-test.false)))

@@ -21,7 +21,8 @@ spot_in-requires c = record {
 
 pub overflow_add-spot_in : goal.overflow_add-spot_in
 overflow_add-spot_in c =
-    let at = spot_few c.args.edition c.args.s c.args.i (few c.requires.in_pool) (omega (arith, slot_few c.requires.in_pool, c.requires.i_in_bounds)) in
+    let at = spot_few c.args.edition c.args.s c.args.i (few c.requires.in_pool)
+    (omega (arith, slot_few c.requires.in_pool, c.requires.i_in_bounds)) in
     record { fits = omega (arith, c.spot_in.ensures, at) }
 
 pub word-requires : goal.word-requires
@@ -37,4 +38,5 @@ returns c =
     let leaf = eq-eqb (node_at p c.args.s).level 1 c.requires.s_value in
     let e = slot_pointer c.requires.in_pool i c.requires.i_in_bounds ∙ pointer_number _ _ _ leaf in
     let place = c.spot_in.ensures ∙ ap (λ e. entry_place e c.args.s i) c.requires.edition_value in
-    ap (λ (z : ℤ). number z) (word_read (sfits_of c.word.type_inv) c.word.ensures ∙ ap (λ k. word_at w (k + rect_size)) place) ∙ number_of_word (entry_at p c.args.s i) _ _ e
+    ap (λ (z : ℤ). number z) (word_read (sfits_of c.word.type_inv) c.word.ensures ∙ ap (λ k. word_at w (k + rect_size)) place)
+    ∙ number_of_word (entry_at p c.args.s i) _ _ e

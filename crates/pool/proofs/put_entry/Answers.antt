@@ -56,6 +56,7 @@ returns-in-One c =
 
 pub returns-in-Two : goal.returns-in-Two
 returns-in-Two c =
-    ap₂ (λ (w : List ℤ) (z : ℤ). set w (c.args.at + 5) z) c.put_pair.ensures (word_read (sfits_of c.owner_word-owner.type_inv) c.owner_word-owner.ensures)
+    ap₂ (λ (w : List ℤ) (z : ℤ). set w (c.args.at + 5) z) c.put_pair.ensures
+    (word_read (sfits_of c.owner_word-owner.type_inv) c.owner_word-owner.ensures)
     ∙ sixth c.args.pool.now c.args.at c.args.e
     ∙ ap (λ (e : Edition). sets c.args.pool.now c.args.at (entry_words e c.args.e)) (sym c.in-Two.is)

@@ -16,5 +16,6 @@ unfolding entry_words owner_words
 returns c =
     let at = c.args.at in
     let e = c.args.e in
-    ap₂ (λ (x : List ℤ) (z : ℤ). set x (at + rect_size) z) c.put_rect.ensures (word_read (sfits_of c.pointer_word-k.type_inv) c.pointer_word-k.ensures)
+    ap₂ (λ (x : List ℤ) (z : ℤ). set x (at + rect_size) z) c.put_rect.ensures
+    (word_read (sfits_of c.pointer_word-k.type_inv) c.pointer_word-k.ensures)
     ∙ sets_more (rect_words e.rect) (pointer_word e.pointer ∷ []) c.args.pool.now at

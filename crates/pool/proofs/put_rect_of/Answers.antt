@@ -17,5 +17,6 @@ put_rect-requires c =
 
 pub returns : goal.returns
 returns c =
-    let both = rect_stored c.requires.fit_2 c.requires.in_pool c.args.i c.args.r c.requires.i_in_bounds c.put_rect.new.pool (rw (← c.spot-at.ensures) c.put_rect.ensures) in
+    let both = rect_stored c.requires.fit_2 c.requires.in_pool c.args.i c.args.r c.requires.i_in_bounds c.put_rect.new.pool
+    (rw (← c.spot-at.ensures) c.put_rect.ensures) in
     record { is = both.0; fit = both.1 }

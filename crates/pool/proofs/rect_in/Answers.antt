@@ -15,7 +15,11 @@ spot_in-requires c = record {
 
 pub rect_at-requires : goal.rect_at-requires
 rect_at-requires c =
-    omega (arith, rw c.requires.edition_value at c.spot_in.ensures, spot_inside c.requires.in_pool c.args.i (omega (arith, slot_few c.requires.in_pool, c.requires.i_in_bounds)))
+    omega (
+      arith,
+      rw c.requires.edition_value at c.spot_in.ensures,
+      spot_inside c.requires.in_pool c.args.i (omega (arith, slot_few c.requires.in_pool, c.requires.i_in_bounds)),
+    )
 
 pub returns : goal.returns
 returns c =

@@ -57,8 +57,8 @@ move_down-requires c =
     record {
       from_le_to = in_order c.edition_of-edition.result c.args.s _ _ _ _ c.spot_in.ensures c.spot_in-last.ensures
           (omega (arith, c.count_in-n.ensures.is, c.requires.i_in_bounds));
-      by_in_bounds = inside c.requires.in_pool c.edition_of-edition.result c.edition_of-edition.ensures _ _ _ c.spot_in-last.ensures c.entry_size-size.ensures
-          (omega (arith, c.count_in-n.ensures.is, c.count_in-n.ensures.most, c.requires.i_in_bounds));
+      by_in_bounds = inside c.requires.in_pool c.edition_of-edition.result c.edition_of-edition.ensures _ _ _ c.spot_in-last.ensures
+          c.entry_size-size.ensures (omega (arith, c.count_in-n.ensures.is, c.count_in-n.ensures.most, c.requires.i_in_bounds));
     }
 
 pub overflow_add-last : goal.overflow_add-last
@@ -101,9 +101,19 @@ returns c =
     let slot = c.args.s in
     let i = c.args.i in
     let z = to_z_pos w32 (c.count_in-n.result - 1) (omega (arith, c.count_in-n.ensures.most)) in
-    let order = in_order c.edition_of-edition.result slot i (c.count_in-n.result - 1) c.spot_in.result c.spot_in-last.result c.spot_in.ensures
-    c.spot_in-last.ensures (omega (arith, c.count_in-n.ensures.is, c.requires.i_in_bounds)) in
-    let ends = inside c.requires.in_pool c.edition_of-edition.result c.edition_of-edition.ensures (c.count_in-n.result - 1) c.spot_in-last.result c.entry_size-size.result
-    c.spot_in-last.ensures c.entry_size-size.ensures (omega (arith, c.count_in-n.ensures.is, c.count_in-n.ensures.most, c.requires.i_in_bounds)) in
-    let both = less_stored c.requires.fit_2 c.requires.in_pool i c.requires.i_in_bounds _ ((λ j. set (c.zero_words.ensures j) (c.start_in.ensures j + 1) (z j)) ∙ ap (λ (x : List ℤ). set x (count_place c.edition_of-edition.result slot) (pos (c.count_in-n.result - 1))) (ap (λ (x : List ℤ). sets x c.spot_in-last.result (zeros (c.spot_in-last.result + c.entry_size-size.result - c.spot_in-last.result))) c.move_down.ensures ∙ shifted_twice w c.spot_in.result c.spot_in-last.result c.entry_size-size.result order ends ∙ (λ j. shifted w (c.spot_in.ensures j) (c.entry_size-size.ensures j) (c.spot_in-last.ensures j - c.spot_in.ensures j))) ∙ ap₂ (λ (d : Edition) (m : ℕ). set (shifted w (entry_place d slot i) (entry_size d) (entry_place d slot (m - 1) - entry_place d slot i)) (count_place d slot) (pos (m - 1))) c.edition_of-edition.ensures c.count_in-n.ensures.is) in
+    let order = in_order c.edition_of-edition.result slot i (c.count_in-n.result - 1) c.spot_in.result c.spot_in-last.result
+    c.spot_in.ensures c.spot_in-last.ensures (omega (arith, c.count_in-n.ensures.is, c.requires.i_in_bounds)) in
+    let ends = inside c.requires.in_pool c.edition_of-edition.result c.edition_of-edition.ensures (c.count_in-n.result - 1)
+    c.spot_in-last.result c.entry_size-size.result c.spot_in-last.ensures c.entry_size-size.ensures
+    (omega (arith, c.count_in-n.ensures.is, c.count_in-n.ensures.most, c.requires.i_in_bounds)) in
+    let both = less_stored c.requires.fit_2 c.requires.in_pool i c.requires.i_in_bounds _
+    ((λ j. set (c.zero_words.ensures j) (c.start_in.ensures j + 1) (z j))
+    ∙ ap (λ (x : List ℤ). set x (count_place c.edition_of-edition.result slot) (pos (c.count_in-n.result - 1)))
+    (ap (λ (x : List ℤ). sets x c.spot_in-last.result (zeros (c.spot_in-last.result + c.entry_size-size.result - c.spot_in-last.result)))
+    c.move_down.ensures
+    ∙ shifted_twice w c.spot_in.result c.spot_in-last.result c.entry_size-size.result order ends
+    ∙ (λ j. shifted w (c.spot_in.ensures j) (c.entry_size-size.ensures j) (c.spot_in-last.ensures j - c.spot_in.ensures j)))
+    ∙ ap₂ (λ (d : Edition) (m : ℕ). set
+    (shifted w (entry_place d slot i) (entry_size d) (entry_place d slot (m - 1) - entry_place d slot i)) (count_place d slot) (pos (m - 1)))
+    c.edition_of-edition.ensures c.count_in-n.ensures.is) in
     record { is = both.0; fit = both.1 }

@@ -24,4 +24,5 @@ overflow_add-result c =
 
 pub returns : goal.returns
 returns c =
-    rw (c.slot_size.ensures, c.slots_fitting-slots.ensures) (sym (by_length c.args.edition c.args.n (omega (arith, c.slots_fitting-slots.ensures)) (omega (arith, c.slots_fitting-slots.ensures))))
+    rw (c.slot_size.ensures, c.slots_fitting-slots.ensures)
+    (sym (by_length c.args.edition c.args.n (omega (arith, c.slots_fitting-slots.ensures)) (omega (arith, c.slots_fitting-slots.ensures))))

@@ -96,8 +96,10 @@ loop-i-preserved c =
       nine = c.loop-i.invariant.nine;
       size = c.put_entry.auto.pool ∙ c.loop-i.invariant.size;
       is = c.put_entry.ensures
-          ∙ ap (λ (k : ℕ). sets c.loop-i.pool (at + k * c.loop-i.i) (entry_words c.edition_of-edition.result c.used-e.result)) c.entry_size-size.ensures
-          ∙ ap₂ (λ (x : List ℤ) (y : Entry). sets x (at + entry_size c.edition_of-edition.result * c.loop-i.i) (entry_words c.edition_of-edition.result y)) c.loop-i.invariant.is c.used-e.ensures
+          ∙ ap (λ (k : ℕ). sets c.loop-i.pool (at + k * c.loop-i.i) (entry_words c.edition_of-edition.result c.used-e.result))
+          c.entry_size-size.ensures
+          ∙ ap₂ (λ (x : List ℤ) (y : Entry). sets x (at + entry_size c.edition_of-edition.result * c.loop-i.i)
+          (entry_words c.edition_of-edition.result y)) c.loop-i.invariant.is c.used-e.ensures
           ∙ front_more c.edition_of-edition.result c.args.es c.args.n _ at c.loop-i.i;
     }
 

@@ -20,6 +20,7 @@ found_list-found-requires-clause-pointing c =
 pub returns-clause-reply : goal.returns-clause-reply
 returns-clause-reply c =
     let x = asks_something (owner_in (edition_of c.args.pool.now) (owner (pos 1))) c.args.q c.requires.asks in
-    replies_by c.args.pool.now c.args.q x.0 c.args.run.before c.args.run.filled c.args.out.now c.reply_lines-filled.new.out c.one_request-served.new.pool
-    c.one_request-served.new.work c.one_request-served.result c.reply_lines-filled.result c.found_list-found.result c.requires.ready.right c.requires.ready.sound
-    c.requires.asks x.1 (c.one_request-served.ensures x.0 x.1) c.found_list-found.ensures c.reply_lines-filled.ensures.wrote c.reply_lines-filled.ensures.short
+    replies_by c.args.pool.now c.args.q x.0 c.args.run.before c.args.run.filled c.args.out.now c.reply_lines-filled.new.out
+    c.one_request-served.new.pool c.one_request-served.new.work c.one_request-served.result c.reply_lines-filled.result
+    c.found_list-found.result c.requires.ready.right c.requires.ready.sound c.requires.asks x.1 (c.one_request-served.ensures x.0 x.1)
+    c.found_list-found.ensures c.reply_lines-filled.ensures.wrote c.reply_lines-filled.ensures.short

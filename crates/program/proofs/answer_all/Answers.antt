@@ -28,9 +28,10 @@ loop-rounds-init g c =
 pub loop-rounds-preserved : goal.loop-rounds-preserved
 loop-rounds-preserved g c =
     let t = c.loop-rounds.invariant in
-    let moves = Moves (g.R.Read.remaining c.loop-rounds.reader) (g.R.Read.remaining c.round.new.reader) (g.W.Write.contents c.loop-rounds.writer) (g.W.Write.contents c.round.new.writer) in
-    let o = step_goes {M = moves} (g.R.Read.remaining c.round.new.reader) c.loop-rounds.pool c.loop-rounds.input c.loop-rounds.out c.loop-rounds.run c.round.new.pool c.round.new.input c.round.new.out c.round.result
-    c.round.ensures c.in-Goes.next c.in-Goes.is in
+    let moves = Moves (g.R.Read.remaining c.loop-rounds.reader) (g.R.Read.remaining c.round.new.reader)
+    (g.W.Write.contents c.loop-rounds.writer) (g.W.Write.contents c.round.new.writer) in
+    let o = step_goes {M = moves} (g.R.Read.remaining c.round.new.reader) c.loop-rounds.pool c.loop-rounds.input c.loop-rounds.out
+    c.loop-rounds.run c.round.new.pool c.round.new.input c.round.new.out c.round.result c.round.ensures c.in-Goes.next c.in-Goes.is in
     record {
       words = c.round.auto.pool ∙ t.words;
       space = c.round.auto.work ∙ t.space;
@@ -49,9 +50,10 @@ loop-rounds-preserved g c =
 pub returns-in-Ends : goal.returns-in-Ends
 returns-in-Ends g c =
     let t = c.loop-rounds.invariant in
-    let moves = Moves (g.R.Read.remaining c.loop-rounds.reader) (g.R.Read.remaining c.round.new.reader) (g.W.Write.contents c.loop-rounds.writer) (g.W.Write.contents c.round.new.writer) in
-    let o = step_ends {M = moves} (g.R.Read.remaining c.round.new.reader) c.loop-rounds.pool c.loop-rounds.input c.loop-rounds.out c.loop-rounds.run c.round.new.pool c.round.new.input c.round.new.out c.round.result
-    c.round.ensures c.in-Ends.end c.in-Ends.is in
+    let moves = Moves (g.R.Read.remaining c.loop-rounds.reader) (g.R.Read.remaining c.round.new.reader)
+    (g.W.Write.contents c.loop-rounds.writer) (g.W.Write.contents c.round.new.writer) in
+    let o = step_ends {M = moves} (g.R.Read.remaining c.round.new.reader) c.loop-rounds.pool c.loop-rounds.input c.loop-rounds.out
+    c.loop-rounds.run c.round.new.pool c.round.new.input c.round.new.out c.round.result c.round.ensures c.in-Ends.end c.in-Ends.is in
     record {
       arrived = t.arrived ++ o.piece;
       printed = t.printed ++ o.sent;

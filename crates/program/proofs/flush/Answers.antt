@@ -29,18 +29,17 @@ returns-in-Failed g c =
       at = g.W.Write.contents c.loop-tries.writer;
       taken = c.loop-tries.invariant.taken;
       stuck = refused c.in-Failed.error
-          (subst
-          (λ (x : Sent). Sends (g.W.Write.contents c.loop-tries.writer) (g.W.Write.contents c.send.new.writer) c.args.out.now c.loop-tries.sent c.args.run.filled x)
-          c.in-Failed.is c.send.ensures);
+          (subst (λ (x : Sent). Sends (g.W.Write.contents c.loop-tries.writer) (g.W.Write.contents c.send.new.writer) c.args.out.now
+          c.loop-tries.sent c.args.run.filled x) c.in-Failed.is c.send.ensures);
     }
 
 pub loop-tries-preserved : goal.loop-tries-preserved
 loop-tries-preserved g c =
     record {
-      taken = more c.loop-tries.sent c.in-UpTo.next (g.W.Write.contents c.loop-tries.writer) (g.W.Write.contents c.send.new.writer) c.loop-tries.invariant.taken
-          (subst
-          (λ (x : Sent). Sends (g.W.Write.contents c.loop-tries.writer) (g.W.Write.contents c.send.new.writer) c.args.out.now c.loop-tries.sent c.args.run.filled x)
-          c.in-UpTo.is c.send.ensures);
+      taken = more c.loop-tries.sent c.in-UpTo.next (g.W.Write.contents c.loop-tries.writer) (g.W.Write.contents c.send.new.writer)
+          c.loop-tries.invariant.taken
+          (subst (λ (x : Sent). Sends (g.W.Write.contents c.loop-tries.writer) (g.W.Write.contents c.send.new.writer) c.args.out.now
+          c.loop-tries.sent c.args.run.filled x) c.in-UpTo.is c.send.ensures);
       tried = c.loop-tries.invariant.tried + 1;
       all = omega (arith, c.loop-tries.invariant.all, c.loop-tries-test.true);
     }

@@ -9,4 +9,5 @@ returns-then-at-end g c = none c.if-at-end.true refl
 
 pub returns : goal.returns
 returns g c =
-    cut _ c.close.result c.if-at-end.false c.bad_line-filled.ensures.wrote (omega (arith, c.requires.room, c.bad_line-filled.ensures.short)) c.close.ensures
+    cut _ c.close.result c.if-at-end.false c.bad_line-filled.ensures.wrote (omega (arith, c.requires.room, c.bad_line-filled.ensures.short))
+    c.close.ensures

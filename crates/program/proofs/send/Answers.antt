@@ -11,8 +11,8 @@ overflow_add-result g c =
     record {
       fits = omega (
         arith,
-        sends_few c.args.sent c.args.filled c.args.out.now c.write-answer.result (Bytes c.in-Bytes.n) c.requires.0 c.requires.1 c.write-answer.ensures.bound
-            (sym c.in-Bytes.is ∙ c.what_moved.ensures),
+        sends_few c.args.sent c.args.filled c.args.out.now c.write-answer.result (Bytes c.in-Bytes.n) c.requires.0 c.requires.1
+            c.write-answer.ensures.bound (sym c.in-Bytes.is ∙ c.what_moved.ensures),
         c.ranges.filled.fits,
       );
     }
@@ -20,8 +20,8 @@ overflow_add-result g c =
 pub returns-in-Bytes : goal.returns-in-Bytes
 unfolding sent_by
 returns-in-Bytes g c =
-    sends_by c.args.sent c.args.filled c.args.out.now c.write-answer.result (Bytes c.in-Bytes.n) c.requires.0 c.requires.1 c.write-answer.ensures.bound
-    (sym c.in-Bytes.is ∙ c.what_moved.ensures) c.write-answer.ensures.bytes
+    sends_by c.args.sent c.args.filled c.args.out.now c.write-answer.result (Bytes c.in-Bytes.n) c.requires.0 c.requires.1
+    c.write-answer.ensures.bound (sym c.in-Bytes.is ∙ c.what_moved.ensures) c.write-answer.ensures.bytes
 
 pub returns-in-Nothing : goal.returns-in-Nothing
 unfolding sent_by
@@ -38,5 +38,5 @@ returns-in-Again g c =
 pub returns-in-Failed : goal.returns-in-Failed
 unfolding sent_by
 returns-in-Failed g c =
-    sends_by c.args.sent c.args.filled c.args.out.now c.write-answer.result (Failed c.in-Failed.error) c.requires.0 c.requires.1 c.write-answer.ensures.bound
-    (sym c.in-Failed.is ∙ c.what_moved.ensures) c.write-answer.ensures.bytes
+    sends_by c.args.sent c.args.filled c.args.out.now c.write-answer.result (Failed c.in-Failed.error) c.requires.0 c.requires.1
+    c.write-answer.ensures.bound (sym c.in-Failed.is ∙ c.what_moved.ensures) c.write-answer.ensures.bytes

@@ -25,7 +25,8 @@ pub returns-then-not-lengths : goal.returns-then-not-lengths
 returns-then-not-lengths c =
     sym (bad_length c.args.pool.now c.args.owner c.args.workspace c.args.requests c.args.answers c.args.asked
     (sym c.lists_fit-lists.ensures ∙ c.if-not-lists.false-raw)
-    (sym (rw (to_z-of_z c.ranges.owner) at c.good_owner-known.ensures) ∙ not_false _ c.if-not-known.false-raw) (sym c.lengths_fit-lengths.ensures ∙ c.if-not-lengths.true-raw))
+    (sym (rw (to_z-of_z c.ranges.owner) at c.good_owner-known.ensures) ∙ not_false _ c.if-not-known.false-raw)
+    (sym c.lengths_fit-lengths.ensures ∙ c.if-not-lengths.true-raw))
 
 pub sound-requires : goal.sound-requires
 sound-requires c =
@@ -37,21 +38,23 @@ pub returns-then-not-sound : goal.returns-then-not-sound
 returns-then-not-sound c =
     sym (not_sound c.args.pool.now c.args.owner c.args.workspace c.args.requests c.args.answers c.args.asked
     (sym c.lists_fit-lists.ensures ∙ c.if-not-lists.false-raw)
-    (sym (rw (to_z-of_z c.ranges.owner) at c.good_owner-known.ensures) ∙ not_false _ c.if-not-known.false-raw) (sym c.lengths_fit-lengths.ensures ∙ c.if-not-lengths.false-raw)
-    (sym c.sound.ensures ∙ not_true _ c.if-not-sound.true-raw))
+    (sym (rw (to_z-of_z c.ranges.owner) at c.good_owner-known.ensures) ∙ not_false _ c.if-not-known.false-raw)
+    (sym c.lengths_fit-lengths.ensures ∙ c.if-not-lengths.false-raw) (sym c.sound.ensures ∙ not_true _ c.if-not-sound.true-raw))
 
 -- something that is asked is no request
 pub returns-then-not-asked : goal.returns-then-not-asked
 returns-then-not-asked c =
     sym (no_request c.args.pool.now c.args.owner c.args.workspace c.args.requests c.args.answers c.args.asked
     (sym c.lists_fit-lists.ensures ∙ c.if-not-lists.false-raw)
-    (sym (rw (to_z-of_z c.ranges.owner) at c.good_owner-known.ensures) ∙ not_false _ c.if-not-known.false-raw) (sym c.lengths_fit-lengths.ensures ∙ c.if-not-lengths.false-raw)
-    (sym c.sound.ensures ∙ not_false _ c.if-not-sound.false-raw) (not_true _ c.if-not-asked.true-raw))
+    (sym (rw (to_z-of_z c.ranges.owner) at c.good_owner-known.ensures) ∙ not_false _ c.if-not-known.false-raw)
+    (sym c.lengths_fit-lengths.ensures ∙ c.if-not-lengths.false-raw) (sym c.sound.ensures ∙ not_false _ c.if-not-sound.false-raw)
+    (not_true _ c.if-not-asked.true-raw))
 
 -- nothing refuses
 pub returns : goal.returns
 returns c =
     sym (none_refuses c.args.pool.now c.args.owner c.args.workspace c.args.requests c.args.answers c.args.asked
     (sym c.lists_fit-lists.ensures ∙ c.if-not-lists.false-raw)
-    (sym (rw (to_z-of_z c.ranges.owner) at c.good_owner-known.ensures) ∙ not_false _ c.if-not-known.false-raw) (sym c.lengths_fit-lengths.ensures ∙ c.if-not-lengths.false-raw)
-    (sym c.sound.ensures ∙ not_false _ c.if-not-sound.false-raw) (not_false _ c.if-not-asked.false-raw))
+    (sym (rw (to_z-of_z c.ranges.owner) at c.good_owner-known.ensures) ∙ not_false _ c.if-not-known.false-raw)
+    (sym c.lengths_fit-lengths.ensures ∙ c.if-not-lengths.false-raw) (sym c.sound.ensures ∙ not_false _ c.if-not-sound.false-raw)
+    (not_false _ c.if-not-asked.false-raw))

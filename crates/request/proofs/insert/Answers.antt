@@ -39,7 +39,11 @@ insert_record-o-requires c =
     record {
       fit = ready_fit c.args.pool.now c.args.free c.requires.ready;
       whole = ready_whole c.args.pool.now c.args.free c.requires.ready;
-      rect_value = ((sym c.valid.ensures ∙ not_false _ c.if-not-valid.false-raw), (sym c.good_number.ensures ∙ not_false _ c.if-not-good_number.false-raw), c.requires.owner_value);
+      rect_value = (
+        (sym c.valid.ensures ∙ not_false _ c.if-not-valid.false-raw),
+        (sym c.good_number.ensures ∙ not_false _ c.if-not-good_number.false-raw),
+        c.requires.owner_value,
+      );
       known = c.requires.ready.known;
     }
 

@@ -62,8 +62,10 @@ list_node-w-requires t c =
       (
         c.requires.pool_value,
         (
-          subst (λ (x : SlotNumber). Tree (read pool) (level - 1) x) (sym c.child_of-c.ensures) (child_tree (read pool) level s two c.requires.tree _ there),
-          child_room pool c.args.window (level - 1) s array c.gather-n.result few c.loop-k.k more c.child_of-c.result c.child_of-c.ensures c.loop-k.invariant,
+          subst (λ (x : SlotNumber). Tree (read pool) (level - 1) x) (sym c.child_of-c.ensures)
+              (child_tree (read pool) level s two c.requires.tree _ there),
+          child_room pool c.args.window (level - 1) s array c.gather-n.result few c.loop-k.k more c.child_of-c.result c.child_of-c.ensures
+              c.loop-k.invariant,
         ),
       ),
     )

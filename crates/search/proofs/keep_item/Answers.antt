@@ -26,9 +26,8 @@ returns c =
     let pool = c.args.pool.now in
     let mode = c.args.mode in
     let window = c.args.window in
-    let is =
-    c.wanted.ensures
+    let is = c.wanted.ensures
     ∙ wanted_item pool c.args.items.now c.args.k mode window c.move_item-spot.result c.rect_at.result c.move_item-spot.ensures.is
     c.rect_at.ensures in
-    kept_one pool (record_wanted mode window) c.requires.movable c.move_item-spot.new.items c.wanted.result c.one_if.result c.move_item-spot.ensures.put is
-    c.one_if.ensures.is
+    kept_one pool (record_wanted mode window) c.requires.movable c.move_item-spot.new.items c.wanted.result c.one_if.result
+    c.move_item-spot.ensures.put is c.one_if.ensures.is

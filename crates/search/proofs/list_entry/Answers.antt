@@ -16,11 +16,9 @@ spot_in-spot-requires c =
 
 pub put_item-requires : goal.put_item-requires
 put_item-requires c =
-    let at = spot_few c.args.edition c.args.s c.args.i (few c.requires.in_pool) (omega (arith, slot_few c.requires.in_pool, c.requires.i_in_bounds)) in
-    record {
-      k_in_bounds = omega (arith, c.requires.next_in_bounds);
-      spot_bound = omega (arith, c.spot_in-spot.ensures, at);
-    }
+    let at = spot_few c.args.edition c.args.s c.args.i (few c.requires.in_pool)
+    (omega (arith, slot_few c.requires.in_pool, c.requires.i_in_bounds)) in
+    record { k_in_bounds = omega (arith, c.requires.next_in_bounds); spot_bound = omega (arith, c.spot_in-spot.ensures, at) }
 
 pub overflow_add-result : goal.overflow_add-result
 overflow_add-result c =

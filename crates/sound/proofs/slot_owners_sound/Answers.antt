@@ -28,7 +28,8 @@ spot_in-requires c =
 
 pub owner_in-owner-requires : goal.owner_in-owner-requires
 owner_in-owner-requires c =
-    let inside = spot_inside c.requires.in_pool c.loop-i.i (omega (arith, c.loop-i-test.true, c.loop-i.invariant.size, slot_few c.requires.in_pool)) in
+    let inside =
+    spot_inside c.requires.in_pool c.loop-i.i (omega (arith, c.loop-i-test.true, c.loop-i.invariant.size, slot_few c.requires.in_pool)) in
     rw (c.spot_in.ensures, c.requires.edition_value) inside
 
 pub loop-i-preserved : goal.loop-i-preserved
@@ -37,7 +38,12 @@ loop-i-preserved c =
     let s = c.args.s in
     let here : c.loop-i.i < length (entries_at (read w) s) = omega (arith, c.loop-i-test.true, c.loop-i.invariant.size) in
     let in_list : c.loop-i.i < length (places_of w s) = omega (arith, length_up_from 0 (length (entries_at (read w) s))) in
-    let asked = rw (word_read (sfits_of c.owner_in-owner.type_inv) c.owner_in-owner.ensures, c.spot_in.ensures, c.requires.edition_value, c.loop-i.invariant.leaf_is) at c.owner_fits.ensures in
+    let asked = rw (
+      word_read (sfits_of c.owner_in-owner.type_inv) c.owner_in-owner.ensures,
+      c.spot_in.ensures,
+      c.requires.edition_value,
+      c.loop-i.invariant.leaf_is,
+    ) at c.owner_fits.ensures in
     record {
       leaf_is = c.loop-i.invariant.leaf_is;
       size = c.loop-i.invariant.size;

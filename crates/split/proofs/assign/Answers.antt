@@ -32,11 +32,11 @@ pub returns-then-next : goal.returns-then-next
 returns-then-next c =
     record {
       is = ap (ends (rects_in c.args.w.now) (c.args.n - 1))
-          (two_groups c.requires.assigned c.requires.n_nonzero c.next_joining-next.ensures c.join-grown.ensures.closed c.join-grown.ensures.grows c.if-next.true c.join-grown.ensures.group
-          c.join-grown.ensures.extent c.join-grown.ensures.count)
+          (two_groups c.requires.assigned c.requires.n_nonzero c.next_joining-next.ensures c.join-grown.ensures.closed
+          c.join-grown.ensures.grows c.if-next.true c.join-grown.ensures.group c.join-grown.ensures.extent c.join-grown.ensures.count)
           ∙ sym (two_ends c.requires.assigned c.requires.n_nonzero c.next_joining-next.ensures c.if-next.true);
-      ok = two_assigned c.requires.assigned c.requires.n_nonzero c.next_joining-next.ensures c.join-grown.ensures.closed c.join-grown.ensures.grows c.if-next.true c.join-grown.ensures.group
-          c.join-grown.ensures.extent c.join-grown.ensures.count;
+      ok = two_assigned c.requires.assigned c.requires.n_nonzero c.next_joining-next.ensures c.join-grown.ensures.closed
+          c.join-grown.ensures.grows c.if-next.true c.join-grown.ensures.group c.join-grown.ensures.extent c.join-grown.ensures.count;
     }
 
 pub join-grown-requires-2 : goal.join-grown-requires-2
@@ -54,9 +54,11 @@ pub returns : goal.returns
 returns c =
     record {
       is = ap (ends (rects_in c.args.w.now) (c.args.n - 1))
-          (one_groups c.requires.assigned c.requires.n_nonzero c.next_joining-next.ensures c.join-grown-2.ensures.closed c.join-grown-2.ensures.grows c.if-next.false c.join-grown-2.ensures.group
-          c.join-grown-2.ensures.extent c.join-grown-2.ensures.count)
+          (one_groups c.requires.assigned c.requires.n_nonzero c.next_joining-next.ensures c.join-grown-2.ensures.closed
+          c.join-grown-2.ensures.grows c.if-next.false c.join-grown-2.ensures.group c.join-grown-2.ensures.extent
+          c.join-grown-2.ensures.count)
           ∙ sym (one_ends c.requires.assigned c.requires.n_nonzero c.next_joining-next.ensures c.if-next.false);
-      ok = one_assigned c.requires.assigned c.requires.n_nonzero c.next_joining-next.ensures c.join-grown-2.ensures.closed c.join-grown-2.ensures.grows c.if-next.false c.join-grown-2.ensures.group
-          c.join-grown-2.ensures.extent c.join-grown-2.ensures.count;
+      ok = one_assigned c.requires.assigned c.requires.n_nonzero c.next_joining-next.ensures c.join-grown-2.ensures.closed
+          c.join-grown-2.ensures.grows c.if-next.false c.join-grown-2.ensures.group c.join-grown-2.ensures.extent
+          c.join-grown-2.ensures.count;
     }

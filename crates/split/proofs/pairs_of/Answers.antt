@@ -34,8 +34,10 @@ returns-then-key-b c =
 
 pub loop-j-preserved : goal.loop-j-preserved
 loop-j-preserved c =
-    rw (c.larger_d-b.ensures, by_d c.loop-j.invariant.keyed (pair_keyed c.loop-j.invariant c.loop-j-test.true c.d_of-key.result c.d_of-key.ensures) c.if-key-b.false)
-    (pass c.loop-j.invariant c.loop-j-test.true c.d_of-key.result c.d_of-key.ensures)
+    rw (
+      c.larger_d-b.ensures,
+      by_d c.loop-j.invariant.keyed (pair_keyed c.loop-j.invariant c.loop-j-test.true c.d_of-key.result c.d_of-key.ensures) c.if-key-b.false,
+    ) (pass c.loop-j.invariant c.loop-j-test.true c.d_of-key.result c.d_of-key.ensures)
 
 pub returns : goal.returns
 returns c =

@@ -58,8 +58,8 @@ overflow_add-i c =
 pub loop-i-preserved : goal.loop-i-preserved
 loop-i-preserved c =
     let rs = rects_in c.args.w.now in
-    let held =
-    preferring c.requires.left c.requires.grows c.requires.grows_2 c.loop-i.i c.loop-i-test.true c.preference-key-in-loop-i.result c.preference-key-in-loop-i.ensures in
+    let held = preferring c.requires.left c.requires.grows c.requires.grows_2 c.loop-i.i c.loop-i-test.true
+    c.preference-key-in-loop-i.result c.preference-key-in-loop-i.ensures in
     rw (
       c.larger_difference-best.ensures,
       by_difference rs c.args.a c.args.b c.requires.left c.loop-i-test.true c.loop-i.invariant refl held c.if-key-best.false,

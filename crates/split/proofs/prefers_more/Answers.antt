@@ -46,4 +46,5 @@ pub returns : goal.returns
 unfolding prefers_more
 returns c =
     ties (as_pos c.requires.preferring_2.key c.requires.preferring.key) _ (sym c.if-i-j.false)
-    (last_rule {m = c.half_preference-less.result} {n = c.half_preference-more.result} (as_pos c.half_preference-less.ensures c.half_preference-more.ensures))
+    (last_rule {m = c.half_preference-less.result} {n = c.half_preference-more.result}
+    (as_pos c.half_preference-less.ensures c.half_preference-more.ensures))

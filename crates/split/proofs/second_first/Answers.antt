@@ -26,7 +26,8 @@ half_enlargement-halfTwo-requires c =
 pub returns-then-halfTwo-halfOne : goal.returns-then-halfTwo-halfOne
 unfolding second_first
 returns-then-halfTwo-halfOne c =
-    ties (as_pos c.requires.grow_one_value.1 c.requires.grow_one_value.0) _ c.if-growTwo-growOne.false (decides (as_pos c.half_enlargement-halfTwo.ensures c.half_enlargement-halfOne.ensures) _ c.if-halfTwo-halfOne.true)
+    ties (as_pos c.requires.grow_one_value.1 c.requires.grow_one_value.0) _ c.if-growTwo-growOne.false
+    (decides (as_pos c.half_enlargement-halfTwo.ensures c.half_enlargement-halfOne.ensures) _ c.if-halfTwo-halfOne.true)
 
 pub returns-then-two-one : goal.returns-then-two-one
 unfolding second_first

@@ -31,7 +31,8 @@ wider-best-requires c =
       a_value = c.requires.a_value;
       left_len = c.requires.left.nine;
       preferring = c.loop-i.invariant.held;
-      preferring_2 = preferring c.requires.left c.requires.grows c.requires.grows_2 c.loop-i.i c.loop-i-test.true c.preference-key.result c.preference-key.ensures;
+      preferring_2 = preferring c.requires.left c.requires.grows c.requires.grows_2 c.loop-i.i c.loop-i-test.true c.preference-key.result
+          c.preference-key.ensures;
     }
 
 pub overflow_add-i : goal.overflow_add-i

@@ -19,5 +19,8 @@ returns c =
     let x = c.args.x in
     let h = is_double c.args.x c.well_formed.0.1 in
     let m = ceiling_small x c.floor.result h c.requires c.floor.ensures in
-    rw (back32 c.floor.result (omega arith), +ℤ_idl (neg_ℤ c.floor.result), back32 (neg_ℤ c.floor.result) (omega (arith, neg_mag c.floor.result 2000000000 m)))
-    (ceiling_by_floor x c.floor.result h c.requires c.floor.ensures)
+    rw (
+      back32 c.floor.result (omega arith),
+      +ℤ_idl (neg_ℤ c.floor.result),
+      back32 (neg_ℤ c.floor.result) (omega (arith, neg_mag c.floor.result 2000000000 m)),
+    ) (ceiling_by_floor x c.floor.result h c.requires c.floor.ensures)

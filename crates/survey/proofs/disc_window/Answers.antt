@@ -14,12 +14,18 @@ of_doubles x y radius a b r = (a, b, r)
 pub outward-r-requires : goal.outward-r-requires
 outward-r-requires c =
     let g = sym c.good_disc.ensures ∙ c.if-good_disc.true in
-    rw c.spread-b.ensures (spread_within c.args.x c.args.y c.args.radius (of_doubles _ _ _ (is_double c.args.x c.well_formed.0.1) (is_double c.args.y c.well_formed.1.0.1) (is_double c.args.radius c.well_formed.1.1.0.1)) g)
+    rw c.spread-b.ensures
+    (spread_within c.args.x c.args.y c.args.radius
+    (of_doubles _ _ _ (is_double c.args.x c.well_formed.0.1) (is_double c.args.y c.well_formed.1.0.1)
+    (is_double c.args.radius c.well_formed.1.1.0.1)) g)
 
 pub further-s-requires : goal.further-s-requires
 further-s-requires c =
     let g = sym c.good_disc.ensures ∙ c.if-good_disc.true in
-    rw (c.outward-r.ensures, c.spread-b.ensures) (spread_small c.args.x c.args.y c.args.radius (of_doubles _ _ _ (is_double c.args.x c.well_formed.0.1) (is_double c.args.y c.well_formed.1.0.1) (is_double c.args.radius c.well_formed.1.1.0.1)) g)
+    rw (c.outward-r.ensures, c.spread-b.ensures)
+    (spread_small c.args.x c.args.y c.args.radius
+    (of_doubles _ _ _ (is_double c.args.x c.well_formed.0.1) (is_double c.args.y c.well_formed.1.0.1)
+    (is_double c.args.radius c.well_formed.1.1.0.1)) g)
 
 pub returns-then-good_disc : goal.returns-then-good_disc
 returns-then-good_disc c =
