@@ -2,7 +2,7 @@
 use mathlib.Core.Path.{◌≡◌, refl}
 use mathlib.Core.Bool.{true, false}
 use mathlib.Core.List.{List, [], ◌∷◌}
-use mathlib.Core.Option.{Option, none, some}
+use Rattle.std.specs.Prelude.{Option, None, Some}
 use Prim.Native.Nat.{ℕ, suc}
 use Rattle.rules.specs.declared.Rect.{Rect}
 use Rattle.rules.specs.declared.SlotNumber.{SlotNumber}
@@ -17,11 +17,11 @@ use Rattle.rules.specs.Delete.{Path, place, find_entry, or_later, find_child, fi
 -- ---- FL2, in a leaf
 
 module _ (r : Record) (s : SlotNumber) (i : ℕ) where
-  pub entry_none : find_entry r s i [] ≡ none
+  pub entry_none : find_entry r s i [] ≡ None
   unfolding find_entry
   entry_none = refl
 
-  pub entry_yes : (e : Entry) (es : List Entry) → exact_pair r (record_of e) ≡ true → find_entry r s i (e ∷ es) ≡ some (place s i ∷ [])
+  pub entry_yes : (e : Entry) (es : List Entry) → exact_pair r (record_of e) ≡ true → find_entry r s i (e ∷ es) ≡ Some (place s i ∷ [])
   unfolding find_entry
   entry_yes e es h = rw (h, find_entry)
 
@@ -32,16 +32,16 @@ module _ (r : Record) (s : SlotNumber) (i : ℕ) where
 -- ---- FL1, in an inner node
 
 module _ (s : SlotNumber) (i : ℕ) where
-  pub or_some : (way : Path) (later : Option Path) → or_later s i (some way) later ≡ some (place s i ∷ way)
+  pub or_some : (way : Path) (later : Option Path) → or_later s i (Some way) later ≡ Some (place s i ∷ way)
   unfolding or_later
   or_some way later = refl
 
-  pub or_none : (later : Option Path) → or_later s i none later ≡ later
+  pub or_none : (later : Option Path) → or_later s i None later ≡ later
   unfolding or_later
   or_none later = refl
 
 module _ (find : SlotNumber → Option Path) (r : Rect) (s : SlotNumber) (i : ℕ) where
-  pub child_none : find_child find r s i [] ≡ none
+  pub child_none : find_child find r s i [] ≡ None
   unfolding find_child
   child_none = refl
 
@@ -57,7 +57,7 @@ module _ (find : SlotNumber → Option Path) (r : Rect) (s : SlotNumber) (i : �
 -- ---- FindLeaf
 
 module _ (p : Pool) (r : Record) where
-  pub leaf_none : (s : SlotNumber) → find_leaf p r 0 s ≡ none
+  pub leaf_none : (s : SlotNumber) → find_leaf p r 0 s ≡ None
   unfolding find_leaf
   leaf_none s = refl
 

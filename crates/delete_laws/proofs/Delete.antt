@@ -4,7 +4,7 @@ use mathlib.Core.Logic.{◌≢◌}
 use mathlib.Core.Bool.{Bool, true, false, not}
 use mathlib.Core.List.Memᴰ
 use mathlib.Core.List.{List, [], ◌∷◌}
-use mathlib.Core.Option.{Option, none, some}
+use Rattle.std.specs.Prelude.{Option, None, Some}
 use Prim.Native.Nat.{ℕ, zero, suc, ◌+◌, ◌-◌, ◌≤◌}
 use native.Mathlib.Omega.{arith}
 use lib.ListN.{length}
@@ -231,11 +231,11 @@ module _ (c : Choice) where
   -- ---- D1 to D4
 
   module _ (p : Pool) (r : Record) where
-    pub delete_missing : path_to p r ≡ none → delete_record c p r ≡ Done p
+    pub delete_missing : path_to p r ≡ None → delete_record c p r ≡ Done p
     unfolding delete_record
     delete_missing h = rw (h, delete_record)
 
-    pub delete_found : (way : Path) → path_to p r ≡ some way
+    pub delete_found : (way : Path) → path_to p r ≡ Some way
         → delete_record c p r ≡ put_back c (condense (put_records p (p.records - 1)) way)
     unfolding delete_record
     delete_found way h = rw (h, delete_record)
@@ -246,20 +246,20 @@ module _ (c : Choice) where
       delete_other n = go (path_to p r) refl
         where
           go : (o : Option Path) → path_to p r ≡ o → delete_record c p r ≡ Done p
-          go none h = delete_missing h
-          go (some way) h = never_both ((find_held p w r).1 (subst Found (sym h) tt)) n
+          go None h = delete_missing h
+          go (Some way) h = never_both ((find_held p w r).1 (subst Found (sym h) tt)) n
 
       pub delete_each : Lawful c → held p r ≡ true → EachPool (Deleted p r) (delete_record c p r)
       delete_each lawful y = go (path_to p r) refl
         where
           go : (o : Option Path) → path_to p r ≡ o → EachPool (Deleted p r) (delete_record c p r)
-          go none h = absurd (subst Found h ((find_held p w r).0 y))
-          go (some way) h =
+          go None h = absurd (subst Found h ((find_held p w r).0 y))
+          go (Some way) h =
               rw (delete_found way h)
               (back_deleted lawful p w r way (subst (EachWay (Leads p r p.height p.root)) h (find_leads p r p.height p.root)))
 
       -- with enough slots a delete is done, and leaves as many
-      module _ (lawful : Lawful c) (way : Path) (finds : path_to p r ≡ some way)
+      module _ (lawful : Lawful c) (way : Path) (finds : path_to p r ≡ Some way)
           (room : room_for (most_back p way) p.height ≤ free_count p) where
         pub delete_room : Sure (SlotRoom p (most_back p way)) (delete_record c p r)
         delete_room =

@@ -4,7 +4,7 @@ use mathlib.Core.Logic.{⊎_elim}
 use mathlib.Core.Bool.{Bool, true, false}
 use mathlib.Core.List.Memᴰ
 use mathlib.Core.List.{List, [], ◌∷◌, map}
-use mathlib.Core.Option.{Option, none, some}
+use Rattle.std.specs.Prelude.{Option, None, Some}
 use Prim.Native.Nat.{ℕ, zero, suc, ◌+◌, ◌<◌}
 use native.Mathlib.Omega.{arith}
 use lib.ListN.{length}
@@ -37,8 +37,8 @@ module _ (r : Record) (s : SlotNumber) where
 
   here_later : (i : ℕ) (e : Entry) (es : List Entry) (o : Option Path) → EachWay (Here (suc i) es) o → EachWay (Here i (e ∷ es)) o
   unfolding entry_from
-  here_later i e es none h = tt
-  here_later i e es (some way) h =
+  here_later i e es None h = tt
+  here_later i e es (Some way) h =
       (suc h.0, h.1 ∙ ap (λ (n : ℕ). place s n ∷ []) (omega arith), omega (arith, h.2), h.3)
 
   entry_here : (i : ℕ) (es : List Entry) → EachWay (Here i es) (find_entry r s i es)
@@ -74,8 +74,8 @@ module _ (find : SlotNumber → Option Path) (r : Rect) (s : SlotNumber) where
 
     below_later : (i : ℕ) (e : Entry) (es : List Entry) (o : Option Path) → EachWay (Below (suc i) es) o → EachWay (Below i (e ∷ es)) o
     unfolding entry_from
-    below_later i e es none h = tt
-    below_later i e es (some way) h =
+    below_later i e es None h = tt
+    below_later i e es (Some way) h =
         (suc h.0, h.1, h.2 ∙ ap (λ (n : ℕ). place s n ∷ h.1) (omega arith), omega (arith, h.3), h.4)
 
     child_below : (i : ℕ) (es : List Entry) → EachWay (Below i es) (find_child find r s i es)
@@ -85,8 +85,8 @@ module _ (find : SlotNumber → Option Path) (r : Rect) (s : SlotNumber) where
       where
         or : (o : Option Path) → EachWay (Good (child_of e)) o → (later : Option Path) → EachWay (Below (suc i) es) later
             → EachWay (Below i (e ∷ es)) (or_later s i o later)
-        or none g later h = rw (or_none s i later) (below_later i e es later h)
-        or (some way) g later h =
+        or None g later h = rw (or_none s i later) (below_later i e es later h)
+        or (Some way) g later h =
             rw (or_some s i way later) (0, way, ap (λ (n : ℕ). place s n ∷ way) (omega arith), omega arith, g)
 
         go : (b : Bool) → meets e.rect r ≡ b → EachWay (Below (suc i) es) (find_child find r s (suc i) es)
@@ -101,10 +101,10 @@ module _ (find : SlotNumber → Option Path) (r : Rect) (s : SlotNumber) where
     where
       or : (o : Option Path) → find (child_of e) ≡ o → (Among x es → Found (find_child find r s (suc i) es))
           → Found (or_later s i o (find_child find r s (suc i) es))
-      or none q later =
+      or None q later =
           rw (or_none s i (find_child find r s (suc i) es))
           (⊎_elim (λ h. absurd (subst Found (ap (λ (y : Entry). find (child_of y)) h ∙ q) f)) later (Memᴰ.cases_cons m))
-      or (some way) q later = rw (or_some s i way (find_child find r s (suc i) es)) tt
+      or (Some way) q later = rw (or_some s i way (find_child find r s (suc i) es)) tt
 
       go : (b : Bool) → meets e.rect r ≡ b → (Among x es → Found (find_child find r s (suc i) es)) → Found (find_child find r s i (e ∷ es))
       go true h later = rw (child_yes find r s i e es h) (or (find (child_of e)) refl later)
@@ -116,8 +116,8 @@ module _ (find : SlotNumber → Option Path) (r : Rect) (s : SlotNumber) where
 
 module _ (p : Pool) (r : Record) where
   each_way : (Good Fine : Path → Type 0) → ((way : Path) → Good way → Fine way) → (o : Option Path) → EachWay Good o → EachWay Fine o
-  each_way Good Fine f none h = tt
-  each_way Good Fine f (some way) h = f way h
+  each_way Good Fine f None h = tt
+  each_way Good Fine f (Some way) h = f way h
 
   -- the way that it gives leads to the pair
   pub find_leads : (l : ℕ) (s : SlotNumber) → EachWay (Leads p r l s) (find_leaf p r l s)

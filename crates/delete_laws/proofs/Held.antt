@@ -5,7 +5,7 @@ use mathlib.Core.Logic.{◌↔◌, ⊎_elim}
 use mathlib.Core.Bool.{Bool, true, false}
 use mathlib.Core.List.Memᴰ
 use mathlib.Core.List.{List, [], ◌∷◌}
-use mathlib.Core.Option.{Option, none, some}
+use Rattle.std.specs.Prelude.{Option, None, Some}
 use Rattle.rules.specs.declared.Record.{Record}
 use Rattle.rules.specs.Lists.{one_of}
 use Rattle.rules.specs.Numbers.{good_number}
@@ -54,8 +54,8 @@ module _ (r : Record) where
   held_is p w = (held_stored p, λ m. among_one (stored p) (valid_meets r.rect (stored_good p w r m).0) m)
 
 found_way : (Good : Path → Type 0) (o : Option Path) → EachWay Good o → Found o → (way : Path) × Good way
-found_way Good none h f = absurd f
-found_way Good (some way) h f = (way, h)
+found_way Good None h f = absurd f
+found_way Good (Some way) h f = (way, h)
 
 module _ (p : Pool) (w : Whole p) (r : Record) where
   stored_alike : Alike (stored p) (tree_records p)
@@ -87,10 +87,10 @@ module _ (p : Pool) (w : Whole p) (r : Record) where
     held_number = (record_good p p.height p.root w.tree r held_in_lem).1
 
     -- the way that FindLeaf gives, and that it leads to the exact pair
-    pub find_way : (way : Path) × (path_to p r ≡ some way) × Leads p r p.height p.root way
+    pub find_way : (way : Path) × (path_to p r ≡ Some way) × Leads p r p.height p.root way
     find_way = go (path_to p r) refl
       where
         go : (o : Option Path) → path_to p r ≡ o
-            → (way : Path) × (path_to p r ≡ some way) × Leads p r p.height p.root way
-        go none q = absurd (subst Found q (find_held.0 h))
-        go (some way) q = (way, q, subst (EachWay (Leads p r p.height p.root)) q (find_leads p r p.height p.root))
+            → (way : Path) × (path_to p r ≡ Some way) × Leads p r p.height p.root way
+        go None q = absurd (subst Found q (find_held.0 h))
+        go (Some way) q = (way, q, subst (EachWay (Leads p r p.height p.root)) q (find_leads p r p.height p.root))

@@ -2,7 +2,7 @@
 -- covers tight up the way. Above a cover that is tight already nothing changes: a node that is as it was has a tight cover.
 use mathlib.Core.Path.{◌≡◌, sym, ap, subst, subst₂, ◌∙◌}
 use mathlib.Core.List.{List, [], ◌∷◌}
-use mathlib.Core.Option.{some}
+use Rattle.std.specs.Prelude.{Some}
 use Prim.Native.Nat.{ℕ, zero, suc, ◌-◌, ◌≤◌, ◌<◌}
 use native.Mathlib.Omega.{arith}
 use lib.ListN.{length, set}
@@ -123,7 +123,7 @@ tight_still p l s d i there pointer q same below =
 
 -- ---- the whole delete
 
-module _ (c : Choice) (lawful : Lawful c) (p : Pool) (w : Whole p) (r : Record) (way : Path) (finds : path_to p r ≡ some way)
+module _ (c : Choice) (lawful : Lawful c) (p : Pool) (w : Whole p) (r : Record) (way : Path) (finds : path_to p r ≡ Some way)
     (keeps : KeepsEnough p p.height (leaf_of way)) where
   abbrev less : Pool
   less = put_records p (p.records - 1)

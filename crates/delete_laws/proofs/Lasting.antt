@@ -2,7 +2,7 @@
 use mathlib.Core.Path.{◌≡◌, refl, subst}
 use mathlib.Core.Bool.{Bool, true, false}
 use mathlib.Core.List.{List, [], ◌∷◌}
-use mathlib.Core.Option.{Option, none, some}
+use Rattle.std.specs.Prelude.{Option, None, Some}
 use Prim.Native.Nat.{◌-◌, ◌≤◌, ◌<◌}
 use native.Mathlib.Decide.{dec_le}
 use native.Mathlib.Omega.{arith}
@@ -77,8 +77,8 @@ module _ {P : Pool → Type 0} (k : Lasting P) where
         less = put_records p (p.records - 1)
 
         go : (o : Option Path) → path_to p r ≡ o → EachPool P (delete_record c p r)
-        go none h = rw (delete_missing c p r h) e
-        go (some way) h = rw (delete_found c p r way h) (back_lasts (condense less way) (condense_lasts less way (k.records p (p.records - 1) e)))
+        go None h = rw (delete_missing c p r h) e
+        go (Some way) h = rw (delete_found c p r way h) (back_lasts (condense less way) (condense_lasts less way (k.records p (p.records - 1) e)))
 
     pub update_lasts : (p : Pool) (old : Record) (new : Rect) → P p → EachPool P (update_record c p old new)
     update_lasts p old new e = go (delete_record c p old) refl

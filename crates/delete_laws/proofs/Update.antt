@@ -4,7 +4,7 @@ use mathlib.Core.Path.{◌≡◌, refl, sym, subst, ◌∙◌}
 use mathlib.Core.Logic.{◌≢◌}
 use mathlib.Core.Bool.{Bool, true}
 use mathlib.Core.List.{[], ◌∷◌}
-use mathlib.Core.Option.{some}
+use Rattle.std.specs.Prelude.{Some}
 use Prim.Native.Nat.{suc, ◌+◌, ◌≤◌}
 use native.Mathlib.Omega.{arith}
 use lib.ListN.{length}
@@ -68,7 +68,7 @@ module _ (c : Choice) (p : Pool) (old : Record) (new : Rect) where
 
   -- with enough slots an update is done: those of a delete, and one for each level that the tree may have then and one more
   module _ (lawful : Lawful c) (w : Whole p) (y : held p old ≡ true) (v : valid new ≡ true) (way : Path)
-      (finds : path_to p old ≡ some way) where
+      (finds : path_to p old ≡ Some way) where
     pub update_fits : room_for (most_back p way) p.height + suc (p.height + most_back p way) ≤ free_count p
         → update_record c p old new ≢ NoneFree
     update_fits room u = go (delete_record c p old) refl

@@ -1,6 +1,5 @@
 -- The way that FindLeaf comes down.
-use Rattle.std.specs.Prelude.{◌≡◌, cond, ◌&&◌, [], ◌∷◌, ℕ, zero, suc, ◌*◌, ◌≤◌, ◌<◌, leb, length}
-use Rattle.std.proofs.Math.Option.{Option, none, some}
+use Rattle.std.specs.Prelude.{◌≡◌, cond, ◌&&◌, [], ◌∷◌, ℕ, zero, suc, ◌*◌, ◌≤◌, ◌<◌, leb, length, Option, None, Some}
 use Rattle.rules.specs.declared.SlotNumber.{SlotNumber}
 use Rattle.rules.specs.declared.Record.{Record}
 use Rattle.rules.specs.Pool.{Pool, slot, entries_at, entry_at, child_of, record_of}
@@ -16,13 +15,13 @@ Leads p r (suc (suc l)) s way =
 
 -- a way, where one is given, is as it should be
 abbrev pub EachWay : (Path → Type 0) → Option Path → Type 0
-EachWay Good none = Unit {0}
-EachWay Good (some way) = Good way
+EachWay Good None = Unit {0}
+EachWay Good (Some way) = Good way
 
 -- one is given
 abbrev pub Found : Option Path → Type 0
-Found none = ⊥
-Found (some way) = Unit {0}
+Found None = ⊥
+Found (Some way) = Unit {0}
 
 -- the leaf at the end of a way
 unfoldable pub leaf_of : Path → SlotNumber

@@ -3,7 +3,7 @@
 use mathlib.Core.Path.{◌≡◌, refl}
 use mathlib.Core.Bool.{true}
 use mathlib.Core.List.{List, [], ◌∷◌}
-use mathlib.Core.Option.{some}
+use Rattle.std.specs.Prelude.{Some}
 use Prim.Native.Nat.{ℕ, ◌≤◌}
 use native.Mathlib.Omega.{arith}
 use lib.ListN.{length, take, replicate}
@@ -140,7 +140,7 @@ home_few : length (stored (read home)) ≡ 3
 unfolding document01 home fill
 home_few = refl
 
-office_told : edition_told office.edition office.rule ≡ some (read home).edition
+office_told : edition_told office.edition office.rule ≡ Some (read home).edition
 unfolding document01 office home fill
 office_told = refl
 

@@ -4,7 +4,7 @@ use mathlib.Core.Path.{◌≡◌, refl, sym, ap, ap₂, subst, ◌∙◌}
 use mathlib.Core.Logic.{◌≢◌, ⊎_elim}
 use mathlib.Core.Bool.{true, false, not}
 use mathlib.Core.List.{List, [], ◌∷◌, ◌++◌, map, append-nil, append_assoc}
-use mathlib.Core.Option.{Option, none, some}
+use Rattle.std.specs.Prelude.{Option, None, Some, Ok}
 use Prim.Native.Nat.{ℕ, suc, ◌+◌, ◌-◌, ◌<◌}
 use native.Mathlib.Omega.{arith}
 use lib.ListN.{length, get_or, take, drop, length-append}
@@ -21,8 +21,8 @@ use Rattle.rules.specs.declared.Request.{Request}
 use Rattle.rules.specs.declared.Asked.{Asked}
 use Rattle.rules.specs.declared.Asked.TheVariants.{Search}
 use Rattle.rules.specs.declared.Answer.{Answer}
-use Rattle.rules.specs.declared.Reply.TheVariants.{Listed}
-use Rattle.rules.specs.declared.Verdict.{Verdict}
+use Rattle.rules.specs.declared.Accepted.TheVariants.{Listed}
+use Rattle.rules.specs.declared.CallFault.{CallFault}
 use Rattle.rules.specs.Lists.{those}
 use Rattle.rules.specs.Owners.{owner_sound, as_found}
 use Rattle.rules.specs.Pool.{Pool, stored}
@@ -30,7 +30,7 @@ use Rattle.rules.specs.Layout.{valid_length, words, read}
 use Rattle.rules.specs.Sound.{owners_sound, sound}
 use Rattle.rules.specs.Search.{ordered, found, reported, opened}
 use Rattle.rules.specs.Insert.{ours}
-use Rattle.rules.specs.Answers.{answer, answer_of, verdict_number}
+use Rattle.rules.specs.Answers.{answer, answer_of, call_fault_number}
 use Rattle.rules.specs.Request.{Turn, turn, asked}
 use Rattle.rules.specs.Call.{Lent, Left, Batch, is_request, call_fault, refused, served, call, after_turn, do_request, do_requests, batch_owner, starting}
 use Rattle.rules_laws.proofs.Bools.{not_false, or_neither}
@@ -70,26 +70,26 @@ demand_ends l = record {
 -- ---- a request in its call
 
 module _ (l : Lent) where
-  sound_first : call_fault l ≡ none → sound l.pool ≡ true
+  sound_first : call_fault l ≡ None → sound l.pool ≡ true
   sound_first h = not_false _ (passed l h).3
 
-  pub first_whole : call_fault l ≡ none → Whole (starting l).pool
+  pub first_whole : call_fault l ≡ None → Whole (starting l).pool
   unfolding starting
   first_whole h = sound_tree l.pool (sound_first h)
 
-  pub first_right : call_fault l ≡ none → valid_length l.pool ≡ true
+  pub first_right : call_fault l ≡ None → valid_length l.pool ≡ true
   first_right h = not_false _ (or_neither (not (valid_length l.pool)) _ (passed l h).2).0
 
   -- the words lent are those of the pool that is read from them
-  first_words : call_fault l ≡ none → words (starting l).pool ≡ l.pool
+  first_words : call_fault l ≡ None → words (starting l).pool ≡ l.pool
   unfolding starting
   first_words h =
       (sound_fit l.pool (first_right h) (sound_first h)).same
 
   step_whole : (i : ℕ) (b : Batch) (o : Option Asked) → Whole b.pool → Whole (do_request ours i b o).pool
   unfolding do_request after_turn
-  step_whole i b none w = w
-  step_whole i b (some a) w = request_whole ours ours_lawful b.pool w b.filled (length b.found - b.filled) a
+  step_whole i b None w = w
+  step_whole i b (Some a) w = request_whole ours ours_lawful b.pool w b.filled (length b.found - b.filled) a
 
   pub all_whole : (i : ℕ) (qs : List Request) (b : Batch) → Whole b.pool → Whole (do_requests ours i qs b).pool
   unfolding do_requests
@@ -97,15 +97,15 @@ module _ (l : Lent) where
   all_whole i (q ∷ qs) b w = all_whole (suc i) qs (do_request ours i b (asked b.owner q)) (step_whole i b (asked b.owner q) w)
 
   -- whose records are stored: of owners that the pool can have, before the first request and after each
-  pub first_owners : call_fault l ≡ none → owners_sound (starting l).pool ≡ true
+  pub first_owners : call_fault l ≡ None → owners_sound (starting l).pool ≡ true
   unfolding starting
   first_owners h = sound_owners l.pool (sound_first h)
 
   step_owners : (i : ℕ) (b : Batch) (q : Request) (o : Option Asked) → asked b.owner q ≡ o → Whole b.pool → FairBatch b
       → owners_sound b.pool ≡ true → owners_sound (do_request ours i b o).pool ≡ true
   unfolding do_request after_turn
-  step_owners i b q none e w f h = h
-  step_owners i b q (some a) e w f h =
+  step_owners i b q None e w f h = h
+  step_owners i b q (Some a) e w f h =
       request_owned ours ours_lawful b.pool w b.filled (length b.found - b.filled) h a
       (subst (λ (x : Owner). owner_sound b.pool.edition x ≡ true) (sym (asked_owner b.owner q a e)) f)
 
@@ -117,12 +117,12 @@ module _ (l : Lent) where
       let a = asked b.owner q in
       all_owners (suc i) qs (do_request ours i b a) (step_whole i b a w) (step_fair ours i b a f) (step_owners i b q a refl w f h)
 
-  module _ (fine : call_fault l ≡ none) (done : List Request) (q : Request) (a : Asked) (is : asked (batch_owner l) q ≡ some a) where
+  module _ (fine : call_fault l ≡ None) (done : List Request) (q : Request) (a : Asked) (is : asked (batch_owner l) q ≡ Some a) where
     abbrev now : Batch
     now = after l done
 
     abbrev next : Batch
-    next = do_request ours (length done) now (some a)
+    next = do_request ours (length done) now (Some a)
 
     then : after l (done ++ q ∷ []) ≡ next
     unfolding do_requests
@@ -181,11 +181,11 @@ module _ (l : Lent) where
 -- ---- D1
 
 module _ (l : Lent) (o : Left) (k : Allowed l o) where
-  pub fine : o.number ≡ pos 0 → call_fault l ≡ none
+  pub fine : o.number ≡ pos 0 → call_fault l ≡ None
   unfolding call
   fine z = no_fault ours l (sym k.number ∙ z)
 
-  turned_off : (v : Verdict) → call_fault l ≡ some v → (o.number ≡ verdict_number v) × Untouched l o
+  turned_off : (v : CallFault) → call_fault l ≡ Some v → (o.number ≡ call_fault_number v) × Untouched l o
   unfolding call refused
   turned_off v h =
       let e = call_by_refused ours l v h in (
@@ -198,12 +198,12 @@ module _ (l : Lent) (o : Left) (k : Allowed l o) where
         },
       )
 
-  taken_on : call_fault l ≡ none → o.number ≡ pos 0
-  unfolding call served verdict_number
+  taken_on : call_fault l ≡ None → o.number ≡ pos 0
+  unfolding call served call_fault_number
   taken_on h = k.number ∙ ap (λ (x : Left). x.number) (call_by_served ours l h)
 
   module _ (z : o.number ≡ pos 0) (done : List Request) (q : Request) (rest : List Request) (all : l.requests ≡ done ++ q ∷ rest)
-      (a : Asked) (is : asked (batch_owner l) q ≡ some a) where
+      (a : Asked) (is : asked (batch_owner l) q ≡ Some a) where
     told : answer_after o done ≡ answer_of (turn_after l done a).reply
     told = ap (λ (xs : List Answer). get_or xs (length done) no_answer) k.answers ∙ call_answer l (fine z) done q a is rest all
 
@@ -263,7 +263,7 @@ module _ (l : Lent) (o : Left) (k : Allowed l o) where
         refusal : (answer_after o done).number ≢ 0 → (after l (done ++ q ∷ [])).pool ≡ (after l done).pool
         refusal n = let a = asks_something (batch_owner l) q (every_less is_request done q rest (rw all at (passed l (fine z)).4)).0 in stays z done q rest all a.0 a.1 n
 
-        searched : (mode : Mode) × (window : Rect) × (asked (batch_owner l) q ≡ some (Search (batch_owner l) mode window)) → (after l (done ++ q ∷ [])).pool ≡ (after l done).pool
+        searched : (mode : Mode) × (window : Rect) × (asked (batch_owner l) q ≡ Some (Search (batch_owner l) mode window)) → (after l (done ++ q ∷ [])).pool ≡ (after l done).pool
         searched s =
             pool_then z done q rest all (Search (batch_owner l) s.0 s.1) s.2 ∙ same_pool (one_either l (fine z) done q (Search (batch_owner l) s.0 s.1) s.2)
 
@@ -284,7 +284,7 @@ module _ (l : Lent) (o : Left) (k : Allowed l o) where
   -- ---- D2
 
   module _ (z : o.number ≡ pos 0) (done : List Request) (q : Request) (rest : List Request) (all : l.requests ≡ done ++ q ∷ rest)
-      (mode : Mode) (window : Rect) (is : asked (batch_owner l) q ≡ some (Search (batch_owner l) mode window)) (y : (answer_after o done).number ≡ 0) where
+      (mode : Mode) (window : Rect) (is : asked (batch_owner l) q ≡ Some (Search (batch_owner l) mode window)) (y : (answer_after o done).number ≡ 0) where
     abbrev w : Owner
     w = batch_owner l
 
@@ -297,7 +297,7 @@ module _ (l : Lent) (o : Left) (k : Allowed l o) where
     abbrev hits : List FoundRecord
     hits = found p w mode window
 
-    finds : turn_after l done search ≡ turn p (Listed (length hits) (after l done).filled (opened p window)) hits
+    finds : turn_after l done search ≡ turn p (Ok (Listed (length hits) (after l done).filled (opened p window))) hits
     finds = ((one_either l (fine z) done q search is).accepted (is_zero z done q rest all search is y)).1
 
     exact : hits ≡ ordered (map as_found (those (own_wanted w mode window) (stored p)))

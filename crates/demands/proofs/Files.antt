@@ -4,7 +4,7 @@ use mathlib.Core.Path.{◌≡◌, refl, sym, ap, ap₂, subst, ◌∙◌}
 use mathlib.Core.Logic.{◌≢◌}
 use mathlib.Core.Bool.{Bool, true, false, not}
 use mathlib.Core.List.{List}
-use mathlib.Core.Option.{Option, none, some}
+use Rattle.std.specs.Prelude.{Option, None, Some}
 use Prim.Native.Nat.{ℕ, ◌+◌, ◌*◌, ◌-◌, ◌≤◌, ◌<◌}
 use native.Mathlib.Omega.{arith}
 use lib.ListN.{length, take, drop, length-replicate}
@@ -88,7 +88,7 @@ untold_one e = never_both ((same_is (negsuc 0) (pos 1)).1 e) (unfold same in ref
 -- an accepted read: the numbers have told an edition, and the file has gone into a blank pool of it
 record Taken {file : List ℕ} (r : ReadOf file) : Type 0 where
   edition : Edition
-  told : edition_told r.edition r.rule ≡ some edition
+  told : edition_told r.edition r.rule ≡ Some edition
   pool : Pool
   loaded : load_file ours edition (blank_pool edition (slots_fitting edition (length r.pool) - 1)) file ≡ Loaded pool
   left : r.left ≡ words pool
@@ -100,7 +100,7 @@ module _ {file : List ℕ} (r : ReadOf file) where
   w = r.pool
 
   -- where the numbers tell none
-  module _ (h : edition_told r.edition r.rule ≡ none) where
+  module _ (h : edition_told r.edition r.rule ≡ None) where
     untold_is : read_file_as r.edition r.rule w r.work file ≡ record { number = negsuc 0; pool = w; workspace = r.work }
     untold_is = read_untold r.edition r.rule h w r.work file
 
@@ -113,7 +113,7 @@ module _ {file : List ℕ} (r : ReadOf file) where
       r.allowed.workspace ∙ ap (λ (o : ReadLeft). o.workspace) untold_is,
     )
 
-  module _ (e : Edition) (h : edition_told r.edition r.rule ≡ some e) where
+  module _ (e : Edition) (h : edition_told r.edition r.rule ≡ Some e) where
     told_is : read_file_as r.edition r.rule w r.work file ≡ read_file e w r.work file
     told_is = read_told r.edition r.rule e h w r.work file
 
@@ -158,8 +158,8 @@ module _ {file : List ℕ} (r : ReadOf file) where
   taken z = go (edition_told r.edition r.rule) refl
     where
       go : (x : Option Edition) → edition_told r.edition r.rule ≡ x → Taken r
-      go none h = absurd (untold_none (sym (untold_number h) ∙ z))
-      go (some e) h = taken_told e h z
+      go None h = absurd (untold_none (sym (untold_number h) ∙ z))
+      go (Some e) h = taken_told e h z
 
   module _ (t : Taken r) where
     abbrev e : Edition
@@ -237,13 +237,13 @@ read_leaves {file} r = go (edition_told r.edition r.rule) refl
         (λ f x. never_both ((same_is (file_number f) (negsuc 0)).1 x) (past_untold f)) (λ q l x. untold_none (sym x))
 
     go : (x : Option Edition) → edition_told r.edition r.rule ≡ x → ReadLeaves r
-    go none h = record {
+    go None h = record {
       refused = λ a b c. absurd (c (untold_number r h));
       short = λ e. absurd (untold_one (sym (untold_number r h) ∙ e));
       untold = λ e. untold_left r h;
       accepted = λ e. absurd (untold_none (sym (untold_number r h) ∙ e));
     }
-    go (some d) h = record {
+    go (Some d) h = record {
       refused = λ a b c.
           let q = read_refused d (λ e. a (told_number r d h ∙ e)) (λ e. b (told_number r d h ∙ e)) in
           (told_pool r d h ∙ q.0, told_work r d h ∙ q.1);
@@ -305,7 +305,7 @@ module _ (w : Write) (z : w.number ≡ pos 0) (words_fit : Each Word w.pool) whe
 
   -- read as the edition of the map, into a pool of half as many slots as it has records, or more, the file is accepted, and the pool holds exactly its
   -- records, each pair once for its owner
-  module _ (r : ReadOf (file_of w)) (told : edition_told r.edition r.rule ≡ some p.edition) (v : valid_size p.edition (length r.pool) ≡ true)
+  module _ (r : ReadOf (file_of w)) (told : edition_told r.edition r.rule ≡ Some p.edition) (v : valid_size p.edition (length r.pool) ≡ true)
       (u : length r.work ≡ length r.pool) where
     abbrev slots : ℕ
     slots = slots_fitting p.edition (length r.pool)

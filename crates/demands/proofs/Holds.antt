@@ -4,20 +4,20 @@ use mathlib.Core.Path.{◌≡◌, refl, sym, ap, subst, ◌∙◌}
 use mathlib.Core.Logic.{◌≢◌}
 use mathlib.Core.Bool.{Bool, true, false}
 use mathlib.Core.List.{List, [], ◌∷◌}
-use mathlib.Core.Option.{Option, none, some}
+use Rattle.std.specs.Prelude.{Option, None, Some}
 use Prim.Native.Nat.{ℕ, ◌-◌}
 use lib.ListN.{length}
 use lib.IntN.{ℤ, pos, negsuc}
 use Rattle.rules.specs.declared.Edition.{Edition}
 use Rattle.rules.specs.declared.Record.{Record}
-use Rattle.rules.specs.declared.Verdict.{Verdict}
+use Rattle.rules.specs.declared.CallFault.{CallFault}
 use Rattle.rules.specs.Lists.{same}
 use Rattle.rules.specs.Pool.{Pool, blank_pool}
 use Rattle.rules.specs.Owners.{edition_told}
 use Rattle.rules.specs.Sound.{sound}
 use Rattle.rules.specs.Layout.{Blanked, valid_size, slots_fitting, words, read, blank, blank_as}
 use Rattle.rules.specs.Insert.{ours}
-use Rattle.rules.specs.Answers.{verdict_number}
+use Rattle.rules.specs.Answers.{call_fault_number}
 use Rattle.rules.specs.Call.{Lent, Left, call_fault, refused, served, batch_owner, call_by, call}
 use Rattle.rules.specs.File.{file_number, file_records, Loaded, load_file, ReadLeft, read_file, read_file_as}
 use Rattle.rules_laws.proofs.Orders.{never_both}
@@ -58,11 +58,11 @@ module _ (e : Edition) (w : List ℤ) where
 
 -- .. told the edition by numbers: where they tell none, nothing is done
 module _ (edition rule : ℤ) where
-  blank_told : (e : Edition) → edition_told edition rule ≡ some e → (w : List ℤ) → blank_as edition rule w ≡ blank e w
+  blank_told : (e : Edition) → edition_told edition rule ≡ Some e → (w : List ℤ) → blank_as edition rule w ≡ blank e w
   unfolding blank_as
   blank_told e h w = rw (blank_as, h)
 
-  blank_untold : edition_told edition rule ≡ none → (w : List ℤ) → blank_as edition rule w ≡ record { number = negsuc 0; pool = w }
+  blank_untold : edition_told edition rule ≡ None → (w : List ℤ) → blank_as edition rule w ≡ record { number = negsuc 0; pool = w }
   unfolding blank_as
   blank_untold h w = rw (blank_as, h)
 
@@ -71,19 +71,19 @@ module _ (edition rule : ℤ) where
   blank_as_lem w P done left untold = go (edition_told edition rule) refl
     where
       go : (x : Option Edition) → edition_told edition rule ≡ x → P (blank_as edition rule w)
-      go none h = subst P (sym (blank_untold h w)) untold
-      go (some e) h = subst P (sym (blank_told e h w)) (blank_cases e w P (done e) left)
+      go None h = subst P (sym (blank_untold h w)) untold
+      go (Some e) h = subst P (sym (blank_told e h w)) (blank_cases e w P (done e) left)
 
-  pub read_told : (e : Edition) → edition_told edition rule ≡ some e → (w u : List ℤ) (file : List ℕ) → read_file_as edition rule w u file ≡ read_file e w u file
+  pub read_told : (e : Edition) → edition_told edition rule ≡ Some e → (w u : List ℤ) (file : List ℕ) → read_file_as edition rule w u file ≡ read_file e w u file
   unfolding read_file_as
   read_told e h w u file = rw (read_file_as, h)
 
-  pub read_untold : edition_told edition rule ≡ none → (w u : List ℤ) (file : List ℕ)
+  pub read_untold : edition_told edition rule ≡ None → (w u : List ℤ) (file : List ℕ)
       → read_file_as edition rule w u file ≡ record { number = negsuc 0; pool = w; workspace = u }
   unfolding read_file_as
   read_untold h w u file = rw (read_file_as, h)
 
-  records_told_lem : (e : Edition) → edition_told edition rule ≡ some e → (file : List ℕ) → records_told edition rule file ≡ file_records e file
+  records_told_lem : (e : Edition) → edition_told edition rule ≡ Some e → (file : List ℕ) → records_told edition rule file ≡ file_records e file
   unfolding records_told
   records_told_lem e h file = rw (records_told, h)
 
@@ -94,25 +94,25 @@ module _ (l : Lent) where
   unfolding call
   call_is = refl
 
-  served_number : (call l).number ≡ pos 0 → call_fault l ≡ none
+  served_number : (call l).number ≡ pos 0 → call_fault l ≡ None
   unfolding call
   served_number z = no_fault ours l z
 
-  refused_pool : (v : Verdict) → (refused l v).pool ≡ l.pool
+  refused_pool : (v : CallFault) → (refused l v).pool ≡ l.pool
   unfolding refused
   refused_pool v = refl
 
-  served_zero : call_fault l ≡ none → (call l).number ≡ pos 0
-  unfolding call served verdict_number
+  served_zero : call_fault l ≡ None → (call l).number ≡ pos 0
+  unfolding call served call_fault_number
   served_zero h = ap (λ (x : Left). x.number) (call_by_served ours l h)
 
   -- "A refused call returns its number and writes nothing at all."
-  pub refused_left : (call l).number ≢ pos 0 → (v : Verdict) × (call_fault l ≡ some v) × (call l ≡ refused l v)
+  pub refused_left : (call l).number ≢ pos 0 → (v : CallFault) × (call_fault l ≡ Some v) × (call l ≡ refused l v)
   refused_left n = go (call_fault l) refl
     where
-      go : (o : Option Verdict) → call_fault l ≡ o → (v : Verdict) × (call_fault l ≡ some v) × (call l ≡ refused l v)
-      go none h = absurd (n (served_zero h))
-      go (some v) h = (v, h, call_is ∙ call_by_refused ours l v h)
+      go : (o : Option CallFault) → call_fault l ≡ o → (v : CallFault) × (call_fault l ≡ Some v) × (call l ≡ refused l v)
+      go None h = absurd (n (served_zero h))
+      go (Some v) h = (v, h, call_is ∙ call_by_refused ours l v h)
 
 -- ---- in force, step by step
 
@@ -171,15 +171,15 @@ module _ (w : List ℤ) (steps : List Step) (now : Holding w (in_force_after ste
       abbrev ReadSo : ReadLeft → Type 0
       ReadSo r = Holding r.pool (by_test (same r.number (pos 0)) (records_told edition rule file) (in_force_after steps))
 
-      taken : (e : Edition) → edition_told edition rule ≡ some e → (m : ℕ) (q : Pool) → load_file ours e (blank_pool e m) file ≡ Loaded q
+      taken : (e : Edition) → edition_told edition rule ≡ Some e → (m : ℕ) (q : Pool) → load_file ours e (blank_pool e m) file ≡ Loaded q
           → ReadSo (record { number = pos 0; pool = words q; workspace = words q })
       taken e told m q x =
           let h = (subst (IfLoaded (Holds ours ours_lawful e m file)) x (file_loads ours ours_lawful e m file)).records in
           rw (none_zero, records_told_lem edition rule e told file) (holding q (file_records e file) h)
 
       read_so : (x : Option Edition) → edition_told edition rule ≡ x → ReadSo (read_file_as edition rule w u file)
-      read_so none h = subst ReadSo (sym (read_untold edition rule h w u file)) (kept (negsuc 0) (records_told edition rule file) untold_no)
-      read_so (some e) h =
+      read_so None h = subst ReadSo (sym (read_untold edition rule h w u file)) (kept (negsuc 0) (records_told edition rule file) untold_no)
+      read_so (Some e) h =
           subst ReadSo (sym (read_told edition rule e h w u file))
           (read_cases e w u file ReadSo (kept (pos 1) (records_told edition rule file) one_no)
           (λ f. kept (file_number f) (records_told edition rule file) (some_fault f)) (λ q l. taken e h (slots_fitting e (length w) - 1) q l))

@@ -4,7 +4,7 @@ use mathlib.Core.Path.{◌≡◌, refl, sym, ap, ap₂, subst, ◌∙◌}
 use mathlib.Core.Logic.{◌≢◌}
 use mathlib.Core.Bool.{Bool, true, false, not, ◌||◌}
 use mathlib.Core.List.{List, [], ◌∷◌, map}
-use mathlib.Core.Option.{Option, none, some}
+use Rattle.std.specs.Prelude.{Option, None, Some}
 use Prim.Native.Nat.{ℕ, zero, suc}
 use native.Mathlib.Omega.{arith}
 use lib.ListN.{length, get_or, drop}
@@ -14,8 +14,8 @@ use Rattle.rules.specs.declared.Edition.TheVariants.{Two}
 use Rattle.rules.specs.declared.Owner.{Owner}
 use Rattle.rules.specs.declared.Record.{Record}
 use Rattle.rules.specs.declared.Answer.{Answer}
-use Rattle.rules.specs.declared.Verdict.{Verdict}
-use Rattle.rules.specs.declared.Verdict.TheVariants.{BadLists, BadOwner, BadLength, NotSound, NoRequest}
+use Rattle.rules.specs.declared.CallFault.{CallFault}
+use Rattle.rules.specs.declared.CallFault.TheVariants.{BadLists, BadOwner, BadLength, NotSound, NoRequest}
 use Rattle.rules.specs.Lists.{same, every}
 use Rattle.rules.specs.Numbers.{most_requests, good_owner}
 use Rattle.rules.specs.Pool.{Pool, blank_pool}
@@ -46,7 +46,7 @@ use Rattle.demands.proofs.Rooms.{then_long}
 -- ---- whether a call is refused
 
 -- the rows of the table for a call, of an edition 2 pool that is sound: they depend on the pool's length alone
-fault_by : Owner → Beside → ℕ → Option Verdict
+fault_by : Owner → Beside → ℕ → Option CallFault
 fault_by w b n =
     first_row (
     row (ltb most_requests (length b.requests) || not (eqb (length b.answers) (length b.requests))) BadLists
@@ -257,8 +257,8 @@ module _ (w : Owner) (n : ℕ) where
             ∙ sym (fault_is d (ap sound t.other.0 ∙ history_sound Two n (batch_steps ds) t.other.2) edition_there)
 
         -- done in both
-        module _ (f : call_fault lc ≡ none) where
-          g : call_fault ld ≡ none
+        module _ (f : call_fault lc ≡ None) where
+          g : call_fault ld ≡ None
           g = sym same_fault ∙ f
 
           zero_here : c.left.number ≡ pos 0
@@ -324,7 +324,7 @@ module _ (w : Owner) (n : ℕ) where
               ) after
 
         -- refused in both
-        module _ (v : Verdict) (f : call_fault lc ≡ some v) where
+        module _ (v : CallFault) (f : call_fault lc ≡ Some v) where
           refused_heard : heard c ≡ heard d
           refused_heard =
               let a = (demand_1 lc c.left t.one.1).refused v f in
@@ -336,7 +336,7 @@ module _ (w : Owner) (n : ℕ) where
               }
 
           -- a call that is refused does not return 0
-          refused_not : (b : BatchCall) → Allowed b.lent b.left → call_fault b.lent ≡ some v → b.left.number ≢ pos 0
+          refused_not : (b : BatchCall) → Allowed b.lent b.left → call_fault b.lent ≡ Some v → b.left.number ≢ pos 0
           refused_not b k x z = subst (EachGiven (λ y. ⊥)) (sym (fine b.lent b.left k z) ∙ x) tt
 
           refused_same : SameTo w (read (pool (c ∷ cs))) (force (c ∷ cs)) (read (pool (d ∷ ds))) (force (d ∷ ds))
@@ -352,10 +352,10 @@ module _ (w : Owner) (n : ℕ) where
                 refused_pool_is ld d.left t.other.1 y,
               ) s
 
-        both : (x : Option Verdict) → call_fault lc ≡ x
+        both : (x : Option CallFault) → call_fault lc ≡ x
             → SameTo w (read (pool (c ∷ cs))) (force (c ∷ cs)) (read (pool (d ∷ ds))) (force (d ∷ ds)) × (heard c ≡ heard d)
-        both none f = (served_same f, served_heard f)
-        both (some v) f = (refused_same v f, refused_heard v f)
+        both None f = (served_same f, served_heard f)
+        both (Some v) f = (refused_same v f, refused_heard v f)
 
       with_own : AlikeSoFar cs ds → AlikeSoFar (c ∷ cs) (d ∷ ds)
       with_own s =

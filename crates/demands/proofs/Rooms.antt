@@ -3,7 +3,7 @@ use mathlib.Core.Path.{◌≡◌, refl, sym, ap, ap₂, subst⁻¹, ◌∙◌}
 use mathlib.Core.Logic.{◌≢◌, ◌↔◌}
 use mathlib.Core.Bool.{true, not}
 use mathlib.Core.List.{List, [], ◌∷◌, ◌++◌}
-use mathlib.Core.Option.{none, some}
+use Rattle.std.specs.Prelude.{None, Some, Ok}
 use Prim.Native.Nat.{ℕ, ◌+◌, ◌*◌, ◌-◌, ◌≤◌, ◌<◌}
 use native.Mathlib.Omega.{arith}
 use native.Mathlib.Decide.{dec_le}
@@ -14,16 +14,14 @@ use Rattle.rules.specs.declared.Record.{Record}
 use Rattle.rules.specs.declared.Request.{Request}
 use Rattle.rules.specs.declared.Asked.TheVariants.{Insert}
 use Rattle.rules.specs.declared.Answer.{Answer}
-use Rattle.rules.specs.declared.Reply.TheVariants.{BadRectangle, BadNumber, Held}
-use Rattle.rules.specs.declared.InsertRoom.{InsertRoom}
-use Rattle.rules.specs.declared.InsertRoom.TheVariants.{Slots}
+use Rattle.rules.specs.declared.RequestFault.TheVariants.{BadRectangle, BadNumber, Held}
 use Rattle.rules.specs.Pool.{Pool, free_count}
 use Rattle.rules.specs.Layout.{head_size, slot_size, edition_of, slot_count, valid_length, words, read, rect_of}
 use Rattle.rules.specs.Sound.{owners_sound, sound}
 use Rattle.rules.specs.Insert.{ours, Change, Done, NoneFree, insert_record}
 use Rattle.rules.specs.Answers.{answer_of}
 use Rattle.rules.specs.Request.{Turn, asked, after_change, insert_fault}
-use Rattle.rules.specs.Room.{slots_needed, insert_room, room_number, room_words}
+use Rattle.rules.specs.Room.{slots_needed, RoomTold, slots as room_of, insert_room, room_number, room_words}
 use Rattle.rules.specs.Call.{Lent, Left, call_fault, batch_owner, starting}
 use Rattle.rules_laws.proofs.Splits.{ours_lawful}
 use Rattle.layout_laws.proofs.Parts.{right_size}
@@ -44,7 +42,7 @@ use Rattle.demands.proofs.Demands.{first_whole, first_right, first_owners, all_w
 
 -- ---- the pool that a request finds
 
-module _ (l : Lent) (served : call_fault l ≡ none) (done : List Request) where
+module _ (l : Lent) (served : call_fault l ≡ None) (done : List Request) where
   abbrev then : Pool
   then = (after l done).pool
 
@@ -84,14 +82,14 @@ module _ (l : Lent) (served : call_fault l ≡ none) (done : List Request) where
 -- ---- the law
 
 module _ (l : Lent) (o : Left) (k : Allowed l o) (z : o.number ≡ pos 0) (done : List Request) (q : Request) (rest : List Request)
-    (all : l.requests ≡ done ++ q ∷ rest) (r : Record) (is : asked (batch_owner l) q ≡ some (Insert r)) (good : OtherwiseAcceptable (after l done).pool r) where
+    (all : l.requests ≡ done ++ q ∷ rest) (r : Record) (is : asked (batch_owner l) q ≡ Some (Insert r)) (good : OtherwiseAcceptable (after l done).pool r) where
   abbrev p : Pool
   p = (after l done).pool
 
-  taken_on : call_fault l ≡ none
+  taken_on : call_fault l ≡ None
   taken_on = fine l o k z
 
-  passes : insert_fault p r ≡ none
+  passes : insert_fault p r ≡ None
   unfolding insert_fault
   passes =
       row_passed _ BadRectangle _ (ap not good.rect) (row_passed _ BadNumber _ (ap not good.number) (row_passed _ Held [] good.new no_rows))
@@ -146,13 +144,13 @@ module _ (l : Lent) (o : Left) (k : Allowed l o) (z : o.number ≡ pos 0) (done 
 
   -- ---- told beforehand
 
-  room_is : insert_room (words p) r.rect ≡ Slots needed (free_count p)
+  room_is : insert_room (words p) r.rect ≡ Ok (room_of needed (free_count p))
   room_is =
       room_told (words p) r.rect (then_right l taken_on done) (then_sound l taken_on done) good.rect
-      ∙ ap (λ (x : Pool). Slots (slots_needed ours 1 x r.rect) (free_count x)) (then_reads l taken_on done)
+      ∙ ap (λ (x : Pool). Ok (room_of (slots_needed ours 1 x r.rect) (free_count x))) (then_reads l taken_on done)
 
   -- two words written over two
-  both_written : (lent : List ℕ) → length lent ≡ 2 → room_words (Slots needed (free_count p)) lent ≡ needed ∷ free_count p ∷ []
+  both_written : (lent : List ℕ) → length lent ≡ 2 → room_words (Ok (room_of needed (free_count p))) lent ≡ needed ∷ free_count p ∷ []
   unfolding room_words
   both_written [] h = absurd (omega arith)
   both_written (a ∷ []) h = absurd (omega arith)
@@ -160,11 +158,11 @@ module _ (l : Lent) (o : Left) (k : Allowed l o) (z : o.number ≡ pos 0) (done 
   both_written (a ∷ b ∷ c ∷ lent) h = absurd (omega arith)
 
   module _ (a : Asking p r) where
-    asked_is : insert_room (words p) (rect_of a.rect) ≡ Slots needed (free_count p)
+    asked_is : insert_room (words p) (rect_of a.rect) ≡ Ok (room_of needed (free_count p))
     asked_is = ap (insert_room (words p)) a.of_record_lem ∙ room_is
 
     slots_are : a.slots ≡ needed ∷ free_count p ∷ []
-    slots_are = a.allowed.written ∙ ap (λ (x : InsertRoom). room_words x a.lent) asked_is ∙ both_written a.lent a.two
+    slots_are = a.allowed.written ∙ ap (λ (x : RoomTold). room_words x a.lent) asked_is ∙ both_written a.lent a.two
 
     needed_is : get_or a.slots 0 0 ≡ needed
     needed_is = ap (λ (ns : List ℕ). get_or ns 0 0) slots_are

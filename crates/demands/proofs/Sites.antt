@@ -3,19 +3,20 @@
 use mathlib.Core.Path.{◌≡◌, refl, sym, ap, subst, ◌∙◌}
 use mathlib.Core.Bool.{Bool, true, not, ◌&&◌}
 use mathlib.Core.List.{List, [], ◌∷◌, ◌++◌}
-use mathlib.Core.Option.{Option, none, some}
+use Rattle.std.specs.Prelude.{Option, None, Some, Ok, Err}
 use Prim.Native.Nat.{ℕ, suc}
 use lib.ListN.{length, length-append}
 use lib.Dec.{ltb}
 use Rattle.rules.specs.declared.Rect.{Rect}
 use Rattle.rules.specs.declared.Owner.{Owner}
 use Rattle.rules.specs.declared.FoundRecord.{FoundRecord}
-use Rattle.rules.specs.declared.Reply.TheVariants.{Listed, BadRectangle, NoRoom}
+use Rattle.rules.specs.declared.Accepted.TheVariants.{Listed}
+use Rattle.rules.specs.declared.RequestFault.TheVariants.{BadRectangle, NoRoom}
 use Rattle.rules.specs.declared.Request.{Request}
 use Rattle.rules.specs.declared.Asked.{Asked}
 use Rattle.rules.specs.declared.Asked.TheVariants.{Search}
 use Rattle.rules.specs.declared.Mode.TheVariants.{Meeting, OnlyInside}
-use Rattle.rules.specs.declared.Verdict.{Verdict}
+use Rattle.rules.specs.declared.CallFault.{CallFault}
 use Rattle.rules.specs.Lists.{every}
 use Rattle.rules.specs.Owners.{nobody}
 use Rattle.rules.specs.Geometry.{valid}
@@ -41,8 +42,8 @@ use Rattle.demands.proofs.Unasked.{next_after}
 turn_by : Pool → ℕ → ℕ → Rect → List FoundRecord → Turn
 turn_by p filled room window fs =
     elim (first_row (row (not (valid window)) BadRectangle ∷ row (ltb room (length fs)) (NoRoom (length fs) (opened p window)) ∷ [])) [
-      | some reply ↦ turn p reply []
-      | none ↦ turn p (Listed (length fs) filled (opened p window)) fs
+      | Some fault ↦ turn p (Err fault) []
+      | None ↦ turn p (Ok (Listed (length fs) filled (opened p window))) fs
     ]
 
 same_turn : (p : Pool) → Whole p → (w : Owner) (filled room : ℕ)
@@ -50,12 +51,12 @@ same_turn : (p : Pool) → Whole p → (w : Owner) (filled room : ℕ)
 unfolding request search_fault turn_by
 same_turn p h w filled room = ap (turn_by p filled room whole_site) (whole_site_lem p h w)
 
-request_is : (w : Owner) (x : Request) (a : Asked) → asked w x ≡ some a → is_request x ≡ true
+request_is : (w : Owner) (x : Request) (a : Asked) → asked w x ≡ Some a → is_request x ≡ true
 request_is w x a e = go (asked nobody x) refl
   where
     go : (y : Option Asked) → asked nobody x ≡ y → is_request x ≡ true
-    go none h = absurd (subst (EachGiven (λ b. ⊥)) (sym (none_for nobody w x h) ∙ e) tt)
-    go (some b) h = unfold is_request in rw (h, is_request)
+    go None h = absurd (subst (EachGiven (λ b. ⊥)) (sym (none_for nobody w x h) ∙ e) tt)
+    go (Some b) h = unfold is_request in rw (h, is_request)
 
 same_every : (q s : Request) → is_request q ≡ true → is_request s ≡ true → (done rest : List Request)
     → every is_request (done ++ q ∷ rest) ≡ every is_request (done ++ s ∷ rest)
@@ -64,8 +65,8 @@ same_every q s a b [] rest = rw (a, b)
 same_every q s a b (x ∷ done) rest = ap (λ (t : Bool). is_request x && t) (same_every q s a b done rest)
 
 module _ (l : Lent) (done : List Request) (q s : Request) (rest : List Request) (all : l.requests ≡ done ++ q ∷ rest)
-    (inside : asked (batch_owner l) q ≡ some (Search (batch_owner l) OnlyInside whole_site))
-    (meeting : asked (batch_owner l) s ≡ some (Search (batch_owner l) Meeting whole_site)) where
+    (inside : asked (batch_owner l) q ≡ Some (Search (batch_owner l) OnlyInside whole_site))
+    (meeting : asked (batch_owner l) s ≡ Some (Search (batch_owner l) Meeting whole_site)) where
   abbrev other : Lent
   other = with_requests l (done ++ s ∷ rest) l.answers
 
@@ -79,7 +80,7 @@ module _ (l : Lent) (done : List Request) (q s : Request) (rest : List Request) 
       are : every is_request l.requests ≡ every is_request (done ++ s ∷ rest)
       are = ap (every is_request) all ∙ same_every q s (request_is (batch_owner l) q _ inside) (request_is (batch_owner l) s _ meeting) done rest
 
-  module _ (fine : call_fault l ≡ none) where
+  module _ (fine : call_fault l ≡ None) where
     abbrev so_far : Batch
     so_far = after l done
 
@@ -98,9 +99,9 @@ module _ (l : Lent) (done : List Request) (q s : Request) (rest : List Request) 
   unfolding call refused served starting batch_owner
   same_call = go (call_fault l) refl
     where
-      go : (o : Option Verdict) → call_fault l ≡ o → call l ≡ call other
-      go (some v) h = call_by_refused ours l v h ∙ sym (call_by_refused ours other v (sym same_fault ∙ h))
-      go none h = call_by_served ours l h ∙ ap served (same_batch h) ∙ sym (call_by_served ours other (sym same_fault ∙ h))
+      go : (o : Option CallFault) → call_fault l ≡ o → call l ≡ call other
+      go (Some v) h = call_by_refused ours l v h ∙ sym (call_by_refused ours other v (sym same_fault ∙ h))
+      go None h = call_by_served ours l h ∙ ap served (same_batch h) ∙ sym (call_by_served ours other (sym same_fault ∙ h))
 
   -- whatever is lent, all that comes back is the same
   pub planners_site : (o x : Left) → Allowed l o → Allowed other x → o ≡ x

@@ -13,11 +13,12 @@ use Rattle.rules.specs.Computed.{document02}
 use Rattle.rules.specs.declared.Rect.{Rect}
 use Rattle.rules.specs.declared.Query.{Query}
 use Rattle.rules.specs.declared.Query.TheVariants.{Point, Box, Disc}
-use Rattle.rules.specs.declared.Surveyed.{Surveyed}
-use Rattle.rules.specs.declared.Surveyed.TheVariants.{Rounded, BadSurvey}
+use Rattle.rules.specs.Survey.{Surveyed}
+use Rattle.std.specs.Prelude.{Ok, Err}
+use Rattle.rules.specs.declared.SurveyFault.TheVariants.{BadSurvey}
 use Rattle.rules.specs.Compare.{wanted}
 use Rattle.rules_laws.proofs.Compares.{meeting_is}
-use Rattle.rules.specs.Survey.{point_box, query_window, survey_number, survey_words, HoldsBox}
+use Rattle.rules.specs.Survey.{point_box, query_window, survey_fault_number, survey_number, survey_words, HoldsBox}
 use Rattle.survey_laws.specs.Queries.{OfDoubles}
 use Rattle.survey_laws.proofs.Boxes.{box_rounded}
 use Rattle.survey_laws.proofs.Discs.{disc_held, disc_near}
@@ -25,20 +26,20 @@ use Rattle.survey_laws.proofs.Surveys.{box_held, window_valid, none_missed}
 use Rattle.promises.specs.Surveys.{Converts}
 use Rattle.demands.specs.Surveys.{Shown, exact_query, NearQuery, Surveys}
 
-query_holds : (q : Query) → OfDoubles q → (r : Rect) → query_window q ≡ Rounded r → HoldsBox (exact_query q) r
+query_holds : (q : Query) → OfDoubles q → (r : Rect) → query_window q ≡ Ok r → HoldsBox (exact_query q) r
 unfolding query_window
 query_holds (Point x y) h r e = box_held (point_box x y) r e
 query_holds (Box b) h r e = box_held b r e
 query_holds (Disc x y radius) h r e = disc_held x y radius h r e
 
-query_near : (q : Query) → OfDoubles q → (r : Rect) → query_window q ≡ Rounded r → NearQuery q r
+query_near : (q : Query) → OfDoubles q → (r : Rect) → query_window q ≡ Ok r → NearQuery q r
 unfolding query_window
 query_near (Point x y) h r e = box_rounded (point_box x y) r e
 query_near (Box b) h r e = box_rounded b r e
 query_near (Disc x y radius) h r e = disc_near x y radius h r e
 
 -- four words written over four
-over_four : (r : Rect) (lent : List ℤ) → length lent ≡ 4 → survey_words (Rounded r) lent ≡ r.lowX ∷ r.lowY ∷ r.highX ∷ r.highY ∷ []
+over_four : (r : Rect) (lent : List ℤ) → length lent ≡ 4 → survey_words (Ok r) lent ≡ r.lowX ∷ r.lowY ∷ r.highX ∷ r.highY ∷ []
 unfolding survey_words
 over_four r (a ∷ b ∷ c ∷ d ∷ []) h = refl
 over_four r [] h = absurd (omega arith)
@@ -55,8 +56,8 @@ not_both e = absurd (apart (ap mag e))
 
 module _ (q : Query) (h : OfDoubles q) (lent : List ℤ) (four : length lent ≡ 4) (n : ℤ) (words : List ℤ) (c : Converts (query_window q) lent n words) where
   by_window : (w : Surveyed) → query_window q ≡ w → Surveys q lent n words
-  unfolding survey_number survey_words wanted
-  by_window (Rounded r) e =
+  unfolding survey_number survey_fault_number survey_words wanted
+  by_window (Ok r) e =
       let number : n ≡ pos 0 = c.number ∙ ap survey_number e in
       record {
         either = inl number;
@@ -70,7 +71,7 @@ module _ (q : Query) (h : OfDoubles q) (lent : List ℤ) (four : length lent ≡
         };
         refused = λ z. not_both (sym number ∙ z);
       }
-  by_window BadSurvey e =
+  by_window (Err BadSurvey) e =
       let number : n ≡ pos 12 = c.number ∙ ap survey_number e in
       record {
         either = inr number;

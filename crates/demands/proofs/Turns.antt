@@ -1,17 +1,18 @@
 -- One request: what is refused leaves the pool, and what is accepted is what document 01 defines. By its table, for each kind alike.
+use Rattle.std.specs.Prelude.{Ok, Err}
 use mathlib.Core.Path.{◌≡◌, refl}
 use mathlib.Core.Bool.{Bool, true, false}
 use mathlib.Core.List.{[]}
 use Prim.Native.Nat.{ℕ}
 use lib.ListN.{length}
 use lib.Dec.{eqb}
+use Rattle.rules.specs.declared.RequestFault.{RequestFault}
 use Rattle.rules.specs.declared.Rect.{Rect}
 use Rattle.rules.specs.declared.Mode.{Mode}
 use Rattle.rules.specs.declared.Owner.{Owner}
 use Rattle.rules.specs.declared.Asked.{Asked}
 use Rattle.rules.specs.declared.Asked.TheVariants.{Insert, Delete, Update, Search}
-use Rattle.rules.specs.declared.Reply.{Reply}
-use Rattle.rules.specs.declared.Reply.TheVariants.{Changed, Listed}
+use Rattle.rules.specs.declared.Accepted.TheVariants.{Changed, Listed}
 use Rattle.rules.specs.Pool.{Pool}
 use Rattle.rules.specs.Search.{found, opened}
 use Rattle.rules.specs.Insert.{ours, Change, Done, NoneFree, insert_record}
@@ -27,7 +28,7 @@ abbrev Finds : Pool → ℕ → Asked → Turn → Type 0
 Finds p filled (Insert r) t = Unit {0}
 Finds p filled (Delete r) t = Unit {0}
 Finds p filled (Update old new) t = Unit {0}
-Finds p filled (Search o mode window) t = t ≡ turn p (Listed (length (found p o mode window)) filled (opened p window)) (found p o mode window)
+Finds p filled (Search o mode window) t = t ≡ turn p (Ok (Listed (length (found p o mode window)) filled (opened p window))) (found p o mode window)
 
 -- a request is refused, and changes and lists nothing, or accepted and done
 pub record Either (p : Pool) (filled : ℕ) (a : Asked) (t : Turn) : Type 0 where
@@ -35,16 +36,16 @@ pub record Either (p : Pool) (filled : ℕ) (a : Asked) (t : Turn) : Type 0 wher
   pub accepted : eqb (answer_of t.reply).number 0 ≡ true → Accepted p a t.pool × Finds p filled a t
 
 module _ (p : Pool) (filled : ℕ) where
-  refused_either : (a : Asked) (reply : Reply) → Refused reply → Either p filled a (turn p reply [])
-  refused_either a reply h = record { refused = λ n. (refl, refl); accepted = λ y. never_both y h }
+  refused_either : (a : Asked) (fault : RequestFault) → Refused fault → Either p filled a (turn p (Err fault) [])
+  refused_either a fault h = record { refused = λ n. (refl, refl); accepted = λ y. never_both y h }
 
   changes : (a : Asked) (o : Change) → ((q : Pool) → o ≡ Done q → (t : Turn) → Accepted p a q × Finds p filled a t) → Either p filled a (after_change p o)
   unfolding after_change answer_of
-  changes a (Done q) h = record { refused = λ n. never_both refl n; accepted = λ y. h q refl (turn q Changed []) }
+  changes a (Done q) h = record { refused = λ n. never_both refl n; accepted = λ y. h q refl (turn q (Ok Changed) []) }
   changes a NoneFree h = record { refused = λ n. (refl, refl); accepted = λ y. never_both y refl }
 
   lists : (o : Owner) (mode : Mode) (window : Rect)
-      → Either p filled (Search o mode window) (turn p (Listed (length (found p o mode window)) filled (opened p window)) (found p o mode window))
+      → Either p filled (Search o mode window) (turn p (Ok (Listed (length (found p o mode window)) filled (opened p window))) (found p o mode window))
   unfolding answer_of
   lists o mode window = record { refused = λ n. never_both refl n; accepted = λ y. (refl, refl) }
 

@@ -3,7 +3,7 @@
 use mathlib.Core.Path.{◌≡◌, refl, sym, ap, ap₂, subst, ◌∙◌}
 use mathlib.Core.Bool.{true, false, not, ◌||◌}
 use mathlib.Core.List.{List, [], ◌∷◌, ◌++◌}
-use mathlib.Core.Option.{Option, none, some}
+use Rattle.std.specs.Prelude.{Option, None, Some}
 use Prim.Native.Nat.{ℕ, suc, ◌+◌, ◌-◌, ◌≤◌}
 use native.Mathlib.Omega.{arith}
 use lib.ListN.{length, set, take, drop, length-append}
@@ -14,7 +14,7 @@ use Rattle.rules.specs.declared.Owner.{Owner}
 use Rattle.rules.specs.declared.Request.{Request}
 use Rattle.rules.specs.declared.Asked.{Asked}
 use Rattle.rules.specs.declared.Answer.{Answer}
-use Rattle.rules.specs.declared.Verdict.TheVariants.{BadLists, BadOwner, BadLength, NotSound, NoRequest}
+use Rattle.rules.specs.declared.CallFault.TheVariants.{BadLists, BadOwner, BadLength, NotSound, NoRequest}
 use Rattle.rules.specs.Lists.{every}
 use Rattle.rules.specs.Numbers.{most_requests, good_owner}
 use Rattle.rules.specs.Layout.{valid_length}
@@ -61,8 +61,8 @@ bare b = record { owner = b.owner; pool = b.pool; answers = []; found = b.found;
 
 step_bare : (i j : ℕ) (b : Batch) (o : Option Asked) → bare (do_request ours i b o) ≡ do_request ours j (bare b) o
 unfolding do_request after_turn
-step_bare i j b none = refl
-step_bare i j b (some a) = refl
+step_bare i j b None = refl
+step_bare i j b (Some a) = refl
 
 all_bare : (i j : ℕ) (qs : List Request) (b : Batch) → bare (do_requests ours i qs b) ≡ do_requests ours j qs (bare b)
 unfolding do_requests
@@ -77,8 +77,8 @@ same_bare i j qs b d e = all_bare i 0 qs b ∙ ap (do_requests ours 0 qs) e ∙ 
 -- ---- the answers, one after another
 
 pub answer_by : Batch → Option Asked → Answer
-answer_by b none = no_answer
-answer_by b (some a) = answer_of (request ours b.pool b.filled (length b.found - b.filled) a).reply
+answer_by b None = no_answer
+answer_by b (Some a) = answer_of (request ours b.pool b.filled (length b.found - b.filled) a).reply
 
 pub all_answers : List Request → Batch → List Answer
 all_answers [] b = []
@@ -91,8 +91,8 @@ answers_many (q ∷ qs) b = ap suc (answers_many qs (do_request ours 0 b (asked 
 
 one_same : (b : Batch) (o : Option Asked) → answer_by b o ≡ answer_by (bare b) o
 unfolding answer_by
-one_same b none = refl
-one_same b (some a) = refl
+one_same b None = refl
+one_same b (Some a) = refl
 
 answers_bare : (qs : List Request) (b : Batch) → all_answers qs b ≡ all_answers qs (bare b)
 unfolding all_answers
@@ -120,7 +120,7 @@ answers_parts i (x ∷ xs) ys b =
 
 -- ---- they are what the batch leaves
 
-some_written : (i : ℕ) (b : Batch) (a : Asked) → (do_request ours i b (some a)).answers ≡ set b.answers i (answer_by b (some a))
+some_written : (i : ℕ) (b : Batch) (a : Asked) → (do_request ours i b (Some a)).answers ≡ set b.answers i (answer_by b (Some a))
 unfolding do_request after_turn answer_by
 some_written i b a = refl
 
@@ -145,7 +145,7 @@ module _ {A : Type 0} where
 
 -- ---- a call that is not refused
 
-module _ (l : Lent) (fine : call_fault l ≡ none) where
+module _ (l : Lent) (fine : call_fault l ≡ None) where
   abbrev rows : Type 0
   rows = (ltb most_requests (length l.requests) ≡ false) × (good_owner l.owner ≡ true)
       × ((not (valid_length l.pool) || not (eqb (length l.workspace) (length l.pool))) ≡ false) × (not (sound l.pool) ≡ false) × (every is_request l.requests ≡ true)
@@ -168,9 +168,9 @@ module _ (l : Lent) (fine : call_fault l ≡ none) where
       ∙ sets_all l.answers (all_answers l.requests (starting l)) (answers_many l.requests (starting l) ∙ sym (answers_long ours l fine))
 
 -- .. and so does one with fewer requests
-module _ (l : Lent) (fine : call_fault l ≡ none) where
+module _ (l : Lent) (fine : call_fault l ≡ None) where
   fewer_fine : (qs : List Request) (answers : List Answer) → length qs ≤ length l.requests → every is_request qs ≡ true
-      → length answers ≡ length qs → call_fault (with_requests l qs answers) ≡ none
+      → length answers ≡ length qs → call_fault (with_requests l qs answers) ≡ None
   unfolding call_fault
   fewer_fine qs answers few are long =
       let lists : (ltb most_requests (length qs) || not (eqb (length answers) (length qs))) ≡ false =
@@ -183,7 +183,7 @@ module _ (l : Lent) (fine : call_fault l ≡ none) where
   -- ---- .. the call with the first of its requests
 
   module _ (done rest : List Request) (all : l.requests ≡ done ++ rest) (answers : List Answer) (long : length answers ≡ length done) where
-    pub first_fine : call_fault (with_requests l done answers) ≡ none
+    pub first_fine : call_fault (with_requests l done answers) ≡ None
     first_fine =
         fewer_fine done answers (omega (arith, ap length all, length-append done rest))
         (every_first is_request done rest (rw all at (passed l fine).4)) long
@@ -199,12 +199,12 @@ module _ (l : Lent) (fine : call_fault l ≡ none) where
     abbrev less : Lent
     less = with_requests l (done ++ rest) answers
 
-    pub less_fine : call_fault less ≡ none
+    pub less_fine : call_fault less ≡ None
     less_fine =
         fewer_fine (done ++ rest) answers (omega (arith, ap length all, length-append done (q ∷ rest), length-append done rest))
         (every_less is_request done q rest (rw all at (passed l fine).4)).1 long
 
-    pub less_asked : (a : Asked) × (asked (batch_owner l) q ≡ some a)
+    pub less_asked : (a : Asked) × (asked (batch_owner l) q ≡ Some a)
     less_asked = asks_something (batch_owner l) q (every_less is_request done q rest (rw all at (passed l fine).4)).0
 
     less_start : bare (starting l) ≡ bare (starting less)

@@ -1,6 +1,5 @@
 -- The customer's three demands, about every outcome that the promise of `dustmap_call` and `dustmap_call_as` allows, for a batch of any owner.
-use Rattle.std.specs.Prelude.{◌≡◌, ◌≢◌, ◌⊎◌, true, List, [], ◌∷◌, ◌++◌, map, ℕ, suc, ◌+◌, ◌-◌, ◌≤◌, length, get_or, take, drop, pos}
-use Rattle.std.proofs.Math.Option.{none, some}
+use Rattle.std.specs.Prelude.{◌≡◌, ◌≢◌, ◌⊎◌, true, List, [], ◌∷◌, ◌++◌, map, ℕ, suc, ◌+◌, ◌-◌, ◌≤◌, length, get_or, take, drop, pos, None, Some}
 use Rattle.std.proofs.Math.Seq.{slice}
 use Rattle.rules.specs.declared.Rect.{Rect}
 use Rattle.rules.specs.declared.Mode.{Mode}
@@ -11,7 +10,7 @@ use Rattle.rules.specs.declared.Request.{Request}
 use Rattle.rules.specs.declared.Asked.{Asked}
 use Rattle.rules.specs.declared.Asked.TheVariants.{Insert, Delete, Update, Search}
 use Rattle.rules.specs.declared.Answer.{Answer}
-use Rattle.rules.specs.declared.Verdict.{Verdict}
+use Rattle.rules.specs.declared.CallFault.{CallFault}
 use Rattle.rules.specs.Lists.{those}
 use Rattle.rules.specs.Owners.{as_found}
 use Rattle.rules.specs.Geometry.{valid}
@@ -20,7 +19,7 @@ use Rattle.rules.specs.Layout.{words}
 use Rattle.rules.specs.Search.{ordered, reported}
 use Rattle.rules.specs.Insert.{ours, Done, insert_record}
 use Rattle.rules.specs.Delete.{delete_record, update_record}
-use Rattle.rules.specs.Answers.{answer, answer_of, verdict_number}
+use Rattle.rules.specs.Answers.{answer, answer_of, call_fault_number}
 use Rattle.rules.specs.Request.{Turn, asked, request}
 use Rattle.rules.specs.Call.{Lent, Left, Batch, call_fault, do_requests, batch_owner, starting}
 use Rattle.search_laws.specs.Window.{own_wanted}
@@ -80,20 +79,20 @@ pub record SameWithout (n : ℕ) (o x : Left) : Type 0 where
 
 -- a request of an owner that is refused by its answer, or is a search
 abbrev pub NoChange : Owner → Request → Answer → Type 0
-NoChange w q told = (told.number ≢ 0) ⊎ ((mode : Mode) × (window : Rect) × (asked w q ≡ some (Search w mode window)))
+NoChange w q told = (told.number ≢ 0) ⊎ ((mode : Mode) × (window : Rect) × (asked w q ≡ Some (Search w mode window)))
 
 pub record Refuses (l : Lent) (o : Left) : Type 0 where
   -- "Bad input gets the numbered refusal of document 01 under exactly the conditions given there.": a call is refused by the first row of its
   -- table that applies, and "writes nothing at all"
-  pub refused : (v : Verdict) → call_fault l ≡ some v → (o.number ≡ verdict_number v) × Untouched l o
+  pub refused : (v : CallFault) → call_fault l ≡ Some v → (o.number ≡ call_fault_number v) × Untouched l o
   -- "Otherwise the call returns 0"
-  pub served : call_fault l ≡ none → o.number ≡ pos 0
+  pub served : call_fault l ≡ None → o.number ≡ pos 0
   -- "each request is done in turn .. and its answer goes to the same place in the answer list": each is answered by the first row of its own table that applies; otherwise it is accepted
   pub each : o.number ≡ pos 0 → (done : List Request) (q : Request) (rest : List Request) → l.requests ≡ done ++ q ∷ rest
-      → (a : Asked) → asked (batch_owner l) q ≡ some a → answer_after o done ≡ answer_of (turn_after l done a).reply
+      → (a : Asked) → asked (batch_owner l) q ≡ Some a → answer_after o done ≡ answer_of (turn_after l done a).reply
   -- "A refused change leaves the pool as it found it.": the next request finds the same pool
   pub kept : o.number ≡ pos 0 → (done : List Request) (q : Request) (rest : List Request) → l.requests ≡ done ++ q ∷ rest
-      → (a : Asked) → asked (batch_owner l) q ≡ some a → (answer_after o done).number ≢ 0 → (after l (done ++ q ∷ [])).pool ≡ (after l done).pool
+      → (a : Asked) → asked (batch_owner l) q ≡ Some a → (answer_after o done).number ≢ 0 → (after l (done ++ q ∷ [])).pool ≡ (after l done).pool
   -- .. and what comes back is what comes back of the call without it
   pub unasked : o.number ≡ pos 0 → (done : List Request) (q : Request) (rest : List Request) → l.requests ≡ done ++ q ∷ rest
       → (answer_after o done).number ≢ 0 → (answers : List Answer) → length answers ≡ length (done ++ rest)
@@ -125,11 +124,11 @@ pub record Does (l : Lent) (o : Left) : Type 0 where
   -- "Each accepted insert, delete and update leaves the pool that Guttman's algorithms leave, with quadratic split and document 01's tie and
   -- slot rules."
   pub each : (done : List Request) (q : Request) (rest : List Request) → l.requests ≡ done ++ q ∷ rest
-      → (a : Asked) → asked (batch_owner l) q ≡ some a
+      → (a : Asked) → asked (batch_owner l) q ≡ Some a
       → (answer_after o done).number ≡ 0 → Accepted (after l done).pool a (after l (done ++ q ∷ [])).pool
   -- "Each accepted search lists exactly the stored records whose rectangle meets the window."; Req 01: "demands 2 and 3 read the found list by mode"
   pub lists : (done : List Request) (q : Request) (rest : List Request) → l.requests ≡ done ++ q ∷ rest
-      → (mode : Mode) (window : Rect) → asked (batch_owner l) q ≡ some (Search (batch_owner l) mode window) → (answer_after o done).number ≡ 0
+      → (mode : Mode) (window : Rect) → asked (batch_owner l) q ≡ Some (Search (batch_owner l) mode window) → (answer_after o done).number ≡ 0
       → Lists (after l done).pool (batch_owner l) mode window (filled_then l o done) (answer_after o done) o.found
   -- "places beyond stay": after the last place that a search filled, the found list is as it was lent
   pub beyond : drop (filled_then l o l.requests) o.found ≡ drop (filled_then l o l.requests) l.found
@@ -154,7 +153,7 @@ pub record Shows (steps : List Step) (l : Lent) (o : Left) : Type 0 where
   -- owners', and its opened count is for edition 1": what is shown, and what there is to be room for, are the records of the batch's owner; the
   -- height is by all
   pub each : (done : List Request) (q : Request) (rest : List Request) → l.requests ≡ done ++ q ∷ rest
-      → (mode : Mode) (window : Rect) → asked (batch_owner l) q ≡ some (Search (batch_owner l) mode window) → valid window ≡ true
+      → (mode : Mode) (window : Rect) → asked (batch_owner l) q ≡ Some (Search (batch_owner l) mode window) → valid window ≡ true
       → how_many_wanted (batch_owner l) mode window (force_then steps l o done) ≤ length l.found - filled_then l o done
       → Told (after l done).pool (force_then steps l o done) (filled_then l o done) (batch_owner l) mode window (length done) o.answers o.found
   -- .. with n records and height h, h is 1 or 2·3^(h-1) ≤ n.": after each request of each call, and before the first

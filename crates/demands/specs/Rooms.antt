@@ -1,6 +1,5 @@
 -- Req 06, about every outcome that the promises of `dustmap_call` and `dustmap_room` allow.
-use Rattle.std.specs.Prelude.{◌≡◌, ◌≢◌, ◌↔◌, true, false, List, [], ◌∷◌, ◌++◌, ℕ, suc, ◌+◌, ◌≤◌, ◌<◌, length, get_or, ℤ, pos}
-use Rattle.std.proofs.Math.Option.{some}
+use Rattle.std.specs.Prelude.{◌≡◌, ◌≢◌, ◌↔◌, true, false, List, [], ◌∷◌, ◌++◌, ℕ, suc, ◌+◌, ◌≤◌, ◌<◌, length, get_or, ℤ, pos, Some}
 use Rattle.rules.specs.declared.Record.{Record}
 use Rattle.rules.specs.declared.Request.{Request}
 use Rattle.rules.specs.declared.Asked.TheVariants.{Insert}
@@ -59,9 +58,9 @@ pub record ToldBefore {p : Pool} {r : Record} (a : Asking p r) (told : Answer) :
 -- as it is at that moment. (`(after l done).pool` is the pool that comes back of the call with the requests before it alone: `before` of `Does`)
 pub record KnownBefore (l : Lent) (o : Left) : Type 0 where
   pub fits : (done : List Request) (q : Request) (rest : List Request) → l.requests ≡ done ++ q ∷ rest
-      → (r : Record) → asked (batch_owner l) q ≡ some (Insert r)
+      → (r : Record) → asked (batch_owner l) q ≡ Some (Insert r)
       → OtherwiseAcceptable (after l done).pool r → Fitting (after l done).pool r (answer_after o done) (after l (done ++ q ∷ [])).pool
   -- .. and `dustmap_room` tells it
   pub told : (done : List Request) (q : Request) (rest : List Request) → l.requests ≡ done ++ q ∷ rest
-      → (r : Record) → asked (batch_owner l) q ≡ some (Insert r)
+      → (r : Record) → asked (batch_owner l) q ≡ Some (Insert r)
       → OtherwiseAcceptable (after l done).pool r → (a : Asking (after l done).pool r) → ToldBefore a (answer_after o done)

@@ -1,7 +1,6 @@
 -- A history of one pool: from a blank pool of an edition on it is lent to calls of any owner, blanked again, and read from files, with requests and
 -- files accepted and refused, and with workspaces and lists of any content; and the pairs in force after it. There is no tree here.
-use Rattle.std.specs.Prelude.{◌≡◌, true, false, List, [], ◌∷◌, ℕ, ℤ, pos}
-use Rattle.std.proofs.Math.Option.{none, some}
+use Rattle.std.specs.Prelude.{◌≡◌, true, false, List, [], ◌∷◌, ℕ, ℤ, pos, None, Some}
 use Rattle.rules.specs.declared.Edition.{Edition}
 use Rattle.rules.specs.declared.Record.{Record}
 use Rattle.rules.specs.Lists.{same}
@@ -41,7 +40,7 @@ History e n (Read edition rule u file o ∷ steps) =
 
 -- the records of a file, by the edition that the numbers tell
 unfoldable pub records_told : ℤ → ℤ → List ℕ → List Record
-records_told edition rule file = elim (edition_told edition rule) [ none ↦ [] | some e ↦ file_records e file ]
+records_told edition rule file = elim (edition_told edition rule) [ None ↦ [] | Some e ↦ file_records e file ]
 
 -- "A pair is in force from an accepted insert of it, or update to it, until an accepted delete of it, or update to another.": the pairs in
 -- force after the steps, by requests and answers. A pool that is blanked holds none; a call that is refused does no request; after a file that

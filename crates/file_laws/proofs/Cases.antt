@@ -2,7 +2,7 @@
 use mathlib.Core.Path.{◌≡◌, refl, sym, subst}
 use mathlib.Core.Bool.{Bool, true, false, not, ◌||◌}
 use mathlib.Core.List.{List}
-use mathlib.Core.Option.{Option, none, some}
+use Rattle.std.specs.Prelude.{Option, None, Some}
 use Prim.Native.Nat.{ℕ, ◌-◌, ◌≤◌}
 use lib.ListN.{length}
 use lib.Seq.{sets}
@@ -49,7 +49,7 @@ pub record Writable (w : List ℤ) (buffer : List ℕ) : Type 0 where
   pub long : length (pool_file (read w)) ≤ length buffer
 
 module _ (w : List ℤ) (buffer : List ℕ) where
-  fault_none : write_fault w buffer ≡ none → Writable w buffer
+  fault_none : write_fault w buffer ≡ None → Writable w buffer
   unfolding write_fault
   fault_none h =
       let a = no_row _ _ _ h in
@@ -57,12 +57,12 @@ module _ (w : List ℤ) (buffer : List ℕ) where
       let c = no_row _ _ _ b.1 in
       record { right = not_false _ a.0; good = not_false _ b.0; long = ltb-false (length buffer) (length (pool_file (read w))) c.0 }
 
-  write_done : write_fault w buffer ≡ none
+  write_done : write_fault w buffer ≡ None
       → write_file w buffer ≡ record { number = pos 0; file = sets buffer 0 (pool_file (read w)); size = length (pool_file (read w)) }
   unfolding write_file
   write_done h = rw (write_file, h)
 
-  write_refused : (f : FileFault) → write_fault w buffer ≡ some f → write_file w buffer ≡ record { number = file_number f; file = buffer; size = 0 }
+  write_refused : (f : FileFault) → write_fault w buffer ≡ Some f → write_file w buffer ≡ record { number = file_number f; file = buffer; size = 0 }
   unfolding write_file
   write_refused f h = rw (write_file, h)
 
@@ -72,10 +72,10 @@ module _ (w : List ℤ) (buffer : List ℕ) where
   write_cases P refused done = go (write_fault w buffer) refl
     where
       go : (o : Option FileFault) → write_fault w buffer ≡ o → P (write_file w buffer)
-      go (some f) h = subst P (sym (write_refused f h)) (refused f)
-      go none h = subst P (sym (write_done h)) (done (fault_none h))
+      go (Some f) h = subst P (sym (write_refused f h)) (refused f)
+      go None h = subst P (sym (write_done h)) (done (fault_none h))
 
-  no_fault : Writable w buffer → write_fault w buffer ≡ none
+  no_fault : Writable w buffer → write_fault w buffer ≡ None
   unfolding write_fault first_row
   no_fault k = rw (k.right, k.good, le-ltb (length buffer) (length (pool_file (read w))) k.long)
 

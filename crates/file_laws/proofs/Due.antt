@@ -3,7 +3,7 @@
 use mathlib.Core.Path.{◌≡◌, refl, sym, ap, ◌∙◌}
 use mathlib.Core.Bool.{Bool, true, false, cond, ◌&&◌}
 use mathlib.Core.List.{List, [], ◌∷◌}
-use mathlib.Core.Option.{none, some}
+use Rattle.std.specs.Prelude.{None, Some}
 use Prim.Native.Nat.{ℕ, zero, suc, ◌+◌, ◌*◌, ◌-◌, ◌≤◌, ◌<◌}
 use native.Mathlib.Omega.{arith}
 use native.Mathlib.Nat.{sub-zero, zero-sub, suc-sub-suc}
@@ -66,12 +66,12 @@ module _ (k n b c : ℕ) (rest : List ℕ) where
   said = pair_value (b ∷ c ∷ [])
 
   -- what is due of a frame that is cut, and of a whole one
-  due_cut : frame_of said rest ≡ Cut → frame_due k n (b ∷ c ∷ rest) ≡ none
+  due_cut : frame_of said rest ≡ Cut → frame_due k n (b ∷ c ∷ rest) ≡ None
   unfolding frame_due next_frame
   due_cut e = rw (frame_due, e)
 
   due_whole : frame_of said rest ≡ Complete (whole_in said rest) (drop said rest) → (t : Bool) → of_kind (whole_in said rest) k n ≡ t
-      → frame_due k n (b ∷ c ∷ rest) ≡ cond t (some (record { words = word_values n (whole_in said rest).body; after = drop said rest })) none
+      → frame_due k n (b ∷ c ∷ rest) ≡ cond t (Some (record { words = word_values n (whole_in said rest).body; after = drop said rest })) None
   unfolding frame_due next_frame
   due_whole e true o = rw (frame_due, e, o)
   due_whole e false o = rw (frame_due, e, o)
@@ -90,36 +90,36 @@ module _ (k n b c : ℕ) (rest : List ℕ) where
   is_whole h l = rw (frame_of, le-leb 2 said h, le-leb said (length rest) l)
 
   -- it is cut, or another than the one due
-  none_due : (2 ≤ said → said ≤ length rest → of_kind (whole_in said rest) k n ≡ false) → frame_due k n (b ∷ c ∷ rest) ≡ none
+  none_due : (2 ≤ said → said ≤ length rest → of_kind (whole_in said rest) k n ≡ false) → frame_due k n (b ∷ c ∷ rest) ≡ None
   none_due h = go (dec_le 2 said) (dec_le said (length rest))
     where
-      go : Dec (2 ≤ said) → Dec (said ≤ length rest) → frame_due k n (b ∷ c ∷ rest) ≡ none
+      go : Dec (2 ≤ said) → Dec (said ≤ length rest) → frame_due k n (b ∷ c ∷ rest) ≡ None
       go (no l) m = due_cut (cut_small (omega arith))
       go (yes l) (no m) = due_cut (cut_long l (omega arith))
       go (yes l) (yes m) = due_whole (is_whole l m) false (h l m)
 
   -- of another length, or of another kind
-  none_by_length : (2 ≤ said → said ≤ length rest → said - 2 ≡ 4 * n → ⊥) → frame_due k n (b ∷ c ∷ rest) ≡ none
+  none_by_length : (2 ≤ said → said ≤ length rest → said - 2 ≡ 4 * n → ⊥) → frame_due k n (b ∷ c ∷ rest) ≡ None
   none_by_length h = none_due (λ l m. body_other (whole_in said rest) k n (λ e. h l m (sym (body_long said rest m) ∙ e)))
 
-  none_by_kind : (pair_value (take 2 rest) ≡ k → ⊥) → frame_due k n (b ∷ c ∷ rest) ≡ none
+  none_by_kind : (pair_value (take 2 rest) ≡ k → ⊥) → frame_due k n (b ∷ c ∷ rest) ≡ None
   none_by_kind h = none_due (λ l m. kind_other (whole_in said rest) k n h)
 
   -- the one due, with the bytes after it
   this_due : said ≡ 2 + 4 * n → said ≤ length rest → pair_value (take 2 rest) ≡ k
-      → frame_due k n (b ∷ c ∷ rest) ≡ some (record { words = word_values n (drop 2 rest); after = drop said rest })
+      → frame_due k n (b ∷ c ∷ rest) ≡ Some (record { words = word_values n (drop 2 rest); after = drop said rest })
   this_due l m e =
       due_whole (is_whole (omega arith) m) true (of_kind_lem (whole_in said rest) k n e (omega (arith, body_long said rest m)))
-      ∙ ap (λ (ws : List ℤ). some (record { words = ws; after = drop said rest })) (words_front n (said - 2) (drop 2 rest) (omega arith))
+      ∙ ap (λ (ws : List ℤ). Some (record { words = ws; after = drop said rest })) (words_front n (said - 2) (drop 2 rest) (omega arith))
 
 -- ---- no bytes, and one: no frame
 
 module _ (k n : ℕ) where
-  due_nothing : frame_due k n [] ≡ none
+  due_nothing : frame_due k n [] ≡ None
   unfolding frame_due next_frame
   due_nothing = refl
 
-  due_one : (b : ℕ) → frame_due k n (b ∷ []) ≡ none
+  due_one : (b : ℕ) → frame_due k n (b ∷ []) ≡ None
   unfolding frame_due next_frame
   due_one b = refl
 
@@ -137,23 +137,23 @@ due_in n bs = record { words = word_values n (drop 4 bs); after = drop (4 + 4 * 
 
 module _ (k n : ℕ) where
   -- each of the three, where it fails
-  pub due_short : (bs : List ℕ) → length bs < 4 + 4 * n → frame_due k n bs ≡ none
+  pub due_short : (bs : List ℕ) → length bs < 4 + 4 * n → frame_due k n bs ≡ None
   due_short [] h = due_nothing k n
   due_short (b ∷ []) h = due_one k n b
   due_short (b ∷ c ∷ rest) h = none_by_length k n b c rest (λ l m e. omega arith)
 
-  pub due_length : (bs : List ℕ) → (pair_value (take 2 bs) ≡ 2 + 4 * n → ⊥) → frame_due k n bs ≡ none
+  pub due_length : (bs : List ℕ) → (pair_value (take 2 bs) ≡ 2 + 4 * n → ⊥) → frame_due k n bs ≡ None
   due_length [] h = due_nothing k n
   due_length (b ∷ []) h = due_one k n b
   due_length (b ∷ c ∷ rest) h = none_by_length k n b c rest (λ l m e. h (omega arith))
 
-  pub due_kind : (bs : List ℕ) → (pair_value (take 2 (drop 2 bs)) ≡ k → ⊥) → frame_due k n bs ≡ none
+  pub due_kind : (bs : List ℕ) → (pair_value (take 2 (drop 2 bs)) ≡ k → ⊥) → frame_due k n bs ≡ None
   due_kind [] h = due_nothing k n
   due_kind (b ∷ []) h = due_one k n b
   due_kind (b ∷ c ∷ rest) h = none_by_kind k n b c rest h
 
   -- all three
-  pub due_is : (bs : List ℕ) → Stands k n bs → frame_due k n bs ≡ some (due_in n bs)
+  pub due_is : (bs : List ℕ) → Stands k n bs → frame_due k n bs ≡ Some (due_in n bs)
   due_is [] s = absurd (omega (arith, s.enough))
   due_is (b ∷ []) s = absurd (omega (arith, s.enough))
   due_is (b ∷ c ∷ rest) s =
@@ -163,7 +163,7 @@ module _ (k n : ℕ) where
 
 module _ (k n : ℕ) (bs : List ℕ) where
   by_tests : (h l e : Bool) → leb (4 + 4 * n) (length bs) ≡ h → eqb (pair_value (take 2 bs)) (2 + 4 * n) ≡ l
-      → eqb (pair_value (take 2 (drop 2 bs))) k ≡ e → frame_due k n bs ≡ cond (h && (l && e)) (some (due_in n bs)) none
+      → eqb (pair_value (take 2 (drop 2 bs))) k ≡ e → frame_due k n bs ≡ cond (h && (l && e)) (Some (due_in n bs)) None
   by_tests false l e p q r = due_short k n bs (leb-false (4 + 4 * n) (length bs) p)
   by_tests true false e p q r = due_length k n bs (eqb-false (pair_value (take 2 bs)) (2 + 4 * n) q)
   by_tests true true false p q r = due_kind k n bs (eqb-false (pair_value (take 2 (drop 2 bs))) k r)
@@ -177,15 +177,15 @@ module _ (k n : ℕ) (bs : List ℕ) where
   -- the reader's answer, as the code finds it
   pub due_places : frame_due k n bs
       ≡ cond (leb (4 + 4 * n) (length bs) && (eqb (pair_value (take 2 bs)) (2 + 4 * n) && eqb (pair_value (take 2 (drop 2 bs))) k))
-      (some (record { words = word_values n (drop 4 bs); after = drop (4 + 4 * n) bs })) none
+      (Some (record { words = word_values n (drop 4 bs); after = drop (4 + 4 * n) bs })) None
   due_places = by_tests _ _ _ refl refl refl
 
   -- a frame that is the one due stands there
-  pub due_stands : (d : Due) → frame_due k n bs ≡ some d → Stands k n bs × (due_in n bs ≡ d)
+  pub due_stands : (d : Due) → frame_due k n bs ≡ Some d → Stands k n bs × (due_in n bs ≡ d)
   due_stands d q =
       go (dec_le (4 + 4 * n) (length bs)) (ℕ_discrete (pair_value (take 2 bs)) (2 + 4 * n)) (ℕ_discrete (pair_value (take 2 (drop 2 bs))) k)
     where
-      not_none : frame_due k n bs ≡ none → Stands k n bs × (due_in n bs ≡ d)
+      not_none : frame_due k n bs ≡ None → Stands k n bs × (due_in n bs ≡ d)
       not_none e = absurd (let z : ◌≡◌ {A = ℕ} 0 1 = cc in omega arith)
 
       go : Dec (4 + 4 * n ≤ length bs) → Dec (pair_value (take 2 bs) ≡ 2 + 4 * n) → Dec (pair_value (take 2 (drop 2 bs)) ≡ k)

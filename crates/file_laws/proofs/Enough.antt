@@ -3,7 +3,7 @@
 use mathlib.Core.Path.{◌≡◌, refl, sym, ap, ◌∙◌}
 use mathlib.Core.Bool.{true}
 use mathlib.Core.List.{List, [], ◌∷◌, ◌++◌, map, append-nil, append_assoc}
-use mathlib.Core.Option.{Option, none, some}
+use Rattle.std.specs.Prelude.{Option, None, Some}
 use Prim.Native.Nat.{ℕ, suc, ◌+◌, ◌*◌, ◌≤◌, ◌<◌}
 use native.Mathlib.Omega.{arith}
 use lib.ListN.{length, length-replicate}
@@ -68,7 +68,7 @@ unfolding pair_words
 pair_words_lem ed r g n = let v = valid_words r.rect g.0 in (n, (v.lowX, (v.lowY, (v.highX, (v.highY, tt)))))
 
 record_due_lem : (ed : Edition) (r : Record) → GoodRecord ed r → NumberWord r → (rest : List ℕ)
-    → record_due ed (record_frame ed r ++ rest) ≡ some (record { words = record_words ed r; after = rest })
+    → record_due ed (record_frame ed r ++ rest) ≡ Some (record { words = record_words ed r; after = rest })
 unfolding record_frame record_kind record_words pair_words owner_sound
 record_due_lem One r g n rest = due_written 17 (pair_words r) rest (omega arith) (omega arith) (pair_words_lem One r g n)
 record_due_lem Two r g n rest =
@@ -79,7 +79,7 @@ unfolding record_in record_words pair_words rect_in word_at
 record_back One r s = λ i. record { owner = sym (nobody_is r s) i; number = r.number; rect = r.rect }
 record_back Two r s = refl
 
-end_due : frame_due 18 0 end_frame ≡ some (record { words = []; after = [] })
+end_due : frame_due 18 0 end_frame ≡ Some (record { words = []; after = [] })
 unfolding end_frame
 end_due = ap (frame_due 18 0) (sym (append-nil _)) ∙ due_written 18 [] [] (omega arith) (omega arith) tt
 
@@ -96,7 +96,7 @@ module _ (ed : Edition) where
       ap (λ (l : List ℕ). l ++ end_frame) (joined_more (record_frame ed) r rs) ∙ append_assoc (record_frame ed r) (joined (map (record_frame ed) rs)) end_frame
 
   next_due : (r : Record) (rs : List Record) → GoodRecord ed r → NumberWord r
-      → record_due ed (rest_of (r ∷ rs)) ≡ some (record { words = record_words ed r; after = rest_of rs })
+      → record_due ed (rest_of (r ∷ rs)) ≡ Some (record { words = record_words ed r; after = rest_of rs })
   next_due r rs g n = ap (record_due ed) (rest_more r rs) ∙ record_due_lem ed r g n (rest_of rs)
 
   pub records_back : (rs : List Record) → Each (GoodRecord ed) rs → Each NumberWord rs → records_from ed (length rs) (rest_of rs) ≡ rs
@@ -130,7 +130,7 @@ module _ (c : Choice) (lawful : Lawful c) (ed : Edition) where
       → Each (λ r. follows last r ≡ true) rs → length (stored p) + length rs ≤ 2 * length p.slots + 1
       → (q : Pool) × (load_records c ed (length rs) last p (rest_of ed rs) ≡ Loaded q)
   all_go_in [] last p w a g n f h =
-      let e : frame_due 18 0 (rest_of ed []) ≡ some (record { words = []; after = [] }) = ap (frame_due 18 0) (rest_none ed) ∙ end_due in
+      let e : frame_due 18 0 (rest_of ed []) ≡ Some (record { words = []; after = [] }) = ap (frame_due 18 0) (rest_none ed) ∙ end_due in
       (p, load_last c ed last p (rest_of ed []) ∙ S.end_here p (rest_of ed []) (record { words = []; after = [] }) e refl)
   all_go_in (r ∷ rs) last p w a g n f h =
       let d : Due = record { words = record_words ed r; after = rest_of ed rs } in
@@ -138,17 +138,17 @@ module _ (c : Choice) (lawful : Lawful c) (ed : Edition) where
       let q = i.0 in
       let pass = S.passes_fault ed last r (record { rect = g.0.0; number = g.0.1; owner = g.0.2; after = f.0 }) in
       let w2 = insert_whole c lawful p w r g.0.0 g.0.1 q i.1 in
-      let rest = all_go_in rs (some r) q w2 a.1 g.1 n.1 (unfold follows in a.0)
+      let rest = all_go_in rs (Some r) q w2 a.1 g.1 n.1 (unfold follows in a.0)
       (omega (arith, h, same_slots c p q r i.1, one_more p q w r g.0 i.1)) in
       let back = record_back ed r g.0.2 in (
         rest.0,
         S.load_next c ed (length rs) last p (rest_of ed (r ∷ rs)) d (next_due ed r rs g.0 n.0) (ap (record_fault ed last) back ∙ pass) q (ap (insert_record c p) back ∙ i.1)
-            ∙ ap (λ (x : Record). load_records c ed (length rs) (some x) q (rest_of ed rs)) back ∙ rest.1,
+            ∙ ap (λ (x : Record). load_records c ed (length rs) (Some x) q (rest_of ed rs)) back ∙ rest.1,
       )
 
   -- ---- a file
 
-  head_due : (n : ℕ) (rest : List ℕ) → n < 2147483648 → frame_due 16 2 (head_frame ed n ++ rest) ≡ some (record { words = pos (edition_number ed) ∷ pos n ∷ []; after = rest })
+  head_due : (n : ℕ) (rest : List ℕ) → n < 2147483648 → frame_due 16 2 (head_frame ed n ++ rest) ≡ Some (record { words = pos (edition_number ed) ∷ pos n ∷ []; after = rest })
   unfolding head_frame
   head_due n rest h =
       due_written 16 (pos (edition_number ed) ∷ pos n ∷ []) rest (omega arith) (omega arith) (edition_word ed, (record { small = h }, tt))
@@ -170,7 +170,7 @@ module _ (c : Choice) (lawful : Lawful c) (ed : Edition) where
     first : Due
     first = record { words = pos (edition_number ed) ∷ pos (length rs) ∷ []; after = rest_of ed rs }
 
-    due : frame_due 16 2 (file_bytes ed rs) ≡ some first
+    due : frame_due 16 2 (file_bytes ed rs) ≡ Some first
     unfolding first
     due = ap (frame_due 16 2) (file_parts rs) ∙ head_due (length rs) (rest_of ed rs) few
 
@@ -195,10 +195,10 @@ module _ (c : Choice) (lawful : Lawful c) (ed : Edition) where
     pub file_enough : (m : ℕ) → length rs ≤ 2 * suc m + 1 → (q : Pool) × (load_file c ed (blank_pool ed m) (file_bytes ed rs) ≡ Loaded q)
     unfolding first
     file_enough m h =
-        let all = all_go_in rs none (blank_pool ed m) (blank_holds ed m).whole k.ascending k.good n
-        (each_also (GoodRecord ed) (λ r. follows none r ≡ true) (λ r g. unfold follows in refl) rs k.good)
+        let all = all_go_in rs None (blank_pool ed m) (blank_holds ed m).whole k.ascending k.good n
+        (each_also (GoodRecord ed) (λ r. follows None r ≡ true) (λ r g. unfold follows in refl) rs k.good)
         (omega (arith, h, slots_are m, none_yet m)) in (
           all.0,
           S.head_good c ed (blank_pool ed m) (file_bytes ed rs) first due (head_right (length rs))
-              ∙ ap (λ (x : ℕ). load_records c ed x none (blank_pool ed m) (rest_of ed rs)) (head_many (length rs)) ∙ all.1,
+              ∙ ap (λ (x : ℕ). load_records c ed x None (blank_pool ed m) (rest_of ed rs)) (head_many (length rs)) ∙ all.1,
         )

@@ -3,7 +3,7 @@
 use mathlib.Core.Path.{◌≡◌, refl, sym, ap, subst, ◌∙◌}
 use mathlib.Core.Bool.{Bool, true}
 use mathlib.Core.List.{List, ◌∷◌}
-use mathlib.Core.Option.{Option, none, some}
+use Rattle.std.specs.Prelude.{Option, None, Some}
 use Prim.Native.Nat.{ℕ, zero, suc, ◌+◌}
 use native.Mathlib.Omega.{arith}
 use lib.ListN.{length}
@@ -52,10 +52,10 @@ nothing_took e p w last bs =
     }
 
 -- what follows a record that follows the last follows the last too
-follows_on : (last : Option Record) (r x : Record) → follows last r ≡ true → follows (some r) x ≡ true → follows last x ≡ true
+follows_on : (last : Option Record) (r x : Record) → follows last r ≡ true → follows (Some r) x ≡ true → follows last x ≡ true
 unfolding follows
-follows_on none r x a b = refl
-follows_on (some l) r x a b = file_on l r x a b
+follows_on None r x a b = refl
+follows_on (Some l) r x a b = file_on l r x a b
 
 -- an insert leaves as many slots
 pub same_slots : (c : Choice) (p q : Pool) (r : Record) → insert_record c p r ≡ Done q → length p.slots ≡ length q.slots
@@ -64,7 +64,7 @@ same_slots c p q r i = sym (subst (ChangeHas (length p.slots)) i (insert_has (le
 module _ (c : Choice) (lawful : Lawful c) (e : Edition) where
   -- one more in front of the others
   one_more : (p q s : Pool) (last : Option Record) (r : Record) (n : ℕ) (bs : List ℕ) → Whole p → Passes e last r → insert_record c p r ≡ Done q
-      → (d : Due) → record_due e bs ≡ some d → record_in e d.words ≡ r → Took e q (some r) n d.after s → Took e p last (suc n) bs s
+      → (d : Due) → record_due e bs ≡ Some d → record_in e d.words ≡ r → Took e q (Some r) n d.after s → Took e p last (suc n) bs s
   unfolding follows
   one_more p q s last r n bs w h i d due is t =
       let rest = records_from e n d.after in
@@ -86,7 +86,7 @@ module _ (c : Choice) (lawful : Lawful c) (e : Edition) where
           good = subst (Each (GoodRecord e)) (sym all) ((h.rect, h.number, h.owner), t.carriable.good);
         };
         after = subst (Each (λ x. follows last x ≡ true)) (sym all)
-            (h.after, each_among (λ x. follows last x ≡ true) rest (λ x m. follows_on last r x h.after (each_of (λ y. follows (some r) y ≡ true) t.after m)));
+            (h.after, each_among (λ x. follows last x ≡ true) rest (λ x m. follows_on last r x h.after (each_of (λ y. follows (Some r) y ≡ true) t.after m)));
       }
 
   pub load_takes : (n : ℕ) (last : Option Record) (p : Pool) (bs : List ℕ) → Whole p → IfLoaded (Took e p last n bs) (load_records c e n last p bs)
@@ -110,8 +110,8 @@ module _ (c : Choice) (lawful : Lawful c) (e : Edition) where
   unfolding blank_pool
   blank_edition m = refl
 
-  file_holds : (m : ℕ) (bs : List ℕ) (d : Due) → frame_due 16 2 bs ≡ some d
-      → (q : Pool) → Took e (blank_pool e m) none (count_in d.words) d.after q → Holds m bs q
+  file_holds : (m : ℕ) (bs : List ℕ) (d : Due) → frame_due 16 2 bs ≡ Some d
+      → (q : Pool) → Took e (blank_pool e m) None (count_in d.words) d.after q → Holds m bs q
   file_holds m bs d x q t =
       let all = S.file_records_lem e bs d x in
       let rs = records_from e (count_in d.words) d.after in
@@ -135,6 +135,6 @@ module _ (c : Choice) (lawful : Lawful c) (e : Edition) where
   pub file_loads : (m : ℕ) (bs : List ℕ) → IfLoaded (Holds m bs) (load_file c e (blank_pool e m) bs)
   file_loads m bs =
       file_cases c e (blank_pool e m) bs (IfLoaded (Holds m bs)) tt
-      (λ d x h. then_loaded (Took e (blank_pool e m) none (count_in d.words) d.after) (Holds m bs) (file_holds m bs d x)
-      (load_records c e (count_in d.words) none (blank_pool e m) d.after)
-      (load_takes (count_in d.words) none (blank_pool e m) d.after (blank_holds e m).whole))
+      (λ d x h. then_loaded (Took e (blank_pool e m) None (count_in d.words) d.after) (Holds m bs) (file_holds m bs d x)
+      (load_records c e (count_in d.words) None (blank_pool e m) d.after)
+      (load_takes (count_in d.words) None (blank_pool e m) d.after (blank_holds e m).whole))

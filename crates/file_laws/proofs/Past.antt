@@ -2,7 +2,7 @@
 use mathlib.Core.Path.{◌≡◌, refl, sym, ap, subst, ◌∙◌}
 use mathlib.Core.Bool.{false}
 use mathlib.Core.List.{List, []}
-use mathlib.Core.Option.{Option, none}
+use Rattle.std.specs.Prelude.{Option, None}
 use Prim.Native.Nat.{ℕ, ◌-◌}
 use lib.ListN.{length}
 use lib.IntN.{ℤ, pos}
@@ -48,7 +48,7 @@ file_past c ed p bs =
     file_cases c ed p bs FailsPast frame_past
     (λ d e h. load_cases c ed (λ n last p bs l. FailsPast l) (λ n last p bs. frame_past) (λ last p bs d e f. tt)
     (λ n last p bs r f g. subst (EachGiven Past) g (record_past ed last r)) (λ n last p bs. slot_past) (λ n last p bs d q l e g i t. t)
-    (count_in d.words) none p d.after)
+    (count_in d.words) None p d.after)
 
 pub past_one : (ed : Edition) (w u : List ℤ) (bs : List ℕ) → lengths_wrong ed w u ≡ false → (read_file ed w u bs).number ≡ pos 1 → ⊥
 past_one ed w u bs h e = go (load_file ours ed (blank_pool ed (slots_fitting ed (length w) - 1)) bs) refl (file_past ours ed (blank_pool ed (slots_fitting ed (length w) - 1)) bs)

@@ -2,7 +2,7 @@
 use mathlib.Core.Path.{◌≡◌, refl, sym, ap, ap₂, subst, ◌∙◌}
 use mathlib.Core.Bool.{true}
 use mathlib.Core.List.{List, [], ◌∷◌, ◌++◌, map, append-nil, append_assoc}
-use mathlib.Core.Option.{none, some}
+use Rattle.std.specs.Prelude.{None, Some}
 use Prim.Native.Nat.{ℕ, suc}
 use native.Mathlib.Omega.{arith}
 use lib.ListN.{length}
@@ -74,7 +74,7 @@ module _ (ed : Edition) where
     pub many : length (records_from ed n bs) ≡ n
     pub bytes : bs ≡ joined (map (record_frame ed) (records_from ed n bs)) ++ end_frame
 
-  last_frame : (bs : List ℕ) (d : Due) → AllBytes bs → frame_due 18 0 bs ≡ some d → d.after ≡ [] → Framed 0 bs
+  last_frame : (bs : List ℕ) (d : Due) → AllBytes bs → frame_due 18 0 bs ≡ Some d → d.after ≡ [] → Framed 0 bs
   unfolding records_from end_frame
   last_frame bs d a e f =
       let b = due_bytes 18 0 bs d a e in
@@ -85,7 +85,7 @@ module _ (ed : Edition) where
             ∙ sym (ap (λ (l : List ℕ). l ++ frame_bytes 18 []) (joined_none (record_frame ed)));
       }
 
-  one_frame : (n : ℕ) (bs : List ℕ) (d : Due) → AllBytes bs → record_due ed bs ≡ some d → Framed n d.after → Framed (suc n) bs
+  one_frame : (n : ℕ) (bs : List ℕ) (d : Due) → AllBytes bs → record_due ed bs ≡ Some d → Framed n d.after → Framed (suc n) bs
   one_frame n bs d a e t =
       let b = due_bytes (record_kind ed) (record_size ed) bs d a e in
       let r = record_in ed d.words in
@@ -100,16 +100,16 @@ module _ (ed : Edition) where
       }
 
   module _ (c : Choice) (p : Pool) (bs : List ℕ) (a : AllBytes bs) where
-    framed : (d : Due) → frame_due 16 2 bs ≡ some d
-        → IfLoaded (λ q. Framed (count_in d.words) d.after) (load_records c ed (count_in d.words) none p d.after)
+    framed : (d : Due) → frame_due 16 2 bs ≡ Some d
+        → IfLoaded (λ q. Framed (count_in d.words) d.after) (load_records c ed (count_in d.words) None p d.after)
     framed d e =
         let n = count_in d.words in
         then_loaded (λ q. AllBytes d.after → Framed n d.after) (λ q. Framed n d.after) (λ q f. f (due_bytes 16 2 bs d a e).2)
-        (load_records c ed n none p d.after)
+        (load_records c ed n None p d.after)
         (load_by c ed (λ n last p bs q. AllBytes bs → Framed n bs) (λ last p bs d e f a. last_frame bs d a e f)
-        (λ n last p bs d q s e g i t a. one_frame n bs d a e (t (due_bytes (record_kind ed) (record_size ed) bs d a e).2)) n none p d.after)
+        (λ n last p bs d q s e g i t a. one_frame n bs d a e (t (due_bytes (record_kind ed) (record_size ed) bs d a e).2)) n None p d.after)
 
-    whole_file : (d : Due) → frame_due 16 2 bs ≡ some d → good_head ed d.words ≡ true → Framed (count_in d.words) d.after
+    whole_file : (d : Due) → frame_due 16 2 bs ≡ Some d → good_head ed d.words ≡ true → Framed (count_in d.words) d.after
         → bs ≡ file_bytes ed (file_records ed bs)
     unfolding file_bytes
     whole_file d e g t =
@@ -128,7 +128,7 @@ module _ (ed : Edition) where
     file_same =
         file_cases c ed p bs (IfLoaded (λ q. bs ≡ file_bytes ed (file_records ed bs))) tt
         (λ d e h. then_loaded (λ q. Framed (count_in d.words) d.after) (λ q. bs ≡ file_bytes ed (file_records ed bs)) (λ q t. whole_file d e h t)
-        (load_records c ed (count_in d.words) none p d.after) (framed d e))
+        (load_records c ed (count_in d.words) None p d.after) (framed d e))
 
   -- ---- a file is bytes
 

@@ -1,7 +1,7 @@
 -- What is written is read, and what is read is what would be written: length, kind and words go there and back each by itself.
 use mathlib.Core.Path.{◌≡◌, refl, sym, ap, ap₂, subst, ◌∙◌}
 use mathlib.Core.List.{List, [], ◌∷◌, ◌++◌, map}
-use mathlib.Core.Option.{some}
+use Rattle.std.specs.Prelude.{Some}
 use Prim.Native.Nat.{ℕ, zero, suc, ◌+◌, ◌*◌, ◌≤◌, ◌<◌}
 use native.Mathlib.Omega.{arith}
 use lib.ListN.{length, take, drop, length-append, length-drop, take-append-drop}
@@ -56,7 +56,7 @@ words_read (z ∷ zs) rest h = ap₂ (λ (x : ℤ) (xs : List ℤ). x ∷ xs) (w
 
 -- the length of six words is below 65536, as the kind is, so that two bytes hold each
 pub due_written : (k : ℕ) (ws : List ℤ) (rest : List ℕ) → k < 65536 → length ws ≤ 6 → Each Word ws
-    → frame_due k (length ws) (frame_bytes k ws ++ rest) ≡ some (record { words = ws; after = rest })
+    → frame_due k (length ws) (frame_bytes k ws ++ rest) ≡ Some (record { words = ws; after = rest })
 unfolding frame_bytes pair_bytes
 due_written k ws rest h l w =
     due_is k (length ws) (frame_bytes k ws ++ rest) (record {
@@ -64,7 +64,7 @@ due_written k ws rest h l w =
       size = pair_value_bytes (2 + 4 * length ws) (omega arith);
       kind = pair_value_bytes k h;
     })
-    ∙ (λ i. some (record { words = words_read ws rest w i; after = drop_at (frame_bytes k ws) rest (4 + 4 * length ws) (frame_long k ws) i }))
+    ∙ (λ i. Some (record { words = words_read ws rest w i; after = drop_at (frame_bytes k ws) rest (4 + 4 * length ws) (frame_long k ws) i }))
 
 -- ---- what is read is what would be written
 
@@ -123,7 +123,7 @@ frame_back k n bs h s =
     rw (size, kind, words_back n (drop 4 bs) (all_drop 4 bs h) (omega (arith, length-drop 4 bs)), ← (take-add 2 2 bs))
     (sym (take-add 4 (4 * n) bs))
 
-module _ (k n : ℕ) (bs : List ℕ) (d : Due) (h : AllBytes bs) (q : frame_due k n bs ≡ some d) where
+module _ (k n : ℕ) (bs : List ℕ) (d : Due) (h : AllBytes bs) (q : frame_due k n bs ≡ Some d) where
   -- bytes below 256 are the only ones that are read so
   pub due_bytes : (bs ≡ frame_bytes k d.words ++ d.after) × (length d.words ≡ n) × AllBytes d.after
   due_bytes =

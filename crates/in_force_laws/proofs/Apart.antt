@@ -4,11 +4,12 @@ use mathlib.Core.Path.{◌≡◌, refl, sym, ap, subst, ◌∙◌}
 use mathlib.Core.Logic.{◌≢◌}
 use mathlib.Core.Bool.{true}
 use mathlib.Core.List.{List, [], ◌∷◌, map}
-use mathlib.Core.Option.{Option, none, some}
+use Rattle.std.specs.Prelude.{Option, None, Some, Err}
 use Prim.Native.Nat.{ℕ, suc, ◌+◌, ◌-◌, ◌≤◌, ◌<◌}
 use native.Mathlib.Omega.{arith}
 use lib.ListN.{length, get_or, set}
 use lib.Seq.{sets, get_or-set_same}
+use Rattle.rules.specs.declared.RequestFault.{RequestFault}
 use Rattle.rules.specs.declared.Edition.{Edition}
 use Rattle.rules.specs.declared.Edition.TheVariants.{Two}
 use Rattle.rules.specs.declared.Owner.{Owner}
@@ -18,14 +19,13 @@ use Rattle.rules.specs.declared.Record.{Record}
 use Rattle.rules.specs.declared.Request.{Request}
 use Rattle.rules.specs.declared.Asked.{Asked}
 use Rattle.rules.specs.declared.Asked.TheVariants.{Insert, Delete, Update, Search}
-use Rattle.rules.specs.declared.Reply.{Reply}
-use Rattle.rules.specs.declared.Reply.TheVariants.{NoSlot}
+use Rattle.rules.specs.declared.RequestFault.TheVariants.{NoSlot}
 use Rattle.rules.specs.Lists.{those}
 use Rattle.rules.specs.Owners.{owned_by, owner_in, owner_sound, as_found}
 use Rattle.rules.specs.Pool.{Pool, moved, held}
 use Rattle.rules.specs.Layout.{read}
 use Rattle.rules.specs.Search.{found, opened_from_root, reported, opened}
-use Rattle.rules.specs.Answers.{answer_of}
+use Rattle.rules.specs.Answers.{Reply, answer_of}
 use Rattle.rules.specs.Insert.{Choice, ours, Change, Done, NoneFree, insert_record}
 use Rattle.rules.specs.Lawful.{Lawful}
 use Rattle.rules.specs.Delete.{delete_record, update_record}
@@ -75,7 +75,7 @@ same_as {o} {w} {p} {q} {rs} {vs} {z} {y} {us} {ts} e f g h k s =
 
 -- two turns tell the same, unless one refuses 7
 abbrev pub TellSame : Turn → Turn → Type 0
-TellSame t u = t.reply ≢ NoSlot → u.reply ≢ NoSlot → (u.reply ≡ t.reply) × (u.listed ≡ t.listed)
+TellSame t u = t.reply ≢ Err NoSlot → u.reply ≢ Err NoSlot → (u.reply ≡ t.reply) × (u.listed ≡ t.listed)
 
 module _ (o : Owner) (p : Pool) (rs : List Record) (z : Pool) (us : List Record) (s : SameTo o p rs z us) where
   -- a pair of the owner's that is in force in one is so in the other
@@ -140,52 +140,52 @@ module _ (o : Owner) (p : Pool) (rs : List Record) (z : Pool) (us : List Record)
     abbrev there : Asked → Turn
     there a = request c z filled room a
 
-    by_row : (a : Asked) (reply : Reply) → here a ≡ turn p reply [] → there a ≡ turn z reply [] → TellSame (here a) (there a)
-    by_row a reply e f m n = (ap (λ (t : Turn). t.reply) f ∙ sym (ap (λ (t : Turn). t.reply) e), ap (λ (t : Turn). t.listed) f ∙ sym (ap (λ (t : Turn). t.listed) e))
+    by_row : (a : Asked) (fault : RequestFault) → here a ≡ turn p (Err fault) [] → there a ≡ turn z (Err fault) [] → TellSame (here a) (there a)
+    by_row a fault e f m n = (ap (λ (t : Turn). t.reply) f ∙ sym (ap (λ (t : Turn). t.reply) e), ap (λ (t : Turn). t.listed) f ∙ sym (ap (λ (t : Turn). t.listed) e))
 
     -- a request of the owner
     pub turn_same : (a : Asked) → asked_by a ≡ o → TellSame (here a) (there a)
     unfolding asked_by
     turn_same (Insert r) e = go (insert_fault p r) refl
       where
-        go : (x : Option Reply) → insert_fault p r ≡ x → TellSame (here (Insert r)) (there (Insert r))
-        go none h = rw (insert_none c p filled room r h, insert_none c z filled room r (insert_same r e ∙ h)) (change_same (insert_record c p r) (insert_record c z r))
-        go (some reply) h =
-            by_row (Insert r) reply (insert_some c p filled room r reply h) (insert_some c z filled room r reply (insert_same r e ∙ h))
+        go : (x : Option RequestFault) → insert_fault p r ≡ x → TellSame (here (Insert r)) (there (Insert r))
+        go None h = rw (insert_none c p filled room r h, insert_none c z filled room r (insert_same r e ∙ h)) (change_same (insert_record c p r) (insert_record c z r))
+        go (Some fault) h =
+            by_row (Insert r) fault (insert_some c p filled room r fault h) (insert_some c z filled room r fault (insert_same r e ∙ h))
     turn_same (Delete r) e = go (delete_fault p r) refl
       where
-        go : (x : Option Reply) → delete_fault p r ≡ x → TellSame (here (Delete r)) (there (Delete r))
-        go none h = rw (delete_none c p filled room r h, delete_none c z filled room r (delete_same r e ∙ h)) (change_same (delete_record c p r) (delete_record c z r))
-        go (some reply) h =
-            by_row (Delete r) reply (delete_some c p filled room r reply h) (delete_some c z filled room r reply (delete_same r e ∙ h))
+        go : (x : Option RequestFault) → delete_fault p r ≡ x → TellSame (here (Delete r)) (there (Delete r))
+        go None h = rw (delete_none c p filled room r h, delete_none c z filled room r (delete_same r e ∙ h)) (change_same (delete_record c p r) (delete_record c z r))
+        go (Some fault) h =
+            by_row (Delete r) fault (delete_some c p filled room r fault h) (delete_some c z filled room r fault (delete_same r e ∙ h))
     turn_same (Update old new) e = go (update_fault p old new) refl
       where
-        go : (x : Option Reply) → update_fault p old new ≡ x → TellSame (here (Update old new)) (there (Update old new))
-        go none h =
+        go : (x : Option RequestFault) → update_fault p old new ≡ x → TellSame (here (Update old new)) (there (Update old new))
+        go None h =
             rw (update_none c p filled room old new h, update_none c z filled room old new (update_same old new e ∙ h))
             (change_same (update_record c p old new) (update_record c z old new))
-        go (some reply) h =
-            by_row (Update old new) reply (update_some c p filled room old new reply h) (update_some c z filled room old new reply (update_same old new e ∙ h))
+        go (Some fault) h =
+            by_row (Update old new) fault (update_some c p filled room old new fault h) (update_some c z filled room old new fault (update_same old new e ∙ h))
     turn_same (Search w mode window) e = subst (λ (v : Owner). TellSame (here (Search v mode window)) (there (Search v mode window))) (sym e) (go (search_fault p room o mode window) refl)
       where
-        go : (x : Option Reply) → search_fault p room o mode window ≡ x → TellSame (here (Search o mode window)) (there (Search o mode window))
-        go none h =
+        go : (x : Option RequestFault) → search_fault p room o mode window ≡ x → TellSame (here (Search o mode window)) (there (Search o mode window))
+        go None h =
             rw (
               search_none c p filled room o mode window h,
               search_none c z filled room o mode window (search_same room mode window ∙ h),
               found_same mode window,
               opened_same window,
             ) (λ m n. (refl, refl))
-        go (some reply) h =
-            by_row (Search o mode window) reply (search_some c p filled room o mode window reply h)
-            (search_some c z filled room o mode window reply (search_same room mode window ∙ h))
+        go (Some fault) h =
+            by_row (Search o mode window) fault (search_some c p filled room o mode window fault h)
+            (search_some c z filled room o mode window fault (search_same room mode window ∙ h))
 
 -- ---- a batch
 
-not_seven : (reply : Reply) → (answer_of reply).number ≢ 7 → reply ≢ NoSlot
+not_seven : (reply : Reply) → (answer_of reply).number ≢ 7 → reply ≢ Err NoSlot
 not_seven reply n e = n (ap (λ (x : Reply). (answer_of x).number) e ∙ seven)
   where
-    seven : (answer_of NoSlot).number ≡ 7
+    seven : (answer_of (Err NoSlot)).number ≡ 7
     seven = unfold answer_of in refl
 
 module _ (c : Choice) where
@@ -195,8 +195,8 @@ module _ (c : Choice) where
         → (get_or (do_request c i b x).answers i no_answer).number ≢ 7 → (get_or (do_request c i (in_pool z b) x).answers i no_answer).number ≢ 7
         → do_request c i (in_pool z b) x ≡ in_pool (do_request c i (in_pool z b) x).pool (do_request c i b x)
     unfolding do_request after_turn
-    step_same q none e h m n = refl
-    step_same q (some a) e h m n =
+    step_same q None e h m n = refl
+    step_same q (Some a) e h m n =
         let room = length b.found - b.filled in
         let t = request c b.pool b.filled room a in
         let u = request c z b.filled room a in
@@ -299,7 +299,7 @@ unfolding batch_owner owner_in
 two_owner l e = ap (λ (d : Edition). owner_in d l.owner) e
 
 -- how a call begins, by its fields
-start_room : (l : Lent) → call_fault l ≡ none → 0 + length l.requests ≤ length (starting l).answers
+start_room : (l : Lent) → call_fault l ≡ None → 0 + length l.requests ≤ length (starting l).answers
 unfolding starting
 start_room l f = omega (arith, answers_long ours l f)
 
@@ -325,18 +325,18 @@ start_owner l e = two_owner l e
 
 module _ (c : Choice) (lawful : Lawful c) where
   -- the pool that a call leaves, read again, is the one that its batch leaves
-  left_reads : (l : Lent) (rs : List Record) → HoldsRecords (do_requests c 0 l.requests (starting l)).pool rs → call_fault l ≡ none
+  left_reads : (l : Lent) (rs : List Record) → HoldsRecords (do_requests c 0 l.requests (starting l)).pool rs → call_fault l ≡ None
       → read (call_by c l).pool ≡ (do_requests c 0 l.requests (starting l)).pool
   left_reads l rs k f = ap read (left_pool c l f) ∙ holds_reads (do_requests c 0 l.requests (starting l)).pool rs k
 
-  force_left : (l : Lent) (rs : List Record) → call_fault l ≡ none → (starting l).owner ≡ l.owner
+  force_left : (l : Lent) (rs : List Record) → call_fault l ≡ None → (starting l).owner ≡ l.owner
       → force_after (starting l).owner rs 0 l.requests (do_requests c 0 l.requests (starting l)).answers
       ≡ force_after l.owner rs 0 l.requests (call_by c l).answers
   force_left l rs f e =
       ap (λ (w : Owner). force_after w rs 0 l.requests (do_requests c 0 l.requests (starting l)).answers) e
       ∙ ap (force_after l.owner rs 0 l.requests) (sym (left_answers c l f))
 
-  module _ (l : Lent) (rs : List Record) (f : call_fault l ≡ none) where
+  module _ (l : Lent) (rs : List Record) (f : call_fault l ≡ None) where
     -- another owner's call
     pub call_other : (o : Owner) → l.owner ≢ o → (z : Pool) (us : List Record) → SameTo o (read l.pool) rs z us
         → SameTo o (read (call_by c l).pool) (force_after l.owner rs 0 l.requests (call_by c l).answers) z us
@@ -348,7 +348,7 @@ module _ (c : Choice) (lawful : Lawful c) where
 
     -- the owner's call in either of two pools that are the same to the owner, with the same requests and lists: the answers and the found lists are
     -- the same, and so are to the owner the pools that it leaves
-    module _ (m : Lent) (us : List Record) (g : call_fault m ≡ none) (own : m.owner ≡ l.owner) (same : m.requests ≡ l.requests)
+    module _ (m : Lent) (us : List Record) (g : call_fault m ≡ None) (own : m.owner ≡ l.owner) (same : m.requests ≡ l.requests)
         (answers : m.answers ≡ l.answers) (places : m.found ≡ l.found) (s : SameTo l.owner (read l.pool) rs (read m.pool) us)
         (one : NoneSeven 0 (length l.requests) (call_by c l).answers) (other : NoneSeven 0 (length m.requests) (call_by c m).answers) where
       abbrev batch : Batch

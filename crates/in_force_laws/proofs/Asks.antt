@@ -1,7 +1,7 @@
 -- What is a request, by whether it asks something; and whoever sends it, it asks for that owner.
 use mathlib.Core.Path.{◌≡◌, refl, subst}
 use mathlib.Core.Bool.{true, false}
-use mathlib.Core.Option.{Option, none, some}
+use Rattle.std.specs.Prelude.{Option, None, Some}
 use lib.IntN.{pos}
 use Rattle.rules.specs.declared.Owner.{Owner}
 use Rattle.rules.specs.declared.Request.{Request}
@@ -17,7 +17,7 @@ use Rattle.in_force_laws.specs.Force.{asked_by}
 use Rattle.in_force_laws.proofs.Faults.{EachGiven, given_none, given_row, no_row, no_rows, row_passed}
 
 -- what asks nothing for one owner asks nothing for another
-pub none_for : (o w : Owner) (q : Request) → asked o q ≡ none → asked w q ≡ none
+pub none_for : (o w : Owner) (q : Request) → asked o q ≡ None → asked w q ≡ None
 unfolding asked
 none_for o w q h =
     let r1 = no_row (same q.kind (pos 1)) (Insert (pair_in o q)) _ h in
@@ -29,17 +29,17 @@ none_for o w q h =
     row_passed _ _ _ r1.0 (row_passed _ _ _ r2.0 (row_passed _ _ _ r3.0
     (row_passed _ _ _ r4.0 (row_passed _ _ _ r5.0 (row_passed _ _ _ r6.0 no_rows)))))
 
-pub asks_nothing : (o : Owner) (q : Request) → asked o q ≡ none → is_request q ≡ false
+pub asks_nothing : (o : Owner) (q : Request) → asked o q ≡ None → is_request q ≡ false
 unfolding is_request
 asks_nothing o q h = rw (none_for o nobody q h, is_request)
 
 -- what is a request asks something, whoever sends it
-pub asks_something : (o : Owner) (q : Request) → is_request q ≡ true → (a : Asked) × (asked o q ≡ some a)
+pub asks_something : (o : Owner) (q : Request) → is_request q ≡ true → (a : Asked) × (asked o q ≡ Some a)
 asks_something o q h = go (asked o q) refl
   where
-    go : (x : Option Asked) → asked o q ≡ x → (a : Asked) × (asked o q ≡ some a)
-    go none e = never_both h (asks_nothing o q e)
-    go (some a) e = (a, e)
+    go : (x : Option Asked) → asked o q ≡ x → (a : Asked) × (asked o q ≡ Some a)
+    go None e = never_both h (asks_nothing o q e)
+    go (Some a) e = (a, e)
 
 -- .. and it is the request of that owner
 asked_each : (o : Owner) (q : Request) → EachGiven (λ a. asked_by a ≡ o) (asked o q)
@@ -52,5 +52,5 @@ asked_each o q =
     (given_row _ _ (Search o OnlyInside q.first) _ refl
     (given_row _ _ (Search o OnlyEnclosing q.first) _ refl (given_none _))))))
 
-pub asked_owner : (o : Owner) (q : Request) (a : Asked) → asked o q ≡ some a → asked_by a ≡ o
+pub asked_owner : (o : Owner) (q : Request) (a : Asked) → asked o q ≡ Some a → asked_by a ≡ o
 asked_owner o q a h = subst (EachGiven (λ x. asked_by x ≡ o)) h (asked_each o q)

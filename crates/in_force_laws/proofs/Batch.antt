@@ -3,7 +3,7 @@
 use mathlib.Core.Path.{◌≡◌, refl, sym, subst, ap, ◌∙◌}
 use mathlib.Core.Bool.{true}
 use mathlib.Core.List.{List, [], ◌∷◌, ◌++◌}
-use mathlib.Core.Option.{Option, none, some}
+use Rattle.std.specs.Prelude.{Option, None, Some}
 use Prim.Native.Nat.{ℕ, suc, ◌+◌, ◌-◌, ◌≤◌, ◌<◌}
 use native.Mathlib.Omega.{arith}
 use lib.ListN.{length, get_or, set, take, drop, length-append, length-set}
@@ -67,38 +67,38 @@ module _ (c : Choice) where
 
   step_kept : (i : ℕ) (b : Batch) (o : Option Asked) (j : ℕ) → j < i → get_or (do_request c i b o).answers j no_answer ≡ get_or b.answers j no_answer
   unfolding do_request after_turn
-  step_kept i b none j h = refl
-  step_kept i b (some a) j h = get_or-set_other b.answers i j _ no_answer (λ e. omega (arith, h, e))
+  step_kept i b None j h = refl
+  step_kept i b (Some a) j h = get_or-set_other b.answers i j _ no_answer (λ e. omega (arith, h, e))
 
   pub step_long : (i : ℕ) (b : Batch) (o : Option Asked) → length (do_request c i b o).answers ≡ length b.answers
   unfolding do_request after_turn
-  step_long i b none = refl
-  step_long i b (some a) = length-set b.answers i _
+  step_long i b None = refl
+  step_long i b (Some a) = length-set b.answers i _
 
   step_places : (i : ℕ) (b : Batch) (o : Option Asked) → length (do_request c i b o).found ≡ length b.found
   unfolding do_request after_turn
-  step_places i b none = refl
-  step_places i b (some a) = length-sets b.found b.filled (request c b.pool b.filled (length b.found - b.filled) a).listed
+  step_places i b None = refl
+  step_places i b (Some a) = length-sets b.found b.filled (request c b.pool b.filled (length b.found - b.filled) a).listed
 
   step_filled : (i : ℕ) (b : Batch) (o : Option Asked) → b.filled ≤ (do_request c i b o).filled
   unfolding do_request after_turn
-  step_filled i b none = omega arith
-  step_filled i b (some a) = omega arith
+  step_filled i b None = omega arith
+  step_filled i b (Some a) = omega arith
 
   step_take : (i : ℕ) (b : Batch) (o : Option Asked) (n : ℕ) → n ≤ b.filled → take n (do_request c i b o).found ≡ take n b.found
   unfolding do_request after_turn
-  step_take i b none n h = refl
-  step_take i b (some a) n h = sets_take (request c b.pool b.filled (length b.found - b.filled) a).listed b.found b.filled n h
+  step_take i b None n h = refl
+  step_take i b (Some a) n h = sets_take (request c b.pool b.filled (length b.found - b.filled) a).listed b.found b.filled n h
 
   step_drop : (i : ℕ) (b : Batch) (o : Option Asked) (n : ℕ) → (do_request c i b o).filled ≤ n → drop n (do_request c i b o).found ≡ drop n b.found
   unfolding do_request after_turn
-  step_drop i b none n h = refl
-  step_drop i b (some a) n h = sets_drop (request c b.pool b.filled (length b.found - b.filled) a).listed b.found b.filled n h
+  step_drop i b None n h = refl
+  step_drop i b (Some a) n h = sets_drop (request c b.pool b.filled (length b.found - b.filled) a).listed b.found b.filled n h
 
   pub step_owner : (i : ℕ) (b : Batch) (o : Option Asked) → (do_request c i b o).owner ≡ b.owner
   unfolding do_request after_turn
-  step_owner i b none = refl
-  step_owner i b (some a) = refl
+  step_owner i b None = refl
+  step_owner i b (Some a) = refl
 
   -- ---- .. and those from place i on
 
@@ -173,8 +173,8 @@ module _ (c : Choice) where
         → (x : Option Asked) → asked b.owner q ≡ x
         → HoldsRecords (do_request c i b x).pool (force_by rs x (get_or (do_request c i b x).answers i no_answer))
     unfolding do_request after_turn force_by
-    step_force i b rs q k s h none e = k
-    step_force i b rs q k s h (some a) e =
+    step_force i b rs q k s h None e = k
+    step_force i b rs q k s h (Some a) e =
         let t = request c b.pool b.filled (length b.found - b.filled) a in
         subst (λ (x : Answer). HoldsRecords t.pool (in_force rs a x)) (sym (get_or-set_same b.answers i (answer_of t.reply) no_answer h))
         (request_force c lawful b.pool rs k b.filled (length b.found - b.filled) a (rw (asked_owner b.owner q a e) s))
@@ -212,18 +212,18 @@ module _ (c : Choice) where
     abbrev listed : List FoundRecord
     listed = (request c b.pool b.filled (length b.found - b.filled) a).listed
 
-    listed_now : slice b.filled (b.filled + length listed) (do_request c i b (some a)).found ≡ listed
+    listed_now : slice b.filled (b.filled + length listed) (do_request c i b (Some a)).found ≡ listed
     unfolding do_request after_turn
     listed_now = sets_slice listed b.found b.filled (listed_fits c b.pool b.filled (length b.found - b.filled) a)
 
-    filled_now : (do_request c i b (some a)).filled ≡ b.filled + length listed
+    filled_now : (do_request c i b (Some a)).filled ≡ b.filled + length listed
     unfolding do_request after_turn
     filled_now = refl
 
     pub listed_end : (later : List Request)
-        → slice b.filled (b.filled + length listed) (do_requests c (suc i) later (do_request c i b (some a))).found ≡ listed
+        → slice b.filled (b.filled + length listed) (do_requests c (suc i) later (do_request c i b (Some a))).found ≡ listed
     listed_end later =
-        ap (drop b.filled) (found_kept (suc i) later (do_request c i b (some a)) (b.filled + length listed) (omega (arith, filled_now)))
+        ap (drop b.filled) (found_kept (suc i) later (do_request c i b (Some a)) (b.filled + length listed) (omega (arith, filled_now)))
         ∙ listed_now
 
   -- ---- a search
@@ -231,7 +231,7 @@ module _ (c : Choice) where
   module _ (i : ℕ) (b : Batch) (rs : List Record) (k : HoldsRecords b.pool rs) (h : i < length b.answers) (o : Owner) (mode : Mode) (window : Rect)
       (v : valid window ≡ true) (room : how_many_wanted o mode window rs ≤ length b.found - b.filled) where
     abbrev now : Batch
-    now = do_request c i b (some (Search o mode window))
+    now = do_request c i b (Some (Search o mode window))
 
     shows : SearchShows b.pool rs b.filled o mode window (request c b.pool b.filled (length b.found - b.filled) (Search o mode window))
     shows = request_search b.pool rs k o mode window (length b.found - b.filled) c b.filled v room
@@ -278,14 +278,14 @@ module _ (c : Choice) where
     inside : i + length earlier < length b.answers
     inside = omega (arith, h, length-append earlier (q ∷ later))
 
-    pub batch_search : (mode : Mode) (window : Rect) → asked b.owner q ≡ some (Search b.owner mode window) → valid window ≡ true
+    pub batch_search : (mode : Mode) (window : Rect) → asked b.owner q ≡ Some (Search b.owner mode window) → valid window ≡ true
         → how_many_wanted b.owner mode window (force_after b.owner rs i earlier end.answers) ≤ length b.found - before.filled
         → Told before.pool (force_after b.owner rs i earlier end.answers) before.filled b.owner mode window (i + length earlier)
         end.answers end.found
     batch_search mode window a v room =
         let rs1 = force_after b.owner rs i earlier end.answers in
         subst (λ (x : Batch). Told before.pool rs1 before.filled b.owner mode window (i + length earlier) x.answers x.found)
-        (sym (end_is (some (Search b.owner mode window)) a))
+        (sym (end_is (Some (Search b.owner mode window)) a))
         (told_end (i + length earlier) before rs1 (part_force lawful i earlier (q ∷ later) b rs k s h)
         (omega (arith, inside, answers_as_many i earlier b)) b.owner mode window v
         (omega (arith, room, places_as_many i earlier b)) later)

@@ -4,7 +4,7 @@ use mathlib.Core.Path.{◌≡◌, refl, sym, subst, ap, ◌∙◌}
 use mathlib.Core.Bool.{true, not, ◌||◌}
 use mathlib.Core.List.Memᴰ
 use mathlib.Core.List.{List, [], ◌∷◌, ◌++◌}
-use mathlib.Core.Option.{Option, none, some}
+use Rattle.std.specs.Prelude.{Option, None, Some}
 use Prim.Native.Nat.{ℕ, ◌+◌, ◌-◌, ◌≤◌}
 use native.Mathlib.Omega.{arith}
 use lib.ListN.{length, drop, length-append}
@@ -17,13 +17,13 @@ use Rattle.rules.specs.declared.Mode.{Mode}
 use Rattle.rules.specs.declared.Record.{Record}
 use Rattle.rules.specs.declared.Request.{Request}
 use Rattle.rules.specs.declared.Asked.TheVariants.{Search}
-use Rattle.rules.specs.declared.Verdict.{Verdict}
-use Rattle.rules.specs.declared.Verdict.TheVariants.{BadLists, BadOwner, BadLength, NotSound, NoRequest}
+use Rattle.rules.specs.declared.CallFault.{CallFault}
+use Rattle.rules.specs.declared.CallFault.TheVariants.{BadLists, BadOwner, BadLength, NotSound, NoRequest}
 use Rattle.rules.specs.Numbers.{most_requests, good_owner}
 use Rattle.rules.specs.Geometry.{valid, same_pair}
 use Rattle.rules.specs.Pool.{Pool, blank_pool, stored}
 use Rattle.rules.specs.Layout.{words, read}
-use Rattle.rules.specs.Answers.{verdict_number}
+use Rattle.rules.specs.Answers.{call_fault_number}
 use Rattle.rules.specs.Insert.{Choice, ours}
 use Rattle.rules.specs.Lawful.{Lawful}
 use Rattle.rules.specs.Request.{asked}
@@ -49,11 +49,11 @@ nat_of : ℤ → ℕ
 nat_of (pos n) = n
 nat_of (negsuc n) = 1
 
-abbrev ToldOff : Verdict → Type 0
-ToldOff v = verdict_number v ≡ pos 0 → ⊥
+abbrev ToldOff : CallFault → Type 0
+ToldOff v = call_fault_number v ≡ pos 0 → ⊥
 
 all_off : (l : Lent) → EachGiven ToldOff (call_fault l)
-unfolding call_fault verdict_number nat_of
+unfolding call_fault call_fault_number nat_of
 all_off l =
     given_row ToldOff _ BadLists _ (λ h. omega (arith, ap nat_of h))
     (given_row ToldOff _ BadOwner _ (λ h. omega (arith, ap nat_of h))
@@ -65,32 +65,32 @@ module _ (c : Choice) (l : Lent) where
   abbrev whole_batch : Batch
   whole_batch = do_requests c 0 l.requests (starting l)
 
-  pub call_by_refused : (v : Verdict) → call_fault l ≡ some v → call_by c l ≡ refused l v
+  pub call_by_refused : (v : CallFault) → call_fault l ≡ Some v → call_by c l ≡ refused l v
   unfolding call_by
   call_by_refused v h = rw (h, call_by)
 
-  pub call_by_served : call_fault l ≡ none → call_by c l ≡ served whole_batch
+  pub call_by_served : call_fault l ≡ None → call_by c l ≡ served whole_batch
   unfolding call_by
   call_by_served h = rw (h, call_by)
 
-  pub refused_number : (v : Verdict) → (refused l v).number ≡ verdict_number v
+  pub refused_number : (v : CallFault) → (refused l v).number ≡ call_fault_number v
   unfolding refused
   refused_number v = refl
 
-  pub no_fault : (call_by c l).number ≡ pos 0 → call_fault l ≡ none
+  pub no_fault : (call_by c l).number ≡ pos 0 → call_fault l ≡ None
   no_fault z = go (call_fault l) refl (all_off l)
     where
-      go : (o : Option Verdict) → call_fault l ≡ o → EachGiven ToldOff o → call_fault l ≡ none
-      go none h g = h
-      go (some v) h g = absurd (g (sym (refused_number v) ∙ ap (λ (x : Left). x.number) (sym (call_by_refused v h)) ∙ z))
+      go : (o : Option CallFault) → call_fault l ≡ o → EachGiven ToldOff o → call_fault l ≡ None
+      go None h g = h
+      go (Some v) h g = absurd (g (sym (refused_number v) ∙ ap (λ (x : Left). x.number) (sym (call_by_refused v h)) ∙ z))
 
-  pub answers_long : call_fault l ≡ none → length l.answers ≡ length l.requests
+  pub answers_long : call_fault l ≡ None → length l.answers ≡ length l.requests
   unfolding call_fault
   answers_long h =
       let a = no_row (ltb most_requests (length l.requests) || not (eqb (length l.answers) (length l.requests))) BadLists _ h in
       eqb-true _ _ (not_false _ (or_neither (ltb most_requests (length l.requests)) _ a.0).1)
 
-  pub owner_good : call_fault l ≡ none → good_owner l.owner ≡ true
+  pub owner_good : call_fault l ≡ None → good_owner l.owner ≡ true
   unfolding call_fault
   owner_good h =
       let a = no_row (ltb most_requests (length l.requests) || not (eqb (length l.answers) (length l.requests))) BadLists _ h in
@@ -98,29 +98,29 @@ module _ (c : Choice) (l : Lent) where
       not_false _ b.0
 
   -- a batch that is begun is of an owner that its pool can have
-  pub start_fair : call_fault l ≡ none → FairBatch (starting l)
+  pub start_fair : call_fault l ≡ None → FairBatch (starting l)
   unfolding starting batch_owner
   start_fair h = owner_in_sound (read l.pool).edition l.owner (owner_good h)
 
-  pub left_pool : call_fault l ≡ none → (call_by c l).pool ≡ words whole_batch.pool
+  pub left_pool : call_fault l ≡ None → (call_by c l).pool ≡ words whole_batch.pool
   unfolding served
   left_pool h = ap (λ (x : Left). x.pool) (call_by_served h)
 
-  pub left_answers : call_fault l ≡ none → (call_by c l).answers ≡ whole_batch.answers
+  pub left_answers : call_fault l ≡ None → (call_by c l).answers ≡ whole_batch.answers
   unfolding served
   left_answers h = ap (λ (x : Left). x.answers) (call_by_served h)
 
-  pub left_found : call_fault l ≡ none → (call_by c l).found ≡ whole_batch.found
+  pub left_found : call_fault l ≡ None → (call_by c l).found ≡ whole_batch.found
   unfolding served
   left_found h = ap (λ (x : Left). x.found) (call_by_served h)
 
   -- the places filled when all is done, by the answers
-  all_filled : call_fault l ≡ none → whole_batch.filled ≡ filled_after (batch_owner l) 0 0 l.requests (call_by c l).answers
+  all_filled : call_fault l ≡ None → whole_batch.filled ≡ filled_after (batch_owner l) 0 0 l.requests (call_by c l).answers
   unfolding starting
   all_filled h = rw (left_answers h) (batch_filled c 0 l.requests (starting l) (omega (arith, answers_long h)))
 
   -- "places beyond stay"
-  pub left_beyond : call_fault l ≡ none
+  pub left_beyond : call_fault l ≡ None
       → drop (filled_after (batch_owner l) 0 0 l.requests (call_by c l).answers) (call_by c l).found
       ≡ drop (filled_after (batch_owner l) 0 0 l.requests (call_by c l).answers) l.found
   unfolding starting
@@ -161,7 +161,7 @@ module _ (c : Choice) (l : Lent) where
 
     -- a search at any place of its request list
     module _ (earlier : List Request) (q : Request) (later : List Request) (is : l.requests ≡ earlier ++ q ∷ later) (mode : Mode) (window : Rect)
-        (s : asked (batch_owner l) q ≡ some (Search (batch_owner l) mode window)) (v : valid window ≡ true) where
+        (s : asked (batch_owner l) q ≡ Some (Search (batch_owner l) mode window)) (v : valid window ≡ true) where
       -- how far the batch had come
       abbrev pub so_far : Batch
       so_far = do_requests c 0 earlier (starting l)
@@ -238,7 +238,7 @@ module _ (c : Choice) (lawful : Lawful c) where
   -- whose cover meets the window; with n records and height h, h is 1 or 2·3^(h-1) ≤ n."
   pub in_force_lem : (e : Edition) (n : ℕ) (ls : List Lent) (l : Lent) → CallsServed c e n (l ∷ ls)
       → (earlier : List Request) (q : Request) (later : List Request) → l.requests ≡ earlier ++ q ∷ later
-      → (mode : Mode) (window : Rect) → asked (batch_owner l) q ≡ some (Search (batch_owner l) mode window) → valid window ≡ true
+      → (mode : Mode) (window : Rect) → asked (batch_owner l) q ≡ Some (Search (batch_owner l) mode window) → valid window ≡ true
       → how_many_wanted (batch_owner l) mode window (force_after (batch_owner l) (force_of c ls) 0 earlier (call_by c l).answers)
       ≤ length l.found - filled_after (batch_owner l) 0 0 earlier (call_by c l).answers
       → Told (do_requests c 0 earlier (starting l)).pool (force_after (batch_owner l) (force_of c ls) 0 earlier (call_by c l).answers)
@@ -251,7 +251,7 @@ module _ (c : Choice) (lawful : Lawful c) where
 -- .. by document 01's choices
 pub ours_in_force : (e : Edition) (n : ℕ) (ls : List Lent) (l : Lent) → CallsServed ours e n (l ∷ ls)
     → (earlier : List Request) (q : Request) (later : List Request) → l.requests ≡ earlier ++ q ∷ later
-    → (mode : Mode) (window : Rect) → asked (batch_owner l) q ≡ some (Search (batch_owner l) mode window) → valid window ≡ true
+    → (mode : Mode) (window : Rect) → asked (batch_owner l) q ≡ Some (Search (batch_owner l) mode window) → valid window ≡ true
     → how_many_wanted (batch_owner l) mode window (force_after (batch_owner l) (force_of ours ls) 0 earlier (call l).answers)
     ≤ length l.found - filled_after (batch_owner l) 0 0 earlier (call l).answers
     → Told (do_requests ours 0 earlier (starting l)).pool (force_after (batch_owner l) (force_of ours ls) 0 earlier (call l).answers)

@@ -3,27 +3,28 @@
 use mathlib.Core.Path.{◌≡◌, refl, sym, subst}
 use mathlib.Core.Bool.{Bool, true, false, cond, not, ◌&&◌, ◌||◌}
 use mathlib.Core.List.{List, [], ◌∷◌}
-use mathlib.Core.Option.{Option, none, some}
+use Rattle.std.specs.Prelude.{Option, None, Some, Ok, Err}
 use Prim.Native.Nat.{ℕ, ◌≤◌}
 use native.Mathlib.Omega.{arith}
 use lib.Dec.{ltb, eqb}
 use lib.ListN.{length}
 use borrow.Author.Tests.{ltb-false}
+use Rattle.rules.specs.declared.RequestFault.{RequestFault}
 use Rattle.rules.specs.declared.Rect.{Rect}
 use Rattle.rules.specs.declared.Mode.{Mode}
 use Rattle.rules.specs.declared.Owner.{Owner}
 use Rattle.rules.specs.declared.Record.{Record}
 use Rattle.rules.specs.declared.Asked.{Asked}
 use Rattle.rules.specs.declared.Asked.TheVariants.{Insert, Delete, Update, Search}
-use Rattle.rules.specs.declared.Reply.{Reply}
-use Rattle.rules.specs.declared.Reply.TheVariants.{Changed, Listed, BadRectangle, BadNumber, NotHeld, Held, NoSlot, NoRoom}
+use Rattle.rules.specs.declared.Accepted.TheVariants.{Changed, Listed}
+use Rattle.rules.specs.declared.RequestFault.TheVariants.{BadRectangle, BadNumber, NotHeld, Held, NoSlot, NoRoom}
 use Rattle.rules.specs.Numbers.{good_number}
 use Rattle.rules.specs.Geometry.{valid}
 use Rattle.rules.specs.Compare.{exact_pair}
 use Rattle.rules.specs.Owners.{owner_sound}
 use Rattle.rules.specs.Pool.{Pool, moved, stored, held}
 use Rattle.rules.specs.Search.{found, opened}
-use Rattle.rules.specs.Answers.{answer_of}
+use Rattle.rules.specs.Answers.{Reply, answer_of}
 use Rattle.rules.specs.Insert.{Choice, Change, Done, NoneFree, insert_record}
 use Rattle.rules.specs.Lawful.{Lawful}
 use Rattle.rules.specs.Delete.{delete_record, update_record}
@@ -46,14 +47,14 @@ use Rattle.in_force_laws.proofs.Owned.{owned_alike, insert_owned, delete_owned, 
 
 -- ---- what is refused, and answered otherwise than by 0, changes nothing
 
-abbrev pub Refused : Reply → Type 0
-Refused reply = eqb (answer_of reply).number 0 ≡ false
+abbrev pub Refused : RequestFault → Type 0
+Refused fault = eqb (answer_of (Err fault)).number 0 ≡ false
 
-pub force_refused : (rs : List Record) (a : Asked) (reply : Reply) → Refused reply → in_force rs a (answer_of reply) ≡ rs
+pub force_refused : (rs : List Record) (a : Asked) (fault : RequestFault) → Refused fault → in_force rs a (answer_of (Err fault)) ≡ rs
 unfolding in_force
-force_refused rs a reply h = subst (λ (b : Bool). cond b (change rs a) rs ≡ rs) (sym h) refl
+force_refused rs a fault h = subst (λ (b : Bool). cond b (change rs a) rs ≡ rs) (sym h) refl
 
-pub force_changed : (rs : List Record) (a : Asked) → in_force rs a (answer_of Changed) ≡ change rs a
+pub force_changed : (rs : List Record) (a : Asked) → in_force rs a (answer_of (Ok Changed)) ≡ change rs a
 unfolding in_force answer_of
 force_changed rs a = refl
 
@@ -87,7 +88,7 @@ and_unless true false h e = h
 and_unless false b h e = refl
 
 module _ (p : Pool) where
-  pub insert_passed : (r : Record) → insert_fault p r ≡ none → (valid r.rect ≡ true) × (good_number r.number ≡ true) × (held p r ≡ false)
+  pub insert_passed : (r : Record) → insert_fault p r ≡ None → (valid r.rect ≡ true) × (good_number r.number ≡ true) × (held p r ≡ false)
   unfolding insert_fault
   insert_passed r h =
       let a = no_row (not (valid r.rect)) BadRectangle _ h in
@@ -95,7 +96,7 @@ module _ (p : Pool) where
       let d = no_row (held p r) Held _ b.1 in
       (not_false _ a.0, not_false _ b.0, d.0)
 
-  pub delete_passed : (r : Record) → delete_fault p r ≡ none → held p r ≡ true
+  pub delete_passed : (r : Record) → delete_fault p r ≡ None → held p r ≡ true
   unfolding delete_fault
   delete_passed r h =
       let a = no_row (not (valid r.rect)) BadRectangle _ h in
@@ -103,7 +104,7 @@ module _ (p : Pool) where
       let d = no_row (not (held p r)) NotHeld _ b.1 in
       not_false _ d.0
 
-  pub update_passed : (old : Record) (new : Rect) → update_fault p old new ≡ none
+  pub update_passed : (old : Record) (new : Rect) → update_fault p old new ≡ None
       → (valid new ≡ true) × (held p old ≡ true) × ((held p (moved old new) && not (exact_pair old (moved old new))) ≡ false)
   unfolding update_fault
   update_passed old new h =
@@ -113,7 +114,7 @@ module _ (p : Pool) where
       let e = no_row (held p (moved old new) && not (exact_pair old (moved old new))) Held _ d.1 in
       (not_false _ (or_neither (not (valid old.rect)) (not (valid new)) a.0).1, not_false _ d.0, e.0)
 
-  pub search_passed : (room : ℕ) (o : Owner) (mode : Mode) (window : Rect) → search_fault p room o mode window ≡ none → length (found p o mode window) ≤ room
+  pub search_passed : (room : ℕ) (o : Owner) (mode : Mode) (window : Rect) → search_fault p room o mode window ≡ None → length (found p o mode window) ≤ room
   unfolding search_fault
   search_passed room o mode window h =
       let a = no_row (not (valid window)) BadRectangle _ h in
@@ -123,71 +124,72 @@ module _ (p : Pool) where
 -- ---- a request opened at its table
 
 module _ (c : Choice) (p : Pool) (filled room : ℕ) where
-  pub insert_some : (r : Record) (reply : Reply) → insert_fault p r ≡ some reply → request c p filled room (Insert r) ≡ turn p reply []
+  pub insert_some : (r : Record) (fault : RequestFault) → insert_fault p r ≡ Some fault → request c p filled room (Insert r) ≡ turn p (Err fault) []
   unfolding request
-  insert_some r reply h = rw (h, request)
+  insert_some r fault h = rw (h, request)
 
-  pub insert_none : (r : Record) → insert_fault p r ≡ none → request c p filled room (Insert r) ≡ after_change p (insert_record c p r)
+  pub insert_none : (r : Record) → insert_fault p r ≡ None → request c p filled room (Insert r) ≡ after_change p (insert_record c p r)
   unfolding request
   insert_none r h = rw (h, request)
 
-  pub delete_some : (r : Record) (reply : Reply) → delete_fault p r ≡ some reply → request c p filled room (Delete r) ≡ turn p reply []
+  pub delete_some : (r : Record) (fault : RequestFault) → delete_fault p r ≡ Some fault → request c p filled room (Delete r) ≡ turn p (Err fault) []
   unfolding request
-  delete_some r reply h = rw (h, request)
+  delete_some r fault h = rw (h, request)
 
-  pub delete_none : (r : Record) → delete_fault p r ≡ none → request c p filled room (Delete r) ≡ after_change p (delete_record c p r)
+  pub delete_none : (r : Record) → delete_fault p r ≡ None → request c p filled room (Delete r) ≡ after_change p (delete_record c p r)
   unfolding request
   delete_none r h = rw (h, request)
 
-  pub update_some : (old : Record) (new : Rect) (reply : Reply) → update_fault p old new ≡ some reply
-      → request c p filled room (Update old new) ≡ turn p reply []
+  pub update_some : (old : Record) (new : Rect) (fault : RequestFault) → update_fault p old new ≡ Some fault
+      → request c p filled room (Update old new) ≡ turn p (Err fault) []
   unfolding request
-  update_some old new reply h = rw (h, request)
+  update_some old new fault h = rw (h, request)
 
-  pub update_none : (old : Record) (new : Rect) → update_fault p old new ≡ none
+  pub update_none : (old : Record) (new : Rect) → update_fault p old new ≡ None
       → request c p filled room (Update old new) ≡ after_change p (update_record c p old new)
   unfolding request
   update_none old new h = rw (h, request)
 
-  pub search_some : (o : Owner) (mode : Mode) (window : Rect) (reply : Reply) → search_fault p room o mode window ≡ some reply → request c p filled room (Search o mode window) ≡ turn p reply []
+  pub search_some : (o : Owner) (mode : Mode) (window : Rect) (fault : RequestFault) → search_fault p room o mode window ≡ Some fault
+      → request c p filled room (Search o mode window) ≡ turn p (Err fault) []
   unfolding request
-  search_some o mode window reply h = rw (h, request)
+  search_some o mode window fault h = rw (h, request)
 
-  pub search_none : (o : Owner) (mode : Mode) (window : Rect) → search_fault p room o mode window ≡ none
-      → request c p filled room (Search o mode window) ≡ turn p (Listed (length (found p o mode window)) filled (opened p window)) (found p o mode window)
+  pub search_none : (o : Owner) (mode : Mode) (window : Rect) → search_fault p room o mode window ≡ None
+      → request c p filled room (Search o mode window) ≡ turn p (Ok (Listed (length (found p o mode window)) filled (opened p window))) (found p o mode window)
   unfolding request
   search_none o mode window h = rw (h, request)
 
 -- a row of a table applies, or none does
-row_or_none : {X : Type 0} (fault : Option Reply) → EachGiven Refused fault → ((reply : Reply) → fault ≡ some reply → Refused reply → X)
-    → (fault ≡ none → X) → X
-row_or_none none g f h = h refl
-row_or_none (some reply) g f h = f reply refl g
+row_or_none : {X : Type 0} (row : Option RequestFault) → EachGiven Refused row → ((fault : RequestFault) → row ≡ Some fault → Refused fault → X)
+    → (row ≡ None → X) → X
+row_or_none None g f h = h refl
+row_or_none (Some fault) g f h = f fault refl g
 
 -- what is true of every turn that refuses, and of every request that is done, is true of every request
 module _ (c : Choice) (p : Pool) (filled room : ℕ) (P : Asked → Turn → Type 0)
-    (refused : (a : Asked) (reply : Reply) → Refused reply → P a (turn p reply []))
-    (inserted : (r : Record) → insert_fault p r ≡ none → P (Insert r) (after_change p (insert_record c p r)))
-    (deleted : (r : Record) → delete_fault p r ≡ none → P (Delete r) (after_change p (delete_record c p r)))
-    (updated : (old : Record) (new : Rect) → update_fault p old new ≡ none → P (Update old new) (after_change p (update_record c p old new)))
-    (listed : (o : Owner) (mode : Mode) (window : Rect) → search_fault p room o mode window ≡ none
-    → P (Search o mode window) (turn p (Listed (length (found p o mode window)) filled (opened p window)) (found p o mode window))) where
+    (refused : (a : Asked) (fault : RequestFault) → Refused fault → P a (turn p (Err fault) []))
+    (inserted : (r : Record) → insert_fault p r ≡ None → P (Insert r) (after_change p (insert_record c p r)))
+    (deleted : (r : Record) → delete_fault p r ≡ None → P (Delete r) (after_change p (delete_record c p r)))
+    (updated : (old : Record) (new : Rect) → update_fault p old new ≡ None → P (Update old new) (after_change p (update_record c p old new)))
+    (listed : (o : Owner) (mode : Mode) (window : Rect) → search_fault p room o mode window ≡ None
+    → P (Search o mode window) (turn p (Ok (Listed (length (found p o mode window)) filled (opened p window))) (found p o mode window))) where
   pub request_cases : (a : Asked) → P a (request c p filled room a)
   request_cases (Insert r) =
       row_or_none (insert_fault p r) (insert_refused p r)
-      (λ reply h g. subst (P (Insert r)) (sym (insert_some c p filled room r reply h)) (refused (Insert r) reply g))
+      (λ fault h g. subst (P (Insert r)) (sym (insert_some c p filled room r fault h)) (refused (Insert r) fault g))
       (λ h. subst (P (Insert r)) (sym (insert_none c p filled room r h)) (inserted r h))
   request_cases (Delete r) =
       row_or_none (delete_fault p r) (delete_refused p r)
-      (λ reply h g. subst (P (Delete r)) (sym (delete_some c p filled room r reply h)) (refused (Delete r) reply g))
+      (λ fault h g. subst (P (Delete r)) (sym (delete_some c p filled room r fault h)) (refused (Delete r) fault g))
       (λ h. subst (P (Delete r)) (sym (delete_none c p filled room r h)) (deleted r h))
   request_cases (Update old new) =
       row_or_none (update_fault p old new) (update_refused p old new)
-      (λ reply h g. subst (P (Update old new)) (sym (update_some c p filled room old new reply h)) (refused (Update old new) reply g))
+      (λ fault h g. subst (P (Update old new)) (sym (update_some c p filled room old new fault h)) (refused (Update old new) fault g))
       (λ h. subst (P (Update old new)) (sym (update_none c p filled room old new h)) (updated old new h))
   request_cases (Search o mode window) =
       row_or_none (search_fault p room o mode window) (search_refused p room o mode window)
-      (λ reply h g. subst (P (Search o mode window)) (sym (search_some c p filled room o mode window reply h)) (refused (Search o mode window) reply g))
+      (λ fault h g. subst (P (Search o mode window)) (sym (search_some c p filled room o mode window fault h)) (refused (Search o mode window) fault g))
       (λ h. subst (P (Search o mode window)) (sym (search_none c p filled room o mode window h)) (listed o mode window h))
 
 -- what a request lists has room
@@ -199,7 +201,7 @@ module _ (c : Choice) (p : Pool) (filled room : ℕ) where
 
   pub listed_fits : (a : Asked) → length (request c p filled room a).listed ≤ room
   listed_fits =
-      request_cases c p filled room (λ a t. length t.listed ≤ room) (λ a reply h. omega arith) (λ r h. change_fits (insert_record c p r))
+      request_cases c p filled room (λ a t. length t.listed ≤ room) (λ a fault h. omega arith) (λ r h. change_fits (insert_record c p r))
       (λ r h. change_fits (delete_record c p r)) (λ old new h. change_fits (update_record c p old new)) (search_passed p room)
 
 -- ---- each kind of change
@@ -215,8 +217,8 @@ module _ (c : Choice) (lawful : Lawful c) (p : Pool) (rs : List Record) (k : Hol
   abbrev Fair : Asked → Type 0
   Fair a = owner_sound p.edition (asked_by a) ≡ true
 
-  refused_good : (a : Asked) (reply : Reply) → Refused reply → Good a (turn p reply [])
-  refused_good a reply h = subst (HoldsRecords p) (sym (force_refused rs a reply h)) k
+  refused_good : (a : Asked) (fault : RequestFault) → Refused fault → Good a (turn p (Err fault) [])
+  refused_good a fault h = subst (HoldsRecords p) (sym (force_refused rs a fault h)) k
 
   none_refused : Refused NoSlot
   unfolding answer_of
@@ -227,7 +229,7 @@ module _ (c : Choice) (lawful : Lawful c) (p : Pool) (rs : List Record) (k : Hol
   after_good a (Done q) h = subst (HoldsRecords q) (sym (force_changed rs a)) (h q refl)
   after_good a NoneFree h = refused_good a NoSlot none_refused
 
-  insert_holds : (r : Record) → insert_fault p r ≡ none → Fair (Insert r) → (q : Pool) → insert_record c p r ≡ Done q
+  insert_holds : (r : Record) → insert_fault p r ≡ None → Fair (Insert r) → (q : Pool) → insert_record c p r ≡ Done q
       → HoldsRecords q (change rs (Insert r))
   unfolding change asked_by
   insert_holds r h s q d =
@@ -242,7 +244,7 @@ module _ (c : Choice) (lawful : Lawful c) (p : Pool) (rs : List Record) (k : Hol
         owners = owned_alike q alike (insert_owned c lawful p k.whole owned r y.0 y.1 s q d);
       }
 
-  delete_holds : (r : Record) → delete_fault p r ≡ none → (q : Pool) → delete_record c p r ≡ Done q → HoldsRecords q (change rs (Delete r))
+  delete_holds : (r : Record) → delete_fault p r ≡ None → (q : Pool) → delete_record c p r ≡ Done q → HoldsRecords q (change rs (Delete r))
   unfolding change
   delete_holds r h q d =
       let y = delete_passed p r h in
@@ -271,7 +273,7 @@ module _ (c : Choice) (lawful : Lawful c) (p : Pool) (rs : List Record) (k : Hol
           never_both (in_held p k.whole rs k.alike (moved old new) (less_among (moved old new) old rs there m))
           (and_unless (held p (moved old new)) (exact_pair old (moved old new)) n e)
 
-  update_holds : (old : Record) (new : Rect) → update_fault p old new ≡ none → (q : Pool) → update_record c p old new ≡ Done q
+  update_holds : (old : Record) (new : Rect) → update_fault p old new ≡ None → (q : Pool) → update_record c p old new ≡ Done q
       → HoldsRecords q (change rs (Update old new))
   unfolding change
   update_holds old new h q d =
@@ -307,8 +309,8 @@ module _ (c : Choice) (lawful : Lawful c) (p : Pool) (rs : List Record) (k : Hol
   -- a request of any kind, accepted or refused
   pub request_force : (filled room : ℕ) (a : Asked) → owner_sound p.edition (asked_by a) ≡ true → Good a (request c p filled room a)
   request_force filled room =
-      request_cases c p filled room (λ a t. Fair a → Good a t) (λ a reply h s. refused_good a reply h)
+      request_cases c p filled room (λ a t. Fair a → Good a t) (λ a fault h s. refused_good a fault h)
       (λ r h s. after_good (Insert r) (insert_record c p r) (insert_holds r h s))
       (λ r h s. after_good (Delete r) (delete_record c p r) (delete_holds r h))
       (λ old new h s. after_good (Update old new) (update_record c p old new) (update_holds old new h))
-      (λ o mode window h s. subst (HoldsRecords p) (sym (search_force o mode window (Listed (length (found p o mode window)) filled (opened p window)))) k)
+      (λ o mode window h s. subst (HoldsRecords p) (sym (search_force o mode window (Ok (Listed (length (found p o mode window)) filled (opened p window))))) k)

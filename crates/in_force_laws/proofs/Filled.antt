@@ -2,18 +2,18 @@
 -- fills one.
 use mathlib.Core.Path.{◌≡◌, refl, sym, ap, ◌∙◌}
 use mathlib.Core.List.{List, [], ◌∷◌, ◌++◌}
-use mathlib.Core.Option.{Option, none, some}
+use Rattle.std.specs.Prelude.{Option, None, Some, Ok, Err}
 use Prim.Native.Nat.{ℕ, suc, ◌+◌, ◌-◌, ◌≤◌, ◌<◌}
 use native.Mathlib.Omega.{arith}
 use lib.ListN.{length, get_or}
 use lib.Seq.{get_or-set_same}
+use Rattle.rules.specs.declared.RequestFault.{RequestFault}
 use Rattle.rules.specs.declared.Owner.{Owner}
 use Rattle.rules.specs.declared.FoundRecord.{FoundRecord}
 use Rattle.rules.specs.declared.Request.{Request}
 use Rattle.rules.specs.declared.Asked.{Asked}
 use Rattle.rules.specs.declared.Answer.{Answer}
-use Rattle.rules.specs.declared.Reply.{Reply}
-use Rattle.rules.specs.declared.Reply.TheVariants.{Listed}
+use Rattle.rules.specs.declared.Accepted.TheVariants.{Listed}
 use Rattle.rules.specs.Pool.{Pool}
 use Rattle.rules.specs.Search.{found, opened}
 use Rattle.rules.specs.Answers.{answer_of}
@@ -30,16 +30,16 @@ use Rattle.in_force_laws.proofs.Batch.{no_answer, answers_kept, step_long, step_
 abbrev Fills : Turn → Type 0
 Fills t = length t.listed ≡ places_filled (answer_of t.reply)
 
-refused_fills : (p : Pool) (reply : Reply) → Refused reply → Fills (turn p reply [])
+refused_fills : (p : Pool) (fault : RequestFault) → Refused fault → Fills (turn p (Err fault) [])
 unfolding places_filled
-refused_fills p reply h = rw h
+refused_fills p fault h = rw h
 
 after_fills : (p : Pool) (o : Change) → Fills (after_change p o)
 unfolding after_change places_filled answer_of
 after_fills p (Done q) = refl
 after_fills p NoneFree = refl
 
-list_fills : (p : Pool) (rs : List FoundRecord) (start opened : ℕ) → Fills (turn p (Listed (length rs) start opened) rs)
+list_fills : (p : Pool) (rs : List FoundRecord) (start opened : ℕ) → Fills (turn p (Ok (Listed (length rs) start opened)) rs)
 unfolding places_filled answer_of
 list_fills p rs start opened = refl
 
@@ -63,8 +63,8 @@ module _ (c : Choice) where
   step_fills : (i : ℕ) (b : Batch) (o : Option Asked) → i < length b.answers
       → (do_request c i b o).filled ≡ filled_by b.filled o (get_or (do_request c i b o).answers i no_answer)
   unfolding do_request after_turn filled_by
-  step_fills i b none h = refl
-  step_fills i b (some a) h =
+  step_fills i b None h = refl
+  step_fills i b (Some a) h =
       let room = length b.found - b.filled in
       let t = request c b.pool b.filled room a in
       ap (λ (n : ℕ). b.filled + n) (request_fills c b.pool b.filled room a)

@@ -1,7 +1,7 @@
 -- What lasts through each store lasts through the requests of a batch: so do the number of slots of a pool, and its edition.
 use mathlib.Core.Path.{◌≡◌, refl}
 use mathlib.Core.List.{List, [], ◌∷◌}
-use mathlib.Core.Option.{Option, none, some}
+use Rattle.std.specs.Prelude.{Option, None, Some}
 use Prim.Native.Nat.{ℕ, suc, ◌-◌}
 use lib.ListN.{length}
 use Rattle.rules.specs.declared.Record.{Record}
@@ -33,8 +33,8 @@ module _ {P : Pool → Type 0} (k : Lasting P) (c : Choice) where
 
   pub step_lasts : (i : ℕ) (b : Batch) (o : Option Asked) → P b.pool → P (do_request c i b o).pool
   unfolding do_request after_turn
-  step_lasts i b none h = h
-  step_lasts i b (some a) h = request_lasts b.pool b.filled (length b.found - b.filled) a h
+  step_lasts i b None h = h
+  step_lasts i b (Some a) h = request_lasts b.pool b.filled (length b.found - b.filled) a h
 
   pub batch_lasts : (i : ℕ) (qs : List Request) (b : Batch) → P b.pool → P (do_requests c i qs b).pool
   unfolding do_requests

@@ -3,7 +3,7 @@ use mathlib.Core.Path.{◌≡◌, refl, sym, ap, ◌∙◌}
 use mathlib.Core.Logic.{◌≢◌}
 use mathlib.Core.Bool.{Bool, true, false, cond}
 use mathlib.Core.List.{List, [], ◌∷◌}
-use mathlib.Core.Option.{Option, none, some}
+use Rattle.std.specs.Prelude.{Option, None, Some}
 use Prim.Native.Nat.{ℕ, suc, ◌≤◌}
 use native.Mathlib.Decide.{dec_le}
 use native.Mathlib.Omega.{arith}
@@ -58,8 +58,8 @@ alike_force a told {xs} {ys} h = go (eqb told.number 0)
 
 pub alike_by : (x : Option Asked) (told : Answer) {xs ys : List Record} → Alike xs ys → Alike (force_by xs x told) (force_by ys x told)
 unfolding force_by
-alike_by none told h = h
-alike_by (some a) told h = alike_force a told h
+alike_by None told h = h
+alike_by (Some a) told h = alike_force a told h
 
 -- by the same requests and answers, records that are alike stay so
 pub alike_after : (o : Owner) (i : ℕ) (qs : List Request) (told : List Answer) {xs ys : List Record} → Alike xs ys
@@ -146,15 +146,15 @@ module _ (o : Owner) where
   own_by rs q told = go (asked o q) refl
     where
       go : (x : Option Asked) → asked o q ≡ x → own (force_by rs x told) ≡ force_by (own rs) x told
-      go none e = unfold force_by in refl
-      go (some a) e = unfold force_by in own_force rs a told (asked_owner o q a e)
+      go None e = unfold force_by in refl
+      go (Some a) e = unfold force_by in own_force rs a told (asked_owner o q a e)
 
   other_by : (w : Owner) → w ≢ o → (rs : List Record) (q : Request) (told : Answer) → own (force_by rs (asked w q) told) ≡ own rs
   other_by w n rs q told = go (asked w q) refl
     where
       go : (x : Option Asked) → asked w q ≡ x → own (force_by rs x told) ≡ own rs
-      go none e = unfold force_by in refl
-      go (some a) e = unfold force_by in other_force rs a told (λ h. n (sym (asked_owner w q a e) ∙ h))
+      go None e = unfold force_by in refl
+      go (Some a) e = unfold force_by in other_force rs a told (λ h. n (sym (asked_owner w q a e) ∙ h))
 
   -- ---- a batch: the owner's, and another's
 

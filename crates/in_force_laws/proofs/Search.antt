@@ -4,7 +4,7 @@ use mathlib.Core.Path.{◌≡◌, refl, sym, subst, ap, ◌∙◌}
 use mathlib.Core.Logic.{◌⊎◌}
 use mathlib.Core.Bool.{true, false}
 use mathlib.Core.List.{List, map}
-use mathlib.Core.Option.{none}
+use Rattle.std.specs.Prelude.{None, Ok}
 use Prim.Native.Nat.{ℕ, ◌-◌, ◌*◌, ◌^◌, ◌≤◌}
 use native.Mathlib.Omega.{arith}
 use lib.ListN.{length, length-map}
@@ -15,7 +15,7 @@ use Rattle.rules.specs.declared.Mode.{Mode}
 use Rattle.rules.specs.declared.Owner.{Owner}
 use Rattle.rules.specs.declared.Record.{Record}
 use Rattle.rules.specs.declared.Asked.TheVariants.{Search}
-use Rattle.rules.specs.declared.Reply.TheVariants.{Listed}
+use Rattle.rules.specs.declared.Accepted.TheVariants.{Listed}
 use Rattle.rules.specs.Lists.{those}
 use Rattle.rules.specs.Owners.{as_found}
 use Rattle.rules.specs.Geometry.{valid, same_pair}
@@ -55,14 +55,14 @@ module _ (p : Pool) (rs : List Record) (k : HoldsRecords p rs) (o : Owner) (mode
   found_each = found_once p k.whole o mode window (λ x. omega (arith, k.alike.each (same_pair x), k.once x))
 
   module _ (room : ℕ) where
-    room_enough : valid window ≡ true → length (those (own_wanted o mode window) rs) ≤ room → search_fault p room o mode window ≡ none
+    room_enough : valid window ≡ true → length (those (own_wanted o mode window) rs) ≤ room → search_fault p room o mode window ≡ None
     unfolding search_fault first_row
     room_enough v r =
         let enough : ltb room (length (found p o mode window)) ≡ false = le-ltb room (length (found p o mode window)) (omega (arith, found_many, r)) in
         rw (v, enough)
 
     module _ (c : Choice) (filled : ℕ) where
-      shown : SearchShows p rs filled o mode window (turn p (Listed (length (found p o mode window)) filled (opened p window)) (found p o mode window))
+      shown : SearchShows p rs filled o mode window (turn p (Ok (Listed (length (found p o mode window)) filled (opened p window))) (found p o mode window))
       shown = record {
         lists = found_force;
         once = found_each;

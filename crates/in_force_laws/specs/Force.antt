@@ -1,6 +1,5 @@
 -- The records in force: what the accepted changes leave of a plain list. There is no tree here, only the requests and their answers.
-use Rattle.std.specs.Prelude.{cond, List, [], ◌∷◌, ℕ, suc, ◌+◌, get_or, eqb}
-use Rattle.std.proofs.Math.Option.{Option, none, some}
+use Rattle.std.specs.Prelude.{cond, List, [], ◌∷◌, ℕ, suc, ◌+◌, get_or, eqb, Option, None, Some}
 use Rattle.rules.specs.declared.Owner.{Owner}
 use Rattle.rules.specs.declared.Record.{Record}
 use Rattle.rules.specs.declared.Request.{Request}
@@ -38,8 +37,8 @@ in_force rs a told = cond (eqb told.number 0) (change rs a) rs
 
 -- .. of a place of the request list. (What is no request is never done)
 unfoldable pub force_by : List Record → Option Asked → Answer → List Record
-force_by rs none told = rs
-force_by rs (some a) told = in_force rs a told
+force_by rs None told = rs
+force_by rs (Some a) told = in_force rs a told
 
 -- the records in force after an owner's requests from place i on, by their answers: "its answer goes to the same place in the answer list"
 unfoldable pub force_after : Owner → List Record → ℕ → List Request → List Answer → List Record
@@ -54,8 +53,8 @@ unfoldable pub places_filled : Answer → ℕ
 places_filled told = cond (eqb told.number 0) told.found 0
 
 unfoldable pub filled_by : ℕ → Option Asked → Answer → ℕ
-filled_by n none told = n
-filled_by n (some a) told = n + places_filled told
+filled_by n None told = n
+filled_by n (Some a) told = n + places_filled told
 
 -- "Accepted searches fill the found list one after another": the places filled after the requests from place i on, by their answers
 unfoldable pub filled_after : Owner → ℕ → ℕ → List Request → List Answer → ℕ

@@ -1,11 +1,11 @@
 -- A pool that holds the records in force, and what a search in it is to show.
-use Rattle.std.specs.Prelude.{◌≡◌, ◌⊎◌, true, List, map, ℕ, suc, ◌-◌, ◌*◌, ◌^◌, ◌≤◌, length}
+use Rattle.std.specs.Prelude.{◌≡◌, ◌⊎◌, true, List, map, ℕ, suc, ◌-◌, ◌*◌, ◌^◌, ◌≤◌, length, Ok}
 use Rattle.rules.specs.declared.Rect.{Rect}
 use Rattle.rules.specs.declared.Mode.{Mode}
 use Rattle.rules.specs.declared.Owner.{Owner}
 use Rattle.rules.specs.declared.Record.{Record}
 use Rattle.rules.specs.declared.FoundRecord.{FoundRecord}
-use Rattle.rules.specs.declared.Reply.TheVariants.{Listed}
+use Rattle.rules.specs.declared.Accepted.TheVariants.{Listed}
 use Rattle.rules.specs.Lists.{those}
 use Rattle.rules.specs.Owners.{owner_sound, as_found}
 use Rattle.rules.specs.Geometry.{same_found, same_pair}
@@ -51,6 +51,6 @@ High p rs = (p.height ≡ 1) ⊎ (2 * 3 ^ (p.height - 1) ≤ length rs)
 pub record SearchShows (p : Pool) (rs : List Record) (filled : ℕ) (o : Owner) (mode : Mode) (window : Rect) (t : Turn) : Type 0 where
   pub lists : t.listed ≡ ordered (map as_found (those (own_wanted o mode window) rs))
   pub once : EachShown t.listed
-  pub reply : t.reply ≡ Listed (length (those (own_wanted o mode window) rs)) filled (reported p.edition (suc (nodes_meeting p window)))
+  pub reply : t.reply ≡ Ok (Listed (length (those (own_wanted o mode window) rs)) filled (reported p.edition (suc (nodes_meeting p window))))
   pub same : t.pool ≡ p
   pub high : High p rs

@@ -9,7 +9,7 @@ use borrow.Author.Tests.{lt-ltb, le-ltb}
 use Rattle.rules.specs.declared.SlotNumber.{SlotNumber}
 use Rattle.rules.specs.declared.Pointer.TheVariants.{Child}
 use Rattle.rules.specs.declared.Entry.{Entry}
-use Rattle.rules.specs.declared.FreeSlot.TheVariants.{At, Nowhere}
+use Rattle.std.specs.Prelude.{Some, None}
 use Rattle.rules.specs.Numbers.{most, least}
 use Rattle.rules.specs.Pool.{Node, Pool, node, entry, node_at, entries_at, cover_of, entry_for, lowest_free, put_node}
 use Rattle.rules.specs.Insert.{Choice, Kept, Split, Full, install}
@@ -35,7 +35,7 @@ module _ (c : Choice) (p : Pool) (l : ℕ) (s : SlotNumber) (here : NodeIn p (su
   )
 
   module _ (full : most ≤ length (entries_at p s)) where
-    pub install_none : lowest_free p ≡ Nowhere → install c p s e ≡ Full
+    pub install_none : lowest_free p ≡ None → install c p s e ≡ Full
     install_none h =
         install_full c p s e (le-ltb (length (entries_at p s)) most full) ∙ rw h (split_none p s (c.split nine))
 
@@ -50,7 +50,7 @@ module _ (c : Choice) (p : Pool) (l : ℕ) (s : SlotNumber) (here : NodeIn p (su
       pub most_two : length (c.split nine).two ≤ 6
       pub partner : x ≡ entry_for q t
 
-    module _ (lawful : LawfulSplit c.split) (t : SlotNumber) (h : lowest_free p ≡ At t) where
+    module _ (lawful : LawfulSplit c.split) (t : SlotNumber) (h : lowest_free p ≡ Some t) where
       abbrev one : Node
       one = node (suc l) (c.split nine).one
 

@@ -13,8 +13,7 @@ use borrow.Author.Tests.{ltb-true, ltb-false}
 use Rattle.rules.specs.declared.SlotNumber.{SlotNumber}
 use Rattle.rules.specs.declared.Pointer.TheVariants.{Child}
 use Rattle.rules.specs.declared.Entry.{Entry}
-use Rattle.rules.specs.declared.FreeSlot.{FreeSlot}
-use Rattle.rules.specs.declared.FreeSlot.TheVariants.{At, Nowhere}
+use Rattle.std.specs.Prelude.{Option, Some, None}
 use Rattle.rules.specs.Lists.{total}
 use Rattle.rules.specs.Numbers.{most, least}
 use Rattle.rules.specs.Pool.{Node, Pool, node, entry, free_node, node_at, entries_at, child_of, cover_of, lowest_free, put_node, put_entries}
@@ -207,12 +206,12 @@ module _ (p : Pool) (l : ℕ) (s : SlotNumber) (d : Tree p (suc l) s) (e : Entry
 
 -- ---- both
 
-pub split_none : (p : Pool) (s : SlotNumber) (h : Halves) → split_into p s h Nowhere ≡ Full
+pub split_none : (p : Pool) (s : SlotNumber) (h : Halves) → split_into p s h None ≡ Full
 unfolding split_into
 split_none p s h = refl
 
 pub split_at : (p : Pool) (l : ℕ) (s : SlotNumber) (h : Halves) (t : SlotNumber) → (node_at p s).level ≡ l
-    → split_into p s h (At t) ≡ Split (put_two p s (node l h.one) t (node l h.two)) (entry (cover_of h.two) (Child t))
+    → split_into p s h (Some t) ≡ Split (put_two p s (node l h.one) t (node l h.two)) (entry (cover_of h.two) (Child t))
 unfolding split_into
 split_at p l s h t e = rw (put_entries_lem p l s h.one e, e)
 
@@ -242,7 +241,7 @@ install_grows c lawful p l s d e f = go (ltb (length (entries_at p s)) most) ref
     es : List Entry
     es = entries_at p s ++ e ∷ []
 
-    go : (b : Bool) → ltb (length (entries_at p s)) most ≡ b → (o : FreeSlot) → lowest_free p ≡ o
+    go : (b : Bool) → ltb (length (entries_at p s)) most ≡ b → (o : Option SlotNumber) → lowest_free p ≡ o
         → Grows p (suc l) s (suc l) e (s ∷ []) (install c p s e)
     go true h o q =
         rw (install_room c p s e h, put_entries_lem p (suc l) s es level) (
@@ -252,8 +251,8 @@ install_grows c lawful p l s d e f = go (ltb (length (entries_at p s)) most) ref
           rw (entries_are (put_node p s (node (suc l) es)) (suc l) s es (put_same p s (node (suc l) es) slot))
               (omega (arith, length-append (entries_at p s) (e ∷ []))),
         )
-    go false h Nowhere q = rw (install_full c p s e h, q, split_none p s (c.split es)) tt
-    go false h (At t) q =
+    go false h None q = rw (install_full c p s e h, q, split_none p s (c.split es)) tt
+    go false h (Some t) q =
         let full = ltb-false (length (entries_at p s)) most h in
         let nine : length es ≡ suc most = omega (arith, few, length-append (entries_at p s) (e ∷ [])) in
         let parts = lawful.parted es nine in

@@ -9,8 +9,7 @@ use Rattle.rules.specs.declared.Edition.{Edition}
 use Rattle.rules.specs.declared.SlotNumber.{SlotNumber}
 use Rattle.rules.specs.declared.Record.{Record}
 use Rattle.rules.specs.declared.Entry.{Entry}
-use Rattle.rules.specs.declared.FreeSlot.{FreeSlot}
-use Rattle.rules.specs.declared.FreeSlot.TheVariants.{At, Nowhere}
+use Rattle.std.specs.Prelude.{Option, Some, None}
 use Rattle.rules.specs.Numbers.{most}
 use Rattle.rules.specs.Pool.{Pool, node, node_at, entries_at, entry_at, child_of, leaf_entry, lowest_free, put_node, put_entries, zero_slot, put_root, put_records, tighten}
 use Rattle.rules.specs.Split.{Halves}
@@ -36,15 +35,15 @@ module _ {P : Pool → Type 0} (k : Lasting P) where
   unfolding tighten
   tighten_lasts p s i = entries_last p s _
 
-  split_lasts : (p : Pool) (s : SlotNumber) (h : Halves) (o : FreeSlot) → P p → EachGrown P (split_into p s h o)
+  split_lasts : (p : Pool) (s : SlotNumber) (h : Halves) (o : Option SlotNumber) → P p → EachGrown P (split_into p s h o)
   unfolding split_into
-  split_lasts p s h Nowhere e = tt
-  split_lasts p s h (At t) e = k.node (put_entries p s h.one) t _ (entries_last p s h.one e)
+  split_lasts p s h None e = tt
+  split_lasts p s h (Some t) e = k.node (put_entries p s h.one) t _ (entries_last p s h.one e)
 
-  new_lasts : (p : Pool) (x : Entry) (o : FreeSlot) → P p → EachPool P (new_root p x o)
+  new_lasts : (p : Pool) (x : Entry) (o : Option SlotNumber) → P p → EachPool P (new_root p x o)
   unfolding new_root
-  new_lasts p x Nowhere e = tt
-  new_lasts p x (At t) e = k.root (put_node p t _) t (suc p.height) (k.node p t _ e)
+  new_lasts p x None e = tt
+  new_lasts p x (Some t) e = k.root (put_node p t _) t (suc p.height) (k.node p t _ e)
 
   grow_lasts : (g : Grown) → EachGrown P g → EachPool P (grow_tree g)
   grow_lasts (Kept p) e = rw (grow_kept p) e

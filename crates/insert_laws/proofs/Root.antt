@@ -9,8 +9,7 @@ use native.Mathlib.Omega.{arith}
 use lib.ListN.{length}
 use Rattle.rules.specs.declared.SlotNumber.{SlotNumber}
 use Rattle.rules.specs.declared.Entry.{Entry}
-use Rattle.rules.specs.declared.FreeSlot.{FreeSlot}
-use Rattle.rules.specs.declared.FreeSlot.TheVariants.{At, Nowhere}
+use Rattle.std.specs.Prelude.{Option, Some, None}
 use Rattle.rules.specs.Numbers.{least}
 use Rattle.rules.specs.Pool.{Pool, node, free_node, node_at, entries_at, child_of, entry_for, lowest_free, put_node, put_root}
 use Rattle.rules.specs.Insert.{Choice, Grown, Kept, Split, Full, Done, NoneFree, new_root, grow_tree, insert_below, insert_at}
@@ -111,7 +110,7 @@ record Raised (p : Pool) (l : ℕ) (s : SlotNumber) (x : Entry) (t : SlotNumber)
   many : length (entries_at (raised_to p l s x t) t) ≡ 2
 
 new_raised : (p : Pool) (l : ℕ) (s : SlotNumber) → Tree p l s → least ≤ length (entries_at p s) → (x : Entry) → Fits p (suc l) x → (t : SlotNumber)
-    → lowest_free p ≡ At t → Raised p l s x t
+    → lowest_free p ≡ Some t → Raised p l s x t
 new_raised p zero s d enough x f t h = absurd (no_tree p s d)
 new_raised p (suc l) s d enough x f t h =
     let k = lowest_slot p t h in
@@ -132,11 +131,11 @@ pub grow_full : grow_tree Full ≡ NoneFree
 unfolding grow_tree
 grow_full = refl
 
-pub new_none : (p : Pool) (x : Entry) → new_root p x Nowhere ≡ NoneFree
+pub new_none : (p : Pool) (x : Entry) → new_root p x None ≡ NoneFree
 unfolding new_root
 new_none p x = refl
 
-pub new_at : (p q : Pool) (x : Entry) (t : SlotNumber) → SameHead p q → new_root q x (At t) ≡ Done (raised_to q p.height p.root x t)
+pub new_at : (p q : Pool) (x : Entry) (t : SlotNumber) → SameHead p q → new_root q x (Some t) ≡ Done (raised_to q p.height p.root x t)
 unfolding new_root
 new_at p q x t h = λ i. Done (raised_to q (h.height i) (h.root i) x t)
 
@@ -146,10 +145,10 @@ module _ (p : Pool) (k : ℕ) (e : Entry) where
   abbrev Root : Grown → Type 0
   Root o = Grows p p.height p.root k e (tree_slots p) o
 
-  split_puts : (q : Pool) (x : Entry) → Root (Split q x) → (o : FreeSlot) → lowest_free q ≡ o → Puts p k e (new_root q x o)
+  split_puts : (q : Pool) (x : Entry) → Root (Split q x) → (o : Option SlotNumber) → lowest_free q ≡ o → Puts p k e (new_root q x o)
   unfolding put_root
-  split_puts q x h Nowhere free = rw (new_none q x) tt
-  split_puts q x h (At t) free =
+  split_puts q x h None free = rw (new_none q x) tt
+  split_puts q x h (Some t) free =
       let g = h.1 in
       let r = new_raised q p.height p.root g.tree h.3 x (g.fit x (Memᴰ.head refl)) t free in
       rw (new_at p q x t h.2) (record {

@@ -11,8 +11,7 @@ use Rattle.rules.specs.declared.Rect.{Rect}
 use Rattle.rules.specs.declared.SlotNumber.{SlotNumber}
 use Rattle.rules.specs.declared.Record.{Record}
 use Rattle.rules.specs.declared.Entry.{Entry}
-use Rattle.rules.specs.declared.FreeSlot.{FreeSlot}
-use Rattle.rules.specs.declared.FreeSlot.TheVariants.{At, Nowhere}
+use Rattle.std.specs.Prelude.{Option, Some, None}
 use Rattle.rules.specs.Numbers.{good_number}
 use Rattle.rules.specs.Geometry.{valid}
 use Rattle.rules.specs.Pool.{Pool, node, node_at, entries_at, entry_at, child_of, leaf_entry, entry_for, lowest_free, free_count, put_root, put_records}
@@ -36,10 +35,10 @@ abbrev Needs : Pool → ℕ → Change → Type 0
 Needs p m (Done q) = free_count q + m ≡ free_count p
 Needs p m NoneFree = free_count p < m
 
-new_needs : (p q : Pool) (x : Entry) (m : ℕ) → free_count q + m ≡ free_count p → (o : FreeSlot) → lowest_free q ≡ o → Needs p (suc m) (new_root q x o)
+new_needs : (p q : Pool) (x : Entry) (m : ℕ) → free_count q + m ≡ free_count p → (o : Option SlotNumber) → lowest_free q ≡ o → Needs p (suc m) (new_root q x o)
 unfolding new_root put_root free_count
-new_needs p q x m h Nowhere z = omega (arith, nowhere_none q z)
-new_needs p q x m h (At t) z =
+new_needs p q x m h None z = omega (arith, nowhere_none q z)
+new_needs p q x m h (Some t) z =
     omega (arith, put_free q t (node (suc q.height) (entry_for q q.root ∷ x ∷ [])) (lowest_slot q t z) (omega arith) (lowest_free_lem q t z))
 
 -- from what the way takes to what the pool does

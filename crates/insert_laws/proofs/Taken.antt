@@ -13,8 +13,7 @@ use borrow.Author.Tests.{ltb-true, ltb-false}
 use Rattle.rules.specs.declared.Rect.{Rect}
 use Rattle.rules.specs.declared.SlotNumber.{SlotNumber}
 use Rattle.rules.specs.declared.Entry.{Entry}
-use Rattle.rules.specs.declared.FreeSlot.{FreeSlot}
-use Rattle.rules.specs.declared.FreeSlot.TheVariants.{At, Nowhere}
+use Rattle.std.specs.Prelude.{Option, Some, None}
 use Rattle.rules.specs.Numbers.{most, least}
 use Rattle.rules.specs.Pool.{Node, Pool, node, node_at, entries_at, entry_at, child_of, lowest_free, free_count, put_node, tighten}
 use Rattle.rules.specs.Insert.{Choice, Grown, Kept, Split, Full, install, adjust, insert_below}
@@ -53,13 +52,13 @@ install_takes c p l s d e = go (ltb (length (entries_at p s)) most) refl (lowest
     es : List Entry
     es = entries_at p s ++ e ∷ []
 
-    go : (b : Bool) → ltb (length (entries_at p s)) most ≡ b → (o : FreeSlot) → lowest_free p ≡ o → Installs p s (install c p s e)
+    go : (b : Bool) → ltb (length (entries_at p s)) most ≡ b → (o : Option SlotNumber) → lowest_free p ≡ o → Installs p s (install c p s e)
     go true h o q =
         rw (install_room c p s e h, put_entries_lem p (suc l) s es level)
         (ltb-true (length (entries_at p s)) most h, put_used p s (node (suc l) es) slot (omega arith) (omega (arith, level)))
-    go false h Nowhere q =
+    go false h None q =
         rw (install_full c p s e h, q, split_none p s (c.split es)) (ltb-false (length (entries_at p s)) most h, nowhere_none p q)
-    go false h (At t) q =
+    go false h (Some t) q =
         let one = node (suc l) (c.split es).one in
         let k = lowest_slot p t q in
         let z = lowest_free_lem p t q in

@@ -15,8 +15,7 @@ use borrow.Author.Tests.{ltb-true, ltb-false}
 use Rattle.rules.specs.declared.Rect.{Rect}
 use Rattle.rules.specs.declared.SlotNumber.{SlotNumber}
 use Rattle.rules.specs.declared.Entry.{Entry}
-use Rattle.rules.specs.declared.FreeSlot.{FreeSlot}
-use Rattle.rules.specs.declared.FreeSlot.TheVariants.{At, Nowhere}
+use Rattle.std.specs.Prelude.{Option, Some, None}
 use Rattle.rules.specs.Lists.{those, without}
 use Rattle.rules.specs.Numbers.{most}
 use Rattle.rules.specs.Geometry.{smaller, larger, cover, cover_all}
@@ -200,12 +199,12 @@ module _ (c : Choice) where
       all : (y : Rect) → misses y es ≡ misses y (entries_at p s) + missed y e.rect
       all y = omega (arith, misses_append y (entries_at p s) (e ∷ []), misses_one y e)
 
-      go : (b : Bool) → ltb (length (entries_at p s)) most ≡ b → (o : FreeSlot) → lowest_free p ≡ o → Widened p s e (install c p s e)
+      go : (b : Bool) → ltb (length (entries_at p s)) most ≡ b → (o : Option SlotNumber) → lowest_free p ≡ o → Widened p s e (install c p s e)
       go true h o q =
           let r = install_last c p l s here e (ltb-true (length (entries_at p s)) most h) in
           rw r.1 (λ y. omega (arith, all y, ap (misses y) (entries_are r.0 (suc l) s es r.2)))
-      go false h Nowhere q = rw (install_none c p l s here e (ltb-false (length (entries_at p s)) most h) q) tt
-      go false h (At t) q =
+      go false h None q = rw (install_none c p l s here e (ltb-false (length (entries_at p s)) most h) q) tt
+      go false h (Some t) q =
           let full = ltb-false (length (entries_at p s)) most h in
           let a = install_halves c p l s here e full lawful t q in
           let nine : length es ≡ suc most = omega (arith, here.few, length-append (entries_at p s) (e ∷ [])) in

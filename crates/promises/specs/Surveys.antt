@@ -1,7 +1,7 @@
 -- What `dustmap_box`, `dustmap_point` and `dustmap_disc` promise, for any doubles.
 use Rattle.std.specs.Prelude.{◌≡◌, List, ℤ, Float}
 use Rattle.rules.specs.declared.Query.TheVariants.{Point, Box, Disc}
-use Rattle.rules.specs.declared.Surveyed.{Surveyed}
+use Rattle.rules.specs.Survey.{Surveyed}
 use Rattle.rules.specs.Survey.{query_window, survey_number, survey_words}
 
 -- the number returned, and the words left of the four that were lent for the rectangle

@@ -1,17 +1,16 @@
 -- Req 06 on examples of our own, since the request gives none: what an insert needs, by the entries that each node of its way has; and what the call
 -- tells of whole pools, and refuses.
-use Rattle.std.specs.Prelude.{◌≡◌, refl, List, [], ◌∷◌, ◌++◌, map, ℕ, suc, ◌+◌, ◌-◌, length, replicate, set, ℤ, pos}
+use Rattle.std.specs.Prelude.{◌≡◌, refl, List, [], ◌∷◌, ◌++◌, map, ℕ, suc, ◌+◌, ◌-◌, length, replicate, set, ℤ, pos, Ok, Err}
 use Rattle.rules.specs.declared.Edition.TheVariants.{One}
 use Rattle.rules.specs.declared.Rect.{Rect}
 use Rattle.rules.specs.declared.Pointer.TheVariants.{Child}
 use Rattle.rules.specs.declared.Entry.{Entry}
-use Rattle.rules.specs.declared.InsertRoom.{InsertRoom}
-use Rattle.rules.specs.declared.InsertRoom.TheVariants.{Slots, BadLength, NotSound, BadRectangle}
+use Rattle.rules.specs.declared.RoomFault.TheVariants.{BadLength, NotSound, BadRectangle}
 use Rattle.rules.specs.Lists.{total, up_from}
 use Rattle.rules.specs.Pool.{Node, slot, entry, node, free_node, leaf_entry, blank_pool}
 use Rattle.rules.specs.Layout.{words}
 use Rattle.rules.specs.Insert.{ours}
-use Rattle.rules.specs.Room.{slots_needed, insert_room, room_number, room_words}
+use Rattle.rules.specs.Room.{slots_needed, RoomTold, slots, insert_room, room_number, room_words}
 use Rattle.rules.specs.Computed.{document01, document02}
 use Rattle.rules.specs.Histories.{box, zone}
 
@@ -81,9 +80,9 @@ over_leaves ns free =
 pub record RoomExample : Type 0 where
   pub pool : List ℤ
   pub rect : Rect
-  pub room : InsertRoom
+  pub room : RoomTold
 
-abbrev asks : List ℤ → Rect → InsertRoom → RoomExample
+abbrev asks : List ℤ → Rect → RoomTold → RoomExample
 asks w r t = record { pool = w; rect = r; room = t }
 
 -- a root with eight leaves: the first is full, the others have room
@@ -92,21 +91,21 @@ eight_leaves = 8 ∷ replicate 7 3
 
 abbrev pub room_examples : List RoomExample
 room_examples =
-    asks (words (blank_pool One 2)) (box 0 0 0 0) (Slots 0 2)
-    ∷ asks (one_leaf 7 2) (box 3 0 3 0) (Slots 0 2)
+    asks (words (blank_pool One 2)) (box 0 0 0 0) (Ok (slots 0 2))
+    ∷ asks (one_leaf 7 2) (box 3 0 3 0) (Ok (slots 0 2))
     -- with one slot free a full root is one too few, with two it fits
-    ∷ asks (one_leaf 8 1) (box 3 0 3 0) (Slots 2 1)
-    ∷ asks (one_leaf 8 2) (box 3 0 3 0) (Slots 2 2)
+    ∷ asks (one_leaf 8 1) (box 3 0 3 0) (Ok (slots 2 1))
+    ∷ asks (one_leaf 8 2) (box 3 0 3 0) (Ok (slots 2 2))
     -- a full leaf below a root with room; the leaf beside it has room
-    ∷ asks (over_leaves (8 ∷ 3 ∷ []) 0) (box 3 0 3 0) (Slots 1 0)
-    ∷ asks (over_leaves (8 ∷ 3 ∷ []) 0) (box 11 0 11 0) (Slots 0 0)
+    ∷ asks (over_leaves (8 ∷ 3 ∷ []) 0) (box 3 0 3 0) (Ok (slots 1 0))
+    ∷ asks (over_leaves (8 ∷ 3 ∷ []) 0) (box 11 0 11 0) (Ok (slots 0 0))
     -- below a full root likewise: "from the chosen leaf upward"
-    ∷ asks (over_leaves eight_leaves 2) (box 3 0 3 0) (Slots 3 2)
-    ∷ asks (over_leaves eight_leaves 2) (box 41 0 41 0) (Slots 0 2)
+    ∷ asks (over_leaves eight_leaves 2) (box 3 0 3 0) (Ok (slots 3 2))
+    ∷ asks (over_leaves eight_leaves 2) (box 41 0 41 0) (Ok (slots 0 2))
     -- 1 before 2 and 3: a word too few; 2 before 3: a head that counts one record too many; then 3, low above high
-    ∷ asks (replicate 49 (pos 0)) (box 3 0 2 0) BadLength
-    ∷ asks (set (one_leaf 7 2) 3 (pos 8)) (box 3 0 2 0) NotSound
-    ∷ asks (one_leaf 7 2) (box 3 0 2 0) BadRectangle
+    ∷ asks (replicate 49 (pos 0)) (box 3 0 2 0) (Err BadLength)
+    ∷ asks (set (one_leaf 7 2) 3 (pos 8)) (box 3 0 2 0) (Err NotSound)
+    ∷ asks (one_leaf 7 2) (box 3 0 2 0) (Err BadRectangle)
     ∷ []
 
 pub rooms_say : map (λ (e : RoomExample). insert_room e.pool e.rect) room_examples ≡ map (λ (e : RoomExample). e.room) room_examples
@@ -116,11 +115,11 @@ rooms_say = refl
 -- ---- what comes back
 
 -- "slots: needed by an insert of that rectangle, and free; written only beside 0"
-pub room_numbers_say : map room_number (Slots 2 1 ∷ BadLength ∷ NotSound ∷ BadRectangle ∷ []) ≡ pos 0 ∷ pos 1 ∷ pos 2 ∷ pos 3 ∷ []
+pub room_numbers_say : map room_number (Ok (slots 2 1) ∷ Err BadLength ∷ Err NotSound ∷ Err BadRectangle ∷ []) ≡ pos 0 ∷ pos 1 ∷ pos 2 ∷ pos 3 ∷ []
 unfolding document02
 room_numbers_say = refl
 
-pub room_words_say : map (λ (r : InsertRoom). room_words r (5 ∷ 6 ∷ [])) (Slots 2 1 ∷ BadLength ∷ NotSound ∷ BadRectangle ∷ [])
+pub room_words_say : map (λ (r : RoomTold). room_words r (5 ∷ 6 ∷ [])) (Ok (slots 2 1) ∷ Err BadLength ∷ Err NotSound ∷ Err BadRectangle ∷ [])
     ≡ (2 ∷ 1 ∷ []) ∷ (5 ∷ 6 ∷ []) ∷ (5 ∷ 6 ∷ []) ∷ (5 ∷ 6 ∷ []) ∷ []
 unfolding document02
 room_words_say = refl

@@ -1,11 +1,11 @@
 -- Req 03 on examples of our own, since the request gives none: in one table under one statement.
-use Rattle.std.specs.Prelude.{◌≡◌, refl, List, [], ◌∷◌, map, ℤ, pos, Float, true}
+use Rattle.std.specs.Prelude.{◌≡◌, refl, List, [], ◌∷◌, map, ℤ, pos, Float, true, Ok, Err}
 use Rattle.std.specs.Float.{nan, inf, binary64}
 use Rattle.std.specs.Float.Ieee.{of_bits, of_int, neg, div}
 use Rattle.rules.specs.declared.Query.{Query}
 use Rattle.rules.specs.declared.Query.TheVariants.{Point, Box, Disc}
-use Rattle.rules.specs.declared.Surveyed.{Surveyed}
-use Rattle.rules.specs.declared.Surveyed.TheVariants.{Rounded, BadSurvey}
+use Rattle.rules.specs.Survey.{Surveyed}
+use Rattle.rules.specs.declared.SurveyFault.TheVariants.{BadSurvey}
 use Rattle.rules.specs.Pool.{rectangle}
 use Rattle.rules.specs.Survey.{query_window}
 use Rattle.rules.specs.Computed.{document02}
@@ -37,7 +37,7 @@ abbrev boxed : Float → Float → Float → Float → Query
 boxed a b c d = Box (record { lowX = a; lowY = b; highX = c; highY = d })
 
 abbrev whole : ℤ → ℤ → ℤ → ℤ → Surveyed
-whole a b c d = Rounded (rectangle a b c d)
+whole a b c d = Ok (rectangle a b c d)
 
 -- ---- the table
 
@@ -53,24 +53,24 @@ survey_table =
       query = boxed (quarters (minus 4000000000)) (quarters (minus 4000000000)) (quarters (pos 4000000000)) (quarters (pos 4000000000));
       becomes = whole (minus 1000000000) (minus 1000000000) (pos 1000000000) (pos 1000000000);
     }
-    ∷ record { query = boxed (quarters (pos 0)) (quarters (pos 0)) (quarters (pos 4)) just_beyond; becomes = BadSurvey }
-    ∷ record { query = boxed (neg just_beyond) (quarters (pos 0)) (quarters (pos 4)) (quarters (pos 4)); becomes = BadSurvey }
+    ∷ record { query = boxed (quarters (pos 0)) (quarters (pos 0)) (quarters (pos 4)) just_beyond; becomes = Err BadSurvey }
+    ∷ record { query = boxed (neg just_beyond) (quarters (pos 0)) (quarters (pos 4)) (quarters (pos 4)); becomes = Err BadSurvey }
     -- low above high, though 0 .. 1 would be none
-    ∷ record { query = boxed (quarters (pos 3)) (quarters (pos 0)) (quarters (pos 1)) (quarters (pos 4)); becomes = BadSurvey }
+    ∷ record { query = boxed (quarters (pos 3)) (quarters (pos 0)) (quarters (pos 1)) (quarters (pos 4)); becomes = Err BadSurvey }
     -- points: (1.5, -1.5), and what is no number
     ∷ record { query = Point (quarters (pos 6)) (quarters (minus 6)); becomes = whole (pos 1) (minus 2) (pos 2) (minus 1) }
-    ∷ record { query = Point nan (quarters (pos 0)); becomes = BadSurvey }
-    ∷ record { query = Point (quarters (pos 0)) (inf true); becomes = BadSurvey }
+    ∷ record { query = Point nan (quarters (pos 0)); becomes = Err BadSurvey }
+    ∷ record { query = Point (quarters (pos 0)) (inf true); becomes = Err BadSurvey }
     -- the disc around (0.5, 10) of radius 2.25, and of a negative one; radius minus zero
     ∷ record { query = Disc (quarters (pos 2)) (quarters (pos 40)) (quarters (pos 9)); becomes = whole (minus 3) (pos 6) (pos 4) (pos 14) }
-    ∷ record { query = Disc (quarters (pos 2)) (quarters (pos 40)) (quarters (minus 9)); becomes = BadSurvey }
+    ∷ record { query = Disc (quarters (pos 2)) (quarters (pos 40)) (quarters (minus 9)); becomes = Err BadSurvey }
     ∷ record { query = Disc (quarters (pos 20)) (quarters (pos 20)) minus_zero; becomes = whole (pos 4) (pos 4) (pos 6) (pos 6) }
     -- discs that end at the limit, and the further millimetre beyond it
     ∷ record {
       query = Disc (quarters (pos 3999999994)) (quarters (pos 0)) (quarters (pos 2));
       becomes = whole (pos 999999997) (minus 2) (pos 1000000000) (pos 2);
     }
-    ∷ record { query = Disc (quarters (pos 3999999994)) (quarters (pos 0)) (quarters (pos 3)); becomes = BadSurvey }
+    ∷ record { query = Disc (quarters (pos 3999999994)) (quarters (pos 0)) (quarters (pos 3)); becomes = Err BadSurvey }
     ∷ []
 
 -- each query becomes what its row says

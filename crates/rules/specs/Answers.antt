@@ -1,34 +1,43 @@
--- "What comes back": the table of document 01, as numbers for the cases of `Reply` and `Verdict`.
-use Rattle.std.specs.Prelude.{Bool, true, false, List, [], ◌∷◌, ℕ, ℤ, pos, negsuc}
-use Rattle.std.proofs.Math.Option.{Option, none, some}
-use Rattle.rules.specs.declared.Reply.{Reply}
-use Rattle.rules.specs.declared.Reply.TheVariants.{Changed, Listed, BadRectangle, BadNumber, NotHeld, Held, NoSlot, NoRoom}
+-- "What comes back": the table of document 01, as numbers for what was accepted and for what refuses.
+use Rattle.std.specs.Prelude.{Bool, true, false, List, [], ◌∷◌, ℕ, ℤ, pos, negsuc, Option, None, Some, Ok, Err, Result}
+use Rattle.rules.specs.declared.Accepted.{Accepted}
+use Rattle.rules.specs.declared.Accepted.TheVariants.{Changed, Listed}
+use Rattle.rules.specs.declared.RequestFault.{RequestFault}
+use Rattle.rules.specs.declared.RequestFault.TheVariants.{BadRectangle, BadNumber, NotHeld, Held, NoSlot, NoRoom}
 use Rattle.rules.specs.declared.Answer.{Answer}
-use Rattle.rules.specs.declared.Verdict.{Verdict}
-use Rattle.rules.specs.declared.Verdict.TheVariants.{Served, BadLists, BadOwner, BadLength, NotSound, NoRequest}
+use Rattle.rules.specs.declared.CallFault.{CallFault}
+use Rattle.rules.specs.declared.CallFault.TheVariants.{BadLists, BadOwner, BadLength, NotSound, NoRequest}
+
+-- the outcome of a request
+abbrev pub Reply : Type 0
+Reply = Result Accepted RequestFault
 
 abbrev pub answer : ℕ → ℕ → ℕ → ℕ → Answer
 answer n f s o = record { number = n; found = f; start = s; opened = o }
 
 -- "Changes and refusals report zeros for the last three; 8 reports found and opened as they would have been, start zero."
 unfoldable pub answer_of : Reply → Answer
-answer_of Changed = answer 0 0 0 0
-answer_of (Listed f s o) = answer 0 f s o
-answer_of BadRectangle = answer 3 0 0 0
-answer_of BadNumber = answer 4 0 0 0
-answer_of NotHeld = answer 5 0 0 0
-answer_of Held = answer 6 0 0 0
-answer_of NoSlot = answer 7 0 0 0
-answer_of (NoRoom f o) = answer 8 f 0 o
+answer_of (Ok Changed) = answer 0 0 0 0
+answer_of (Ok (Listed f s o)) = answer 0 f s o
+answer_of (Err BadRectangle) = answer 3 0 0 0
+answer_of (Err BadNumber) = answer 4 0 0 0
+answer_of (Err NotHeld) = answer 5 0 0 0
+answer_of (Err Held) = answer 6 0 0 0
+answer_of (Err NoSlot) = answer 7 0 0 0
+answer_of (Err (NoRoom f o)) = answer 8 f 0 o
 
--- the number that a call returns. A list with something that is no request of document 01 gets a number that is not in the table, -1
-unfoldable pub verdict_number : Verdict → ℤ
-verdict_number Served = pos 0
-verdict_number BadLists = pos 9
-verdict_number BadOwner = pos 13
-verdict_number BadLength = pos 1
-verdict_number NotSound = pos 2
-verdict_number NoRequest = negsuc 0
+-- the number that a refused call returns. A list with something that is no request of document 01 gets a number that is not in the table, -1
+unfoldable pub call_fault_number : CallFault → ℤ
+call_fault_number BadLists = pos 9
+call_fault_number BadOwner = pos 13
+call_fault_number BadLength = pos 1
+call_fault_number NotSound = pos 2
+call_fault_number NoRequest = negsuc 0
+
+-- .. and that of a call, by whether it was refused
+unfoldable pub call_number : Result (Unit {0}) CallFault → ℤ
+call_number (Ok x) = pos 0
+call_number (Err fault) = call_fault_number fault
 
 -- ---- a table read from the top
 
@@ -43,5 +52,11 @@ module _ {A : Type 0} where
 
   -- "The table's order is the order of checks.": what the first row that applies gives
   unfoldable pub first_row : List (Row A) → Option A
-  first_row [] = none
-  first_row (r ∷ rs) = elim r.applies [ true ↦ some r.gives | false ↦ first_row rs ]
+  first_row [] = None
+  first_row (r ∷ rs) = elim r.applies [ true ↦ Some r.gives | false ↦ first_row rs ]
+
+-- what a check answers, by what refuses
+module _ {E : Type 0} where
+  abbrev pub checked : Option E → Result (Unit {0}) E
+  checked None = Ok tt
+  checked (Some e) = Err e

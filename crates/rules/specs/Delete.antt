@@ -1,6 +1,5 @@
 -- "Delete and update": FindLeaf, CondenseTree, the entries set aside put back, the tree shortened.
-use Rattle.std.specs.Prelude.{true, false, List, [], ◌∷◌, ◌++◌, map, ℕ, zero, suc, ◌-◌, length, ltb, eqb}
-use Rattle.std.proofs.Math.Option.{Option, none, some}
+use Rattle.std.specs.Prelude.{true, false, List, [], ◌∷◌, ◌++◌, map, ℕ, zero, suc, ◌-◌, length, ltb, eqb, Option, None, Some}
 use Rattle.rules.specs.declared.Rect.{Rect}
 use Rattle.rules.specs.declared.SlotNumber.{SlotNumber}
 use Rattle.rules.specs.declared.Record.{Record}
@@ -27,17 +26,17 @@ Path = List Place
 
 -- FL2: the first of the leaf's entries, from place i on, that is the pair
 unfoldable pub find_entry : Record → SlotNumber → ℕ → List Entry → Option Path
-find_entry r s i [] = none
-find_entry r s i (e ∷ es) = elim (exact_pair r (record_of e)) [ true ↦ some (place s i ∷ []) | false ↦ find_entry r s (suc i) es ]
+find_entry r s i [] = None
+find_entry r s i (e ∷ es) = elim (exact_pair r (record_of e)) [ true ↦ Some (place s i ∷ []) | false ↦ find_entry r s (suc i) es ]
 
 -- the way on from place i, or else what the later entries give
 unfoldable pub or_later : SlotNumber → ℕ → Option Path → Option Path → Option Path
-or_later s i (some path) later = some (place s i ∷ path)
-or_later s i none later = later
+or_later s i (Some path) later = Some (place s i ∷ path)
+or_later s i None later = later
 
 -- FL1: "FindLeaf visits children in stored order", those whose rectangle meets the pair's; `find` is FindLeaf in a child
 unfoldable pub find_child : (SlotNumber → Option Path) → Rect → SlotNumber → ℕ → List Entry → Option Path
-find_child find r s i [] = none
+find_child find r s i [] = None
 find_child find r s i (e ∷ es) =
     elim (is_meeting (compared e.rect r)) [
       | true ↦ or_later s i (find (child_of e)) (find_child find r s (suc i) es)
@@ -46,7 +45,7 @@ find_child find r s i (e ∷ es) =
 
 -- "the first exact pair found", from the node at s down, which has the level given
 unfoldable pub find_leaf : Pool → Record → ℕ → SlotNumber → Option Path
-find_leaf p r zero s = none
+find_leaf p r zero s = None
 find_leaf p r (suc zero) s = find_entry r s 0 (entries_at p s)
 find_leaf p r (suc (suc l)) s = find_child (λ t. find_leaf p r (suc l) t) r.rect s 0 (entries_at p s)
 
@@ -116,8 +115,8 @@ module _ (c : Choice) where
   unfoldable pub delete_record : Pool → Record → Change
   delete_record p r =
       elim (path_to p r) [
-        | none ↦ Done p
-        | some path ↦ put_back (condense (put_records p (p.records - 1)) path)
+        | None ↦ Done p
+        | Some path ↦ put_back (condense (put_records p (p.records - 1)) path)
       ]
 
   -- "Update deletes the old pair, then inserts the new rectangle under the same number; also where old equals new."

@@ -1,6 +1,5 @@
 -- Req 03: "the double's exact value defined as a whole fraction from its bits", and the whole numbers next to it.
-use Rattle.std.specs.Prelude.{◌≡◌, Bool, true, not, cond, ℕ, zero, suc, ◌+◌, ◌*◌, ◌/◌, ◌%◌, ◌^◌, T, leb, eqb, ℤ, pos, negsuc, neg_ℤ, ◌*ℤ◌, Float}
-use Rattle.std.proofs.Math.Option.{Option, none, some}
+use Rattle.std.specs.Prelude.{◌≡◌, Bool, true, not, cond, ℕ, zero, suc, ◌+◌, ◌*◌, ◌/◌, ◌%◌, ◌^◌, T, leb, eqb, ℤ, pos, negsuc, neg_ℤ, ◌*ℤ◌, Float, Option, None, Some}
 use Rattle.std.specs.Int.Signed.{le_z}
 use Rattle.std.specs.Float.{binary64}
 use Rattle.std.specs.Float.Ieee.{fits, to_bits}
@@ -56,7 +55,7 @@ exact_of x = exact_in (to_bits binary64 x)
 
 -- "the double's exact value": so many units; a NaN and the infinities have none
 unfoldable pub value_of : Float → Option ℤ
-value_of x = cond (is_number x) (some (exact_of x)) none
+value_of x = cond (is_number x) (Some (exact_of x)) None
 
 -- ---- whole millimetres
 

@@ -1,6 +1,5 @@
 -- Req 02, "Carry the map between offices": the file as bytes, the writer and the reader, for any pool and any bytes.
-use Rattle.std.specs.Prelude.{Bool, true, false, not, ◌&&◌, ◌||◌, List, [], ◌∷◌, ◌++◌, map, ℕ, zero, suc, ◌+◌, ◌*◌, ◌-◌, ◌/◌, ◌%◌, length, ltb, eqb, ℤ, pos, negsuc}
-use Rattle.std.proofs.Math.Option.{Option, none, some}
+use Rattle.std.specs.Prelude.{Bool, true, false, not, ◌&&◌, ◌||◌, List, [], ◌∷◌, ◌++◌, map, ℕ, zero, suc, ◌+◌, ◌*◌, ◌-◌, ◌/◌, ◌%◌, length, ltb, eqb, ℤ, pos, negsuc, Option, None, Some}
 use Rattle.std.proofs.lemmas.List.Edits.{sets}
 use Rattle.std.specs.Int.Signed.{le_z}
 use Rattle.rules.specs.declared.Edition.{Edition}
@@ -123,8 +122,8 @@ write_fault pool buffer =
 unfoldable pub write_file : List ℤ → List ℕ → WriteLeft
 write_file pool buffer =
     elim (write_fault pool buffer) [
-      | some f ↦ record { number = file_number f; file = buffer; size = 0 }
-      | none ↦ record {
+      | Some f ↦ record { number = file_number f; file = buffer; size = 0 }
+      | None ↦ record {
         number = pos 0;
         file = sets buffer 0 (pool_file (read pool));
         size = length (pool_file (read pool));
@@ -142,9 +141,9 @@ pub record Due : Type 0 where
 unfoldable pub frame_due : ℕ → ℕ → List ℕ → Option Due
 frame_due k n bs =
     elim (next_frame bs) [
-      | Ended ↦ none
-      | Cut ↦ none
-      | Complete f after ↦ elim (of_kind f k n) [ true ↦ some (record { words = word_values n f.body; after = after }) | false ↦ none ]
+      | Ended ↦ None
+      | Cut ↦ None
+      | Complete f after ↦ elim (of_kind f k n) [ true ↦ Some (record { words = word_values n f.body; after = after }) | false ↦ None ]
     ]
 
 -- "kind 16 first (edition 1, record count)": "10 for a wrong .. edition or count", one below zero
@@ -166,10 +165,10 @@ record_due e bs = frame_due (record_kind e) (record_size e) bs
 -- the records of a file whose frames are those that are due
 unfoldable pub records_from : Edition → ℕ → List ℕ → List Record
 records_from e zero bs = []
-records_from e (suc n) bs = elim (record_due e bs) [ none ↦ [] | some d ↦ record_in e d.words ∷ records_from e n d.after ]
+records_from e (suc n) bs = elim (record_due e bs) [ None ↦ [] | Some d ↦ record_in e d.words ∷ records_from e n d.after ]
 
 unfoldable pub file_records : Edition → List ℕ → List Record
-file_records e bs = elim (frame_due 16 2 bs) [ none ↦ [] | some d ↦ records_from e (count_in d.words) d.after ]
+file_records e bs = elim (frame_due 16 2 bs) [ None ↦ [] | Some d ↦ records_from e (count_in d.words) d.after ]
 
 -- ---- the reader
 
@@ -184,8 +183,8 @@ before_in_file a b = less_then a.owner.0 b.owner.0 (before (as_found a) (as_foun
 
 -- "11 for a record not after its predecessor"; the first has none
 unfoldable pub follows : Option Record → Record → Bool
-follows none r = true
-follows (some last) r = before_in_file last r
+follows None r = true
+follows (Some last) r = before_in_file last r
 
 -- "then 3, 4, then 11"; "13 for another owner, .. after 4"
 unfoldable pub record_fault : Edition → Option Record → Record → Option FileFault
@@ -199,8 +198,8 @@ record_fault e last r =
 
 -- "kind 18 last with no words", and no "bytes after kind 18"
 unfoldable pub end_of : Pool → Option Due → Load
-end_of p none = Fails BadFrame
-end_of p (some d) = elim d.after [ [] ↦ Loaded p | b ∷ bs ↦ Fails BadFrame ]
+end_of p None = Fails BadFrame
+end_of p (Some d) = elim d.after [ [] ↦ Loaded p | b ∷ bs ↦ Fails BadFrame ]
 
 -- Req 07: reading is "told the edition .. and goes by it": a file of another has a wrong head, and a record's frame is of its kind
 module _ (c : Choice) (e : Edition) where
@@ -210,12 +209,12 @@ module _ (c : Choice) (e : Edition) where
   load_records zero last p bs = end_of p (frame_due 18 0 bs)
   load_records (suc n) last p bs =
       elim (record_due e bs) [
-        | none ↦ Fails BadFrame
-        | some d ↦ elim (record_fault e last (record_in e d.words)) [
-          | some f ↦ Fails f
-          | none ↦ elim (insert_record c p (record_in e d.words)) [
+        | None ↦ Fails BadFrame
+        | Some d ↦ elim (record_fault e last (record_in e d.words)) [
+          | Some f ↦ Fails f
+          | None ↦ elim (insert_record c p (record_in e d.words)) [
             | NoneFree ↦ Fails NoSlot
-            | Done q ↦ load_records n (some (record_in e d.words)) q d.after
+            | Done q ↦ load_records n (Some (record_in e d.words)) q d.after
           ]
         ]
       ]
@@ -223,9 +222,9 @@ module _ (c : Choice) (e : Edition) where
   unfoldable pub load_file : Pool → List ℕ → Load
   load_file p bs =
       elim (frame_due 16 2 bs) [
-        | none ↦ Fails BadFrame
-        | some d ↦ elim (good_head e d.words) [
-          | true ↦ load_records (count_in d.words) none p d.after
+        | None ↦ Fails BadFrame
+        | Some d ↦ elim (good_head e d.words) [
+          | true ↦ load_records (count_in d.words) None p d.after
           | false ↦ Fails BadFrame
         ]
       ]
@@ -253,6 +252,6 @@ read_file e pool work bs =
 unfoldable pub read_file_as : ℤ → ℤ → List ℤ → List ℤ → List ℕ → ReadLeft
 read_file_as edition rule pool work bs =
     elim (edition_told edition rule) [
-      | none ↦ record { number = negsuc 0; pool = pool; workspace = work }
-      | some e ↦ read_file e pool work bs
+      | None ↦ record { number = negsuc 0; pool = pool; workspace = work }
+      | Some e ↦ read_file e pool work bs
     ]

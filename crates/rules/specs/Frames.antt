@@ -1,6 +1,5 @@
 -- "dustmap": the program's input, as bytes, and what it prints, as bytes.
-use Rattle.std.specs.Prelude.{Bool, true, false, ◌&&◌, List, [], ◌∷◌, ◌++◌, map, ℕ, zero, suc, ◌+◌, ◌*◌, ◌-◌, ◌/◌, ◌%◌, length, get_or, take, drop, replicate, leb, ltb, eqb, ℤ, pos, negsuc}
-use Rattle.std.proofs.Math.Option.{Option, none, some}
+use Rattle.std.specs.Prelude.{Bool, true, false, ◌&&◌, List, [], ◌∷◌, ◌++◌, map, ℕ, zero, suc, ◌+◌, ◌*◌, ◌-◌, ◌/◌, ◌%◌, length, get_or, take, drop, replicate, leb, ltb, eqb, ℤ, pos, negsuc, Option, None, Some}
 use Rattle.std.proofs.Math.IntN.{sub_ℕ}
 use Rattle.rules.specs.declared.Rect.{Rect}
 use Rattle.rules.specs.declared.FoundRecord.{FoundRecord}
@@ -155,8 +154,8 @@ printed (suc n) place pool bs =
       | Ended ↦ []
       | Cut ↦ bad_line place
       | Complete f after ↦ elim (frame_request f) [
-        | none ↦ bad_line place
-        | some q ↦ call_printed place (frame_call pool q) (λ left. printed n (suc place) left after)
+        | None ↦ bad_line place
+        | Some q ↦ call_printed place (frame_call pool q) (λ left. printed n (suc place) left after)
       ]
     ]
 

@@ -1,12 +1,10 @@
 -- "Insert": ChooseLeaf down, SplitNode and AdjustTree up. Deletes put entries back by the same rules, each at its own level.
-use Rattle.std.specs.Prelude.{true, false, List, [], ◌∷◌, ◌++◌, ℕ, zero, suc, ◌+◌, ◌-◌, length, ltb}
+use Rattle.std.specs.Prelude.{true, false, List, [], ◌∷◌, ◌++◌, ℕ, zero, suc, ◌+◌, ◌-◌, length, ltb, Option, Some, None}
 use Rattle.rules.specs.declared.Rect.{Rect}
 use Rattle.rules.specs.declared.SlotNumber.{SlotNumber}
 use Rattle.rules.specs.declared.Record.{Record}
 use Rattle.rules.specs.declared.Pointer.TheVariants.{Child}
 use Rattle.rules.specs.declared.Entry.{Entry}
-use Rattle.rules.specs.declared.FreeSlot.{FreeSlot}
-use Rattle.rules.specs.declared.FreeSlot.TheVariants.{At, Nowhere}
 use Rattle.rules.specs.Numbers.{most}
 use Rattle.rules.specs.Pool.{Pool, node, entry, node_at, entries_at, entry_at, child_of, leaf_entry, rects, cover_of, entry_for, lowest_free, put_node, put_entries, put_root, put_records, tighten}
 use Rattle.rules.specs.Choose.{choose_child}
@@ -34,15 +32,15 @@ pub data Change : Type 0 where
   NoneFree : Change
 
 -- "Group 1 stays in the old slot. Group 2 takes the lowest free slot."
-unfoldable pub split_into : Pool → SlotNumber → Halves → FreeSlot → Grown
-split_into p s h Nowhere = Full
-split_into p s h (At t) =
+unfoldable pub split_into : Pool → SlotNumber → Halves → Option SlotNumber → Grown
+split_into p s h None = Full
+split_into p s h (Some t) =
     Split (put_node (put_entries p s h.one) t (node (node_at p s).level h.two)) (entry (cover_of h.two) (Child t))
 
 -- I4: "If the root splits, a new root takes the lowest free slot then left, with entries for old root and partner in that order."
-unfoldable pub new_root : Pool → Entry → FreeSlot → Change
-new_root p partner Nowhere = NoneFree
-new_root p partner (At t) =
+unfoldable pub new_root : Pool → Entry → Option SlotNumber → Change
+new_root p partner None = NoneFree
+new_root p partner (Some t) =
     Done (put_root (put_node p t (node (suc p.height) (entry_for p p.root ∷ partner ∷ []))) t (suc p.height))
 
 unfoldable pub grow_tree : Grown → Change

@@ -1,6 +1,5 @@
 -- "The pool, word by word": the one place that knows where a word stands.
-use Rattle.std.specs.Prelude.{Bool, true, false, ◌&&◌, List, [], ◌∷◌, ◌++◌, map, ℕ, zero, suc, ◌+◌, ◌*◌, ◌-◌, ◌/◌, length, get_or, take, drop, replicate, leb, eqb, ℤ, pos, negsuc}
-use Rattle.std.proofs.Math.Option.{none, some}
+use Rattle.std.specs.Prelude.{Bool, true, false, ◌&&◌, List, [], ◌∷◌, ◌++◌, map, ℕ, zero, suc, ◌+◌, ◌*◌, ◌-◌, ◌/◌, length, get_or, take, drop, replicate, leb, eqb, ℤ, pos, negsuc, None, Some}
 use Rattle.rules.specs.declared.Edition.{Edition}
 use Rattle.rules.specs.declared.Edition.TheVariants.{One, Two}
 use Rattle.rules.specs.declared.Rect.{Rect}
@@ -194,7 +193,7 @@ blank e w =
 
 -- .. by the numbers of an edition and a rule; where they tell no edition the number is one that is not in the table, -1
 unfoldable pub blank_as : ℤ → ℤ → List ℤ → Blanked
-blank_as edition rule w = elim (edition_told edition rule) [ none ↦ record { number = negsuc 0; pool = w } | some e ↦ blank e w ]
+blank_as edition rule w = elim (edition_told edition rule) [ None ↦ record { number = negsuc 0; pool = w } | Some e ↦ blank e w ]
 
 -- a blank pool of n slots, of an edition, and of edition 1
 abbrev pub blank_words_of : Edition → ℕ → List ℤ

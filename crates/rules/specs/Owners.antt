@@ -1,6 +1,5 @@
 -- Req 07, "The neighbour's carts": the editions of a pool, and whom a record belongs to.
-use Rattle.std.specs.Prelude.{Bool, true, false, List, [], ◌∷◌, ℕ, ℤ, pos}
-use Rattle.std.proofs.Math.Option.{Option, none}
+use Rattle.std.specs.Prelude.{Bool, true, false, List, [], ◌∷◌, ℕ, ℤ, pos, Option, None}
 use Rattle.rules.specs.declared.Edition.{Edition}
 use Rattle.rules.specs.declared.Edition.TheVariants.{One, Two}
 use Rattle.rules.specs.declared.Owner.{Owner}
@@ -23,7 +22,7 @@ unfoldable pub edition_told : ℤ → ℤ → Option Edition
 edition_told edition rule =
     elim (same rule (pos 0)) [
       | true ↦ first_row (row (same edition (pos 1)) One ∷ row (same edition (pos 2)) Two ∷ [])
-      | false ↦ none
+      | false ↦ None
     ]
 
 -- ---- owners

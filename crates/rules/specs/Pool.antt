@@ -1,5 +1,5 @@
 -- "The pool" as an object: a head, and a node in each slot. Layout.antt ties it to the words.
-use Rattle.std.specs.Prelude.{Bool, true, false, List, [], ◌∷◌, map, ℕ, suc, ◌-◌, length, get_or, set, replicate, eqb, ℤ, pos}
+use Rattle.std.specs.Prelude.{Bool, true, false, List, [], ◌∷◌, map, ℕ, suc, ◌-◌, length, get_or, set, replicate, eqb, ℤ, pos, Option, Some, None}
 use Rattle.rules.specs.declared.Edition.{Edition}
 use Rattle.rules.specs.declared.Rect.{Rect}
 use Rattle.rules.specs.declared.RecordNumber.{RecordNumber}
@@ -10,8 +10,6 @@ use Rattle.rules.specs.declared.FoundRecord.{FoundRecord}
 use Rattle.rules.specs.declared.Pointer.{Pointer}
 use Rattle.rules.specs.declared.Pointer.TheVariants.{Number, Child}
 use Rattle.rules.specs.declared.Entry.{Entry}
-use Rattle.rules.specs.declared.FreeSlot.{FreeSlot}
-use Rattle.rules.specs.declared.FreeSlot.TheVariants.{At, Nowhere}
 use Rattle.rules.specs.Lists.{those, one_of, joined, up_from}
 use Rattle.rules.specs.Owners.{nobody}
 use Rattle.rules.specs.Geometry.{no_rect, cover_all}
@@ -123,11 +121,11 @@ unfoldable pub held : Pool → Record → Bool
 held p r = one_of (exact_pair r) (stored p)
 
 -- "the lowest free slot", of the nodes from slot s on
-unfoldable pub free_from : ℕ → List Node → FreeSlot
-free_from s [] = Nowhere
-free_from s (n ∷ ns) = elim (eqb n.level 0) [ true ↦ At (slot s) | false ↦ free_from (suc s) ns ]
+unfoldable pub free_from : ℕ → List Node → Option SlotNumber
+free_from s [] = None
+free_from s (n ∷ ns) = elim (eqb n.level 0) [ true ↦ Some (slot s) | false ↦ free_from (suc s) ns ]
 
-unfoldable pub lowest_free : Pool → FreeSlot
+unfoldable pub lowest_free : Pool → Option SlotNumber
 lowest_free p = free_from 1 p.slots
 
 -- how many slots are free

@@ -1,11 +1,11 @@
 -- Req 06, "Know before the truck leaves": how many slots an insert needs, and how many are free, told from the map as it is at that moment.
-use Rattle.std.specs.Prelude.{Bool, cond, not, List, [], ◌∷◌, ◌++◌, ℕ, zero, suc, ◌+◌, ◌-◌, length, leb, ℤ, pos}
-use Rattle.std.proofs.Math.Option.{Option, none, some}
+use Rattle.std.specs.Prelude.{Bool, cond, not, List, [], ◌∷◌, ◌++◌, ℕ, zero, suc, ◌+◌, ◌-◌, length, leb, ℤ, pos, Option, None, Some, Ok, Err, Result}
 use Rattle.std.proofs.lemmas.List.Edits.{sets}
 use Rattle.rules.specs.declared.Rect.{Rect}
 use Rattle.rules.specs.declared.SlotNumber.{SlotNumber}
 use Rattle.rules.specs.declared.InsertRoom.{InsertRoom}
-use Rattle.rules.specs.declared.InsertRoom.TheVariants.{Slots, BadLength, NotSound, BadRectangle}
+use Rattle.rules.specs.declared.RoomFault.{RoomFault}
+use Rattle.rules.specs.declared.RoomFault.TheVariants.{BadLength, NotSound, BadRectangle}
 use Rattle.rules.specs.Lists.{one_of}
 use Rattle.rules.specs.Numbers.{most}
 use Rattle.rules.specs.Geometry.{valid}
@@ -42,7 +42,7 @@ slots_needed c level p new = plus_root p.root (full_run p (way_up c (p.height - 
 -- ---- the call that tells it beforehand
 
 -- what refuses it, in this order: 1, 2, and 3 for the rectangle
-unfoldable pub room_fault : List ℤ → Rect → Option InsertRoom
+unfoldable pub room_fault : List ℤ → Rect → Option RoomFault
 room_fault pool new =
     first_row (
     row (not (valid_length pool)) BadLength
@@ -50,24 +50,32 @@ room_fault pool new =
     ∷ row (not (valid new)) BadRectangle
     ∷ [])
 
--- the slots that an insert of the rectangle needs, and the slots that are free
-unfoldable pub insert_room : List ℤ → Rect → InsertRoom
+-- the slots that an insert of the rectangle needs, and the slots that are free; or what refuses it
+abbrev pub RoomTold : Type 0
+RoomTold = Result InsertRoom RoomFault
+
+abbrev pub slots : ℕ → ℕ → InsertRoom
+slots needed free = record { needed = needed; free = free }
+
+unfoldable pub insert_room : List ℤ → Rect → RoomTold
 insert_room pool new =
     elim (room_fault pool new) [
-      | some fault ↦ fault
-      | none ↦ Slots (slots_needed ours 1 (read pool) new) (free_count (read pool))
+      | Some fault ↦ Err fault
+      | None ↦ Ok (slots (slots_needed ours 1 (read pool) new) (free_count (read pool)))
     ]
 
--- the number that it returns
-unfoldable pub room_number : InsertRoom → ℤ
-room_number (Slots needed free) = pos 0
-room_number BadLength = pos 1
-room_number NotSound = pos 2
-room_number BadRectangle = pos 3
+-- the number of a refusal ..
+unfoldable pub room_fault_number : RoomFault → ℤ
+room_fault_number BadLength = pos 1
+room_fault_number NotSound = pos 2
+room_fault_number BadRectangle = pos 3
+
+-- .. and the number that the call returns
+unfoldable pub room_number : RoomTold → ℤ
+room_number (Ok room) = pos 0
+room_number (Err fault) = room_fault_number fault
 
 -- needed and free over the two words; a refusal writes nothing
-unfoldable pub room_words : InsertRoom → List ℕ → List ℕ
-room_words (Slots needed free) lent = sets lent 0 (needed ∷ free ∷ [])
-room_words BadLength lent = lent
-room_words NotSound lent = lent
-room_words BadRectangle lent = lent
+unfoldable pub room_words : RoomTold → List ℕ → List ℕ
+room_words (Ok room) lent = sets lent 0 (room.needed ∷ room.free ∷ [])
+room_words (Err fault) lent = lent

@@ -1,5 +1,5 @@
 -- Req 03, "The surveyor's boxes": what becomes of a survey box and of dispatch's queries.
-use Rattle.std.specs.Prelude.{◌≡◌, Bool, true, cond, ◌&&◌, List, [], ◌∷◌, ℕ, ℤ, pos, negsuc, ◌+ℤ◌, ◌-ℤ◌, Float}
+use Rattle.std.specs.Prelude.{◌≡◌, Bool, true, cond, ◌&&◌, List, [], ◌∷◌, ℕ, ℤ, pos, negsuc, ◌+ℤ◌, ◌-ℤ◌, Float, Ok, Err, Result}
 use Rattle.std.proofs.lemmas.List.Edits.{sets}
 use Rattle.std.specs.Int.Signed.{le_z, lt_z}
 use Rattle.std.specs.Float.{binary64}
@@ -8,10 +8,14 @@ use Rattle.rules.specs.declared.Rect.{Rect}
 use Rattle.rules.specs.declared.SurveyBox.{SurveyBox}
 use Rattle.rules.specs.declared.Query.{Query}
 use Rattle.rules.specs.declared.Query.TheVariants.{Point, Box, Disc}
-use Rattle.rules.specs.declared.Surveyed.{Surveyed}
-use Rattle.rules.specs.declared.Surveyed.TheVariants.{Rounded, BadSurvey}
+use Rattle.rules.specs.declared.SurveyFault.{SurveyFault}
+use Rattle.rules.specs.declared.SurveyFault.TheVariants.{BadSurvey}
 use Rattle.rules.specs.Numbers.{in_range}
 use Rattle.rules.specs.Doubles.{is_number, exact_of, millimetres, floor_of, ceiling_of, LargestNotAbove, SmallestNotBelow}
+
+-- what becomes of a survey box or a query: a rectangle in whole millimetres, or what refuses it
+abbrev pub Surveyed : Type 0
+Surveyed = Result Rect SurveyFault
 
 -- "A low becomes the largest whole number not above it, a high the smallest not below"
 unfoldable pub outward : SurveyBox → Rect
@@ -59,7 +63,7 @@ good_disc x y radius = moderate x && moderate y && moderate radius && not_negati
 -- .. or a "finished coordinate beyond 1,000,000,000 in size."
 unfoldable pub finish : Bool → Rect → Surveyed
 finish good r =
-    cond (good && in_range r.lowX && in_range r.lowY && in_range r.highX && in_range r.highY) (Rounded r) BadSurvey
+    cond (good && in_range r.lowX && in_range r.lowY && in_range r.highX && in_range r.highY) (Ok r) (Err BadSurvey)
 
 -- ---- "Dispatch also sends a query that is a point, a box or a disc (centre and radius, as doubles)": its window, or the refusal
 
@@ -76,15 +80,18 @@ query_window (Disc x y radius) = disc_window x y radius
 
 -- ---- what comes back of a call, beside the four words lent for the rectangle
 
--- 0, or "12, before 3"
+-- "12, before 3"
+unfoldable pub survey_fault_number : SurveyFault → ℤ
+survey_fault_number BadSurvey = pos 12
+
 unfoldable pub survey_number : Surveyed → ℤ
-survey_number (Rounded r) = pos 0
-survey_number BadSurvey = pos 12
+survey_number (Ok r) = pos 0
+survey_number (Err fault) = survey_fault_number fault
 
 -- the rectangle over the four words; a refusal writes nothing
 unfoldable pub survey_words : Surveyed → List ℤ → List ℤ
-survey_words (Rounded r) lent = sets lent 0 (r.lowX ∷ r.lowY ∷ r.highX ∷ r.highY ∷ [])
-survey_words BadSurvey lent = lent
+survey_words (Ok r) lent = sets lent 0 (r.lowX ∷ r.lowY ∷ r.highX ∷ r.highY ∷ [])
+survey_words (Err fault) lent = lent
 
 -- ---- what the request says about the rectangles, for its theorems
 

@@ -9,7 +9,7 @@ use lib.Dec.{eqb}
 use lib.ListN.{length, get_or}
 use borrow.Author.Tests.{eqb-true, eqb-false, eq-eqb, ne_eqb}
 use Rattle.rules.specs.declared.SlotNumber.{SlotNumber}
-use Rattle.rules.specs.declared.FreeSlot.TheVariants.{At, Nowhere}
+use Rattle.std.specs.Prelude.{Some, None}
 use Rattle.rules.specs.Lists.{those}
 use Rattle.rules.specs.Pool.{Node, Pool, slot, free_node, node_at, free_from, lowest_free, free_count, put_node, put_records}
 use Rattle.rules_laws.proofs.Places.{at_place}
@@ -22,7 +22,7 @@ is_free n = eqb n.level 0
 
 -- ---- the lowest
 
-pub free_nowhere : (i : ℕ) → free_from i [] ≡ Nowhere
+pub free_nowhere : (i : ℕ) → free_from i [] ≡ None
 unfolding free_from
 free_nowhere i = refl
 
@@ -31,7 +31,7 @@ abbrev level_at : List Node → ℕ → ℕ
 level_at ns k = (get_or ns k free_node).level
 
 module _ (i : ℕ) (n : Node) (ns : List Node) where
-  pub free_here : is_free n ≡ true → free_from i (n ∷ ns) ≡ At (slot i)
+  pub free_here : is_free n ≡ true → free_from i (n ∷ ns) ≡ Some (slot i)
   unfolding free_from
   free_here h = rw (h, free_from)
 
@@ -47,12 +47,12 @@ record First (i : ℕ) (ns : List Node) (t : SlotNumber) : Type 0 where
   free : level_at ns place ≡ 0
   before : (j : ℕ) → j < place → 1 ≤ level_at ns j
 
-found_free : (i : ℕ) (ns : List Node) (t : SlotNumber) → free_from i ns ≡ At t → First i ns t
+found_free : (i : ℕ) (ns : List Node) (t : SlotNumber) → free_from i ns ≡ Some t → First i ns t
 unfolding free_from
 found_free i [] t h = let z : ◌≡◌ {A = ℕ} 0 1 = cc in absurd (omega arith)
 found_free i (n ∷ ns) t h = go (eqb n.level 0) refl (found_free (suc i) ns t)
   where
-    go : (b : Bool) → eqb n.level 0 ≡ b → (free_from (suc i) ns ≡ At t → First (suc i) ns t) → First i (n ∷ ns) t
+    go : (b : Bool) → eqb n.level 0 ≡ b → (free_from (suc i) ns ≡ Some t → First (suc i) ns t) → First i (n ∷ ns) t
     go true e f =
         let q = sym (free_here i n ns e) ∙ h in
         let same : i ≡ t.0 = ap (λ (u : SlotNumber). u.0) (cc) in
@@ -65,19 +65,19 @@ found_free i (n ∷ ns) t h = go (eqb n.level 0) refl (found_free (suc i) ns t)
         before r zero k = let z = eqb-false n.level 0 e in omega arith
         before r (suc j) k = r.before j (omega arith)
 
-none_free : (i : ℕ) (ns : List Node) → free_from i ns ≡ Nowhere → (k : ℕ) → k < length ns → 1 ≤ level_at ns k
+none_free : (i : ℕ) (ns : List Node) → free_from i ns ≡ None → (k : ℕ) → k < length ns → 1 ≤ level_at ns k
 none_free i [] h k l = absurd (omega arith)
 none_free i (n ∷ ns) h k l = go (eqb n.level 0) refl k l (none_free (suc i) ns)
   where
     go : (b : Bool) → eqb n.level 0 ≡ b → (j : ℕ) → j < length (n ∷ ns)
-        → (free_from (suc i) ns ≡ Nowhere → (m : ℕ) → m < length ns → 1 ≤ level_at ns m) → 1 ≤ level_at (n ∷ ns) j
+        → (free_from (suc i) ns ≡ None → (m : ℕ) → m < length ns → 1 ≤ level_at ns m) → 1 ≤ level_at (n ∷ ns) j
     go true e j l f = let q = sym (free_here i n ns e) ∙ h in let z : ◌≡◌ {A = ℕ} 0 1 = cc in absurd (omega arith)
     go false e zero l f = let z = eqb-false n.level 0 e in omega arith
     go false e (suc j) l f = f (sym (free_later i n ns e) ∙ h) j (omega arith)
 
 module _ (p : Pool) where
   -- "the lowest free slot": it is a slot, it is free, and the lower slots are in use
-  module _ (t : SlotNumber) (h : lowest_free p ≡ At t) where
+  module _ (t : SlotNumber) (h : lowest_free p ≡ Some t) where
     pub lowest_slot : Slot p t
     unfolding lowest_free
     lowest_slot = let f = found_free 1 p.slots t h in record { low = omega (arith, f.slot); high = omega (arith, f.slot, f.there) }
@@ -91,7 +91,7 @@ module _ (p : Pool) where
     lower_used u k l = let f = found_free 1 p.slots t h in f.before (u.0 - 1) (omega (arith, f.slot))
 
   -- none is free
-  pub all_used : lowest_free p ≡ Nowhere → (t : SlotNumber) → Slot p t → 1 ≤ (node_at p t).level
+  pub all_used : lowest_free p ≡ None → (t : SlotNumber) → Slot p t → 1 ≤ (node_at p t).level
   unfolding lowest_free node_at
   all_used h t k = none_free 1 p.slots h (t.0 - 1) (omega (arith, k.low, k.high))
 
@@ -122,20 +122,20 @@ module _ (p : Pool) (s : SlotNumber) (n : Node) (k : Slot p s) (new : 1 ≤ n.le
   put_free h = omega (arith, count_put p s k n, free_one (node_at p s) h, used_none n new)
 
 -- where no slot is found none is free
-count_none : (i : ℕ) (ns : List Node) → free_from i ns ≡ Nowhere → length (those is_free ns) ≡ 0
+count_none : (i : ℕ) (ns : List Node) → free_from i ns ≡ None → length (those is_free ns) ≡ 0
 count_none i [] h = rw (those_none is_free)
 count_none i (n ∷ ns) h = go (eqb n.level 0) refl (count_none (suc i) ns)
   where
-    go : (b : Bool) → eqb n.level 0 ≡ b → (free_from (suc i) ns ≡ Nowhere → length (those is_free ns) ≡ 0) → length (those is_free (n ∷ ns)) ≡ 0
+    go : (b : Bool) → eqb n.level 0 ≡ b → (free_from (suc i) ns ≡ None → length (those is_free ns) ≡ 0) → length (those is_free (n ∷ ns)) ≡ 0
     go true e f = let q = sym (free_here i n ns e) ∙ h in let z : ◌≡◌ {A = ℕ} 0 1 = cc in absurd (omega arith)
     go false e f = rw (those_no is_free n ns e) (f (sym (free_later i n ns e) ∙ h))
 
-pub nowhere_none : (p : Pool) → lowest_free p ≡ Nowhere → free_count p ≡ 0
+pub nowhere_none : (p : Pool) → lowest_free p ≡ None → free_count p ≡ 0
 unfolding free_count lowest_free
 nowhere_none p h = count_none 1 p.slots h
 
 -- where one is found, one at least is free
-pub at_some : (p : Pool) (t : SlotNumber) → lowest_free p ≡ At t → 0 < free_count p
+pub at_some : (p : Pool) (t : SlotNumber) → lowest_free p ≡ Some t → 0 < free_count p
 unfolding free_count node_at
 at_some p t h =
     let s = lowest_slot p t h in

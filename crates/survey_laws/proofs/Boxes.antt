@@ -6,7 +6,8 @@ use lib.Signed.{le_z}
 use lib.Ieee.{binary64, of_int}
 use Rattle.rules.specs.declared.Rect.{Rect}
 use Rattle.rules.specs.declared.SurveyBox.{SurveyBox}
-use Rattle.rules.specs.declared.Surveyed.TheVariants.{Rounded, BadSurvey}
+use Rattle.std.specs.Prelude.{Ok, Err}
+use Rattle.rules.specs.declared.SurveyFault.TheVariants.{BadSurvey}
 use Rattle.rules.specs.Numbers.{in_range}
 use Rattle.rules.specs.Geometry.{valid}
 use Rattle.rules.specs.Doubles.{millimetres, floor_of, ceiling_of, exact_of}
@@ -43,13 +44,13 @@ module _ (b : SurveyBox) where
   abbrev spanned : Bool
   spanned = spans b.lowX b.highX && spans b.lowY b.highY
 
-  pub box_yes : (t : Bool) → t ≡ spanned → t ≡ true → Rounded (outward b) ≡ box_window b
+  pub box_yes : (t : Bool) → t ≡ spanned → t ≡ true → Ok (outward b) ≡ box_window b
   unfolding box_window
   box_yes t e k =
       let s = and_both (spans b.lowX b.highX) (spans b.lowY b.highY) (sym e ∙ k) in
       sym (finished_good (good_box b) (outward b) (spans_good s.0 s.1))
 
-  pub box_no : (t : Bool) → t ≡ spanned → t ≡ false → BadSurvey ≡ box_window b
+  pub box_no : (t : Bool) → t ≡ spanned → t ≡ false → Err BadSurvey ≡ box_window b
   unfolding box_window
   box_no t e k =
       sym (not_finished (good_box b) (outward b) (λ g.
@@ -80,12 +81,12 @@ outward_is b = record {
   highY = ceiling_is (exact_of b.highY);
 }
 
-pub box_rounded : (b : SurveyBox) (r : Rect) → box_window b ≡ Rounded r → RoundedOutward (exact_box b) r
+pub box_rounded : (b : SurveyBox) (r : Rect) → box_window b ≡ Ok r → RoundedOutward (exact_box b) r
 unfolding box_window
 box_rounded b r e = subst (RoundedOutward (exact_box b)) (finished_parts (good_box b) (outward b) r e).same (outward_is b)
 
 -- the bounds were in order
-pub box_in_order : (b : SurveyBox) (r : Rect) → box_window b ≡ Rounded r → GoodRect (good_box b) r
+pub box_in_order : (b : SurveyBox) (r : Rect) → box_window b ≡ Ok r → GoodRect (good_box b) r
 unfolding box_window
 box_in_order b r e = let f = finished_parts (good_box b) (outward b) r e in subst (GoodRect (good_box b)) f.same f.parts
 
@@ -114,7 +115,7 @@ module _ (r : Rect) (v : valid r ≡ true) where
   kept_order low high h k o =
       rw (whole_number low (range_fits low h), whole_number high (range_fits high k), as_double low h, as_double high k) (whole_mono low high o)
 
-  pub whole_back : box_window (in_doubles r) ≡ Rounded r
+  pub whole_back : box_window (in_doubles r) ≡ Ok r
   unfolding box_window good_box
   whole_back =
       let o = both_and (in_order (of_int binary64 r.lowX) (of_int binary64 r.highX)) (in_order (of_int binary64 r.lowY) (of_int binary64 r.highY))

@@ -10,7 +10,8 @@ use lib.Ieee.Exact.{HasValue}
 use lib.Ieee.Fits.{add-fits}
 use Rattle.rules.specs.declared.Rect.{Rect}
 use Rattle.rules.specs.declared.SurveyBox.{SurveyBox}
-use Rattle.rules.specs.declared.Surveyed.TheVariants.{Rounded, BadSurvey}
+use Rattle.std.specs.Prelude.{Ok, Err}
+use Rattle.rules.specs.declared.SurveyFault.TheVariants.{BadSurvey}
 use Rattle.rules.specs.Doubles.{Double, unit, minus_sign, is_number, exact_of}
 use Rattle.rules.specs.Survey.{outward, spread, further, moderate, not_negative, good_disc, finish, disc_window, exact_disc, HoldsBox, LessThanBeyond}
 use Rattle.rules_laws.proofs.Bools.{and_both}
@@ -84,7 +85,7 @@ pub disc_yes : (x y radius : Float) (r : Rect) → good_disc x y radius ≡ true
 unfolding disc_window
 disc_yes x y radius r g e = rw (g, e)
 
-pub disc_no : (x y radius : Float) → good_disc x y radius ≡ false → BadSurvey ≡ disc_window x y radius
+pub disc_no : (x y radius : Float) → good_disc x y radius ≡ false → Err BadSurvey ≡ disc_window x y radius
 unfolding disc_window finish
 disc_no x y radius g = rw g
 
@@ -135,7 +136,7 @@ module _ (x y radius : Float) (d : OfDoubles (Disc x y radius)) where
           highY = (high_side _ _ (high y d.1 p.y_within)).1;
         }
 
-  module _ (r : Rect) (e : disc_window x y radius ≡ Rounded r) where
+  module _ (r : Rect) (e : disc_window x y radius ≡ Ok r) where
     pub disc_good : GoodRect (good_disc x y radius) r
     unfolding disc_window
     disc_good =

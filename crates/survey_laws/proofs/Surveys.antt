@@ -9,7 +9,7 @@ use Rattle.rules.specs.declared.Rect.{Rect}
 use Rattle.rules.specs.declared.SurveyBox.{SurveyBox}
 use Rattle.rules.specs.declared.Query.{Query}
 use Rattle.rules.specs.declared.Query.TheVariants.{Point, Box, Disc}
-use Rattle.rules.specs.declared.Surveyed.TheVariants.{Rounded}
+use Rattle.std.specs.Prelude.{Ok}
 use Rattle.rules.specs.Geometry.{valid, meets}
 use Rattle.rules.specs.Doubles.{millimetres, exact_of}
 use Rattle.rules.specs.Survey.{point_box, in_order, good_box, box_window, disc_window, query_window, ExactBox, exact_box, exact_disc, RoundedOutward, HoldsBox}
@@ -50,10 +50,10 @@ pub rounded_holds : (e : ExactBox) (r : Rect) → RoundedOutward e r → HoldsBo
 rounded_holds e r o =
     record { lowX = o.lowX.not_above; lowY = o.lowY.not_above; highX = o.highX.not_below; highY = o.highY.not_below }
 
-pub box_held : (b : SurveyBox) (r : Rect) → box_window b ≡ Rounded r → HoldsBox (exact_box b) r
+pub box_held : (b : SurveyBox) (r : Rect) → box_window b ≡ Ok r → HoldsBox (exact_box b) r
 box_held b r e = rounded_holds (exact_box b) r (box_rounded b r e)
 
-box_valid : (b : SurveyBox) (r : Rect) → box_window b ≡ Rounded r → valid r ≡ true
+box_valid : (b : SurveyBox) (r : Rect) → box_window b ≡ Ok r → valid r ≡ true
 unfolding good_box
 box_valid b r e =
     let g = box_in_order b r e in
@@ -71,7 +71,7 @@ spread_order c r h =
     let u = under_neg r in
     parts_le (c -ℤ r) (c +ℤ r) (omega (arith, le_parts (pos 0) r h))
 
-disc_valid : (x y radius : Float) → OfDoubles (Disc x y radius) → (r : Rect) → disc_window x y radius ≡ Rounded r → valid r ≡ true
+disc_valid : (x y radius : Float) → OfDoubles (Disc x y radius) → (r : Rect) → disc_window x y radius ≡ Ok r → valid r ≡ true
 disc_valid x y radius d r e =
     let n = radius_not_negative x y radius d r e in
     let i : LowsBelow (exact_disc x y radius) = record { x = spread_order (exact_of x) (exact_of radius) n; y = spread_order (exact_of y) (exact_of radius) n } in
@@ -79,7 +79,7 @@ disc_valid x y radius d r e =
 
 -- ---- "12, before 3": what is not refused 12 is not refused 3
 
-pub window_valid : (q : Query) → OfDoubles q → (r : Rect) → query_window q ≡ Rounded r → valid r ≡ true
+pub window_valid : (q : Query) → OfDoubles q → (r : Rect) → query_window q ≡ Ok r → valid r ≡ true
 unfolding query_window
 window_valid (Point x y) h r e = box_valid (point_box x y) r e
 window_valid (Box b) h r e = box_valid b r e

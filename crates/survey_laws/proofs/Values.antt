@@ -4,7 +4,7 @@ use mathlib.Core.Bool.{Bool, true, false, not, cond, ◌||◌, ◌&&◌, false�
 use Prim.Native.Nat.{ℕ, zero, suc, ◌+◌, ◌*◌, ◌^◌, ◌≤◌, ◌<◌}
 use native.Mathlib.Nat.{mul-one, mul_comm, mul_assoc, mul_right_comm, mul-pos, eq_of_mul-eq-mul_right, add-mul, mul-lt-mul_of_pos_right, lt_of_mul-lt-mul_right, zero-mul, zero-add}
 use native.Mathlib.Omega.{arith}
-use mathlib.Core.Option.{none, some}
+use Rattle.std.specs.Prelude.{None, Some}
 use lib.Dec.{T, ltb, leb, eqb, leb-suc-suc}
 use lib.IntN.{ℤ, pos, neg_ℤ, ◌*ℤ◌}
 use lib.Signed.{lt_z, le_z}
@@ -285,11 +285,11 @@ sign_times false a d = refl
 sign_times true zero d = rw (zero-mul d)
 sign_times true (suc a) d = refl
 
-no_value : (x : Float) → is_number x ≡ false → value_of x ≡ none
+no_value : (x : Float) → is_number x ≡ false → value_of x ≡ None
 unfolding value_of
 no_value x e = rw e
 
-pub has_value : (x : Float) → is_number x ≡ true → value_of x ≡ some (exact_of x)
+pub has_value : (x : Float) → is_number x ≡ true → value_of x ≡ Some (exact_of x)
 unfolding value_of
 has_value x e = rw e
 
