@@ -2,7 +2,7 @@
 use mathlib.Core.Path.{◌≡◌, refl, sym, ap, ◌∙◌}
 use mathlib.Core.Bool.{Bool, true, false}
 use mathlib.Core.List.{List, [], ◌∷◌, ◌++◌}
-use mathlib.Core.Option.{Option, none, some}
+use Rattle.std.specs.Prelude.{Option, None, Some}
 use Prim.Native.Nat.{ℕ, suc, ◌+◌, ◌-◌, ◌≤◌, ◌<◌}
 use native.Mathlib.Omega.{arith}
 use native.Mathlib.Decide.{dec_le, ℕ_discrete}
@@ -12,7 +12,7 @@ use borrow.Author.Tests.{le-leb, lt-leb, eq-eqb, ne_eqb}
 use Rattle.rules.specs.declared.Request.{Request}
 use Rattle.rules.specs.Call.{is_request}
 use Rattle.rules.specs.Frames.{Frame, Ended, Complete, Cut, pair_value, frame_of, next_frame, frame_request}
-use Rattle.frames.specs.declared.Framed.TheVariants.{Asks, Waits, Bad}
+use Rattle.frames.specs.Reading.{Asks, Waits, Bad}
 use Rattle.frames.specs.Reading.{Nothing, Asking, Wrong, beginning, kind_length, some_length, length_field, kind_field, hopeless, framed}
 use Rattle.frames.specs.Places.{request_from}
 use Rattle.frames.proofs.Requests.{true_false, length_small, length_least, some_least, no_such, request_none, request_is, frame_asks}
@@ -60,11 +60,11 @@ module _ (bs : List ℕ) where
   unfolding beginning
   begun_end e = rw (beginning, e)
 
-  pub begun_no : (f : Frame) (after : List ℕ) → next_frame bs ≡ Complete f after → frame_request f ≡ none → beginning bs ≡ Wrong
+  pub begun_no : (f : Frame) (after : List ℕ) → next_frame bs ≡ Complete f after → frame_request f ≡ None → beginning bs ≡ Wrong
   unfolding beginning
   begun_no f after e r = rw (beginning, e, r)
 
-  pub begun_yes : (f : Frame) (after : List ℕ) (q : Request) → next_frame bs ≡ Complete f after → frame_request f ≡ some q → beginning bs ≡ Asking q after
+  pub begun_yes : (f : Frame) (after : List ℕ) (q : Request) → next_frame bs ≡ Complete f after → frame_request f ≡ Some q → beginning bs ≡ Asking q after
   unfolding beginning
   begun_yes f after q e r = rw (beginning, e, r)
 
@@ -203,7 +203,7 @@ record AskedFor (bs : List ℕ) (q : Request) (after : List ℕ) : Type 0 where
   bytes : bs ≡ b ∷ c ∷ rest
   least : 2 ≤ pair_value (b ∷ c ∷ [])
   here : pair_value (b ∷ c ∷ []) ≤ length rest
-  asks : frame_request (whole_in (pair_value (b ∷ c ∷ [])) rest) ≡ some q
+  asks : frame_request (whole_in (pair_value (b ∷ c ∷ [])) rest) ≡ Some q
   left : after ≡ drop (pair_value (b ∷ c ∷ [])) rest
 
 asked_by_lem : (bs : List ℕ) (q : Request) (after : List ℕ) → beginning bs ≡ Asking q after → AskedFor bs q after
@@ -217,13 +217,13 @@ asked_by_lem (b ∷ c ∷ rest) q after e = go (dec_le 2 n) (dec_le n (length re
     go : Dec (2 ≤ n) → Dec (n ≤ length rest) → (f : Option Request) → frame_request (whole_in n rest) ≡ f → AskedFor (b ∷ c ∷ rest) q after
     go (no l) m f r = absurd (wrong_asking (sym (begun_cut (b ∷ c ∷ rest) (next_of b c rest ∙ small_cut n rest (omega arith))) ∙ e))
     go (yes l) (no m) f r = absurd (wrong_asking (sym (begun_cut (b ∷ c ∷ rest) (next_of b c rest ∙ long_cut n rest l (omega arith))) ∙ e))
-    go (yes l) (yes m) none r =
+    go (yes l) (yes m) None r =
         absurd (wrong_asking (sym (begun_no (b ∷ c ∷ rest) (whole_in n rest) (drop n rest) (next_of b c rest ∙ is_whole n rest l m) r) ∙ e))
-    go (yes l) (yes m) (some p) r =
+    go (yes l) (yes m) (Some p) r =
         let s = sym (begun_yes (b ∷ c ∷ rest) (whole_in n rest) (drop n rest) p (next_of b c rest ∙ is_whole n rest l m) r) ∙ e in
         let x : p ≡ q = cc in
         let y : drop n rest ≡ after = cc in
-        record { b = b; c = c; rest = rest; bytes = refl; least = l; here = m; asks = r ∙ ap some x; left = sym y }
+        record { b = b; c = c; rest = rest; bytes = refl; least = l; here = m; asks = r ∙ ap Some x; left = sym y }
 
 -- only no bytes begin with nothing
 pub nothing_empty : (bs : List ℕ) → beginning bs ≡ Nothing → bs ≡ []
@@ -237,9 +237,9 @@ nothing_empty (b ∷ c ∷ rest) e = go (dec_le 2 n) (dec_le n (length rest)) (f
     go : Dec (2 ≤ n) → Dec (n ≤ length rest) → (f : Option Request) → frame_request (whole_in n rest) ≡ f → b ∷ c ∷ rest ≡ []
     go (no l) m f r = absurd (nothing_wrong (sym e ∙ begun_cut (b ∷ c ∷ rest) (next_of b c rest ∙ small_cut n rest (omega arith))))
     go (yes l) (no m) f r = absurd (nothing_wrong (sym e ∙ begun_cut (b ∷ c ∷ rest) (next_of b c rest ∙ long_cut n rest l (omega arith))))
-    go (yes l) (yes m) none r =
+    go (yes l) (yes m) None r =
         absurd (nothing_wrong (sym e ∙ begun_no (b ∷ c ∷ rest) (whole_in n rest) (drop n rest) (next_of b c rest ∙ is_whole n rest l m) r))
-    go (yes l) (yes m) (some p) r =
+    go (yes l) (yes m) (Some p) r =
         absurd (nothing_asking (sym e ∙ begun_yes (b ∷ c ∷ rest) (whole_in n rest) (drop n rest) p (next_of b c rest ∙ is_whole n rest l m) r))
 
 -- what is asked is a request

@@ -5,4 +5,4 @@ pub mod Framing
 pub mod Pieces
 pub mod Digits
 pub mod Texts
-pub mod Lines
+pub mod Fields

@@ -3,7 +3,7 @@
 use mathlib.Core.Path.{◌≡◌, refl, sym, ap, subst, ◌∙◌}
 use mathlib.Core.Bool.{Bool, true, false}
 use mathlib.Core.List.{List, [], ◌∷◌, ◌++◌, append_assoc, append-nil}
-use mathlib.Core.Option.{Option, none, some}
+use Rattle.std.specs.Prelude.{Option, None, Some}
 use Prim.Native.Nat.{ℕ, zero, suc, ◌-◌, ◌≤◌, ◌<◌}
 use native.Mathlib.Omega.{arith}
 use lib.ListN.{length, drop, length-drop}
@@ -11,8 +11,7 @@ use lib.IntN.{ℤ}
 use Rattle.rules.specs.declared.Request.{Request}
 use Rattle.rules.specs.Call.{is_request}
 use Rattle.rules.specs.Frames.{Next, Ended, Complete, Cut, Frame, next_frame, frame_request, frame_call, bad_line, call_printed, printed, dustmap}
-use Rattle.frames.specs.declared.Framed.{Framed}
-use Rattle.frames.specs.declared.Framed.TheVariants.{Asks, Waits, Bad}
+use Rattle.frames.specs.Reading.{Framed, Asks, Waits, Bad}
 use Rattle.frames.specs.Reading.{Beginning, Nothing, Asking, Wrong, beginning, hopeless, framed}
 use Rattle.rules.specs.Layout.{blank_words}
 use Rattle.frames.specs.Said.{Said, reply_shown, cut_line}
@@ -39,8 +38,8 @@ printed_text n place pool bs = go (next_frame bs) refl
   where
     whole : (f : Frame) (after : List ℕ) → next_frame bs ≡ Complete f after → (o : Option Request) → frame_request f ≡ o
         → printed (suc n) place pool bs ≡ text_of n place pool (beginning bs)
-    whole f after e none r = rw (printed, beginning, e, r)
-    whole f after e (some q) r = rw (printed, beginning, e, r)
+    whole f after e None r = rw (printed, beginning, e, r)
+    whole f after e (Some q) r = rw (printed, beginning, e, r)
 
     go : (x : Next) → next_frame bs ≡ x → printed (suc n) place pool bs ≡ text_of n place pool (beginning bs)
     go Ended e = rw (printed, beginning, e)

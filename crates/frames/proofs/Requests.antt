@@ -2,7 +2,8 @@
 use mathlib.Core.Path.{◌≡◌, refl, sym, ap, subst, ◌∙◌}
 use mathlib.Core.Bool.{Bool, true, false, ◌&&◌, ◌||◌}
 use mathlib.Core.List.{List, [], ◌∷◌}
-use mathlib.Core.Option.{none, some}
+use Rattle.std.specs.Prelude.{None, Some}
+use mathlib.Core.Logic.{◌⊎◌, inl, inr}
 use Prim.Native.Nat.{ℕ, zero, suc, ◌+◌, ◌*◌, ◌-◌, ◌≤◌, ◌<◌}
 use native.Mathlib.Omega.{arith}
 use native.Mathlib.Decide.{dec_le, ℕ_discrete}
@@ -21,7 +22,9 @@ use Rattle.rules.specs.Answers.{Row, row, first_row}
 use Rattle.rules.specs.Request.{asked}
 use Rattle.rules.specs.Call.{is_request}
 use Rattle.rules.specs.Frames.{Frame, word_values, rect_in, request_in, of_kind, window_in, frame_request}
-use Rattle.frames.specs.Reading.{search_kind, kind_length, some_length}
+use Rattle.frames.specs.declared.FrameKind.{FrameKind}
+use Rattle.frames.specs.declared.FrameKind.TheVariants.{Insert, Delete, Search, SearchInside, SearchEnclosing}
+use Rattle.frames.specs.Reading.{kind_number, search_kind, kind_length, some_length}
 use Rattle.frames.specs.Places.{word_from, rect_of_bytes, change_from, update_from, search_from, request_from}
 use Rattle.frames.proofs.Words.{word_in}
 
@@ -140,6 +143,11 @@ pub some_38 : some_length 38 ≡ true
 unfolding some_length
 some_38 = refl
 
+pub some_kind : (n : ℕ) → (n ≡ 18) ⊎ ((n ≡ 22) ⊎ (n ≡ 38)) → some_length n ≡ true
+some_kind n (inl e) = ap some_length e ∙ some_18
+some_kind n (inr (inl e)) = ap some_length e ∙ some_22
+some_kind n (inr (inr e)) = ap some_length e ∙ some_38
+
 pub some_none : (n : ℕ) → (n ≡ 18 → ⊥) → (n ≡ 22 → ⊥) → (n ≡ 38 → ⊥) → some_length n ≡ false
 unfolding some_length
 some_none n a b c = rw (some_length, ne_eqb n 18 a, ne_eqb n 22 b, ne_eqb n 38 c)
@@ -169,7 +177,7 @@ is_kind : (f : Frame) (k n : ℕ) → f.kind ≡ k → length f.body ≡ 4 * n �
 unfolding of_kind
 is_kind f k n a b = rw (eq-eqb f.kind k a, eq-eqb (length f.body) (4 * n) b)
 
-pub request_none : (f : Frame) → (kind_length f.kind ≡ 2 + length f.body → ⊥) → frame_request f ≡ none
+pub request_none : (f : Frame) → (kind_length f.kind ≡ 2 + length f.body → ⊥) → frame_request f ≡ None
 unfolding frame_request first_row
 request_none f h =
     let r1 = not_kind f 1 5 (λ a b. h (length_1 f.kind a ∙ omega arith)) in
@@ -205,18 +213,18 @@ change_words : (k : ℤ) (bs : List ℕ)
 unfolding change_from
 change_words k bs = rw (word_in bs 5 0 (omega arith), rect_in_lem bs 5 1 (omega arith))
 
-insert_is : (bs : List ℕ) → 24 ≤ length bs → frame_request (frame_from 1 5 bs) ≡ some (change_from (pos 1) bs)
+insert_is : (bs : List ℕ) → 24 ≤ length bs → frame_request (frame_from 1 5 bs) ≡ Some (change_from (pos 1) bs)
 unfolding frame_request first_row
 insert_is bs h =
-    rw (frame_request, first_row, is_kind (frame_from 1 5 bs) 1 5 refl (body_length 5 bs (omega arith))) (ap some (change_words (pos 1) bs))
+    rw (frame_request, first_row, is_kind (frame_from 1 5 bs) 1 5 refl (body_length 5 bs (omega arith))) (ap Some (change_words (pos 1) bs))
 
-delete_is : (bs : List ℕ) → 24 ≤ length bs → frame_request (frame_from 2 5 bs) ≡ some (change_from (pos 2) bs)
+delete_is : (bs : List ℕ) → 24 ≤ length bs → frame_request (frame_from 2 5 bs) ≡ Some (change_from (pos 2) bs)
 unfolding frame_request first_row
 delete_is bs h =
     let r1 = not_kind (frame_from 2 5 bs) 1 5 (λ a b. omega arith) in
-    rw (frame_request, first_row, r1, first_row, is_kind (frame_from 2 5 bs) 2 5 refl (body_length 5 bs (omega arith))) (ap some (change_words (pos 2) bs))
+    rw (frame_request, first_row, r1, first_row, is_kind (frame_from 2 5 bs) 2 5 refl (body_length 5 bs (omega arith))) (ap Some (change_words (pos 2) bs))
 
-update_is : (bs : List ℕ) → 40 ≤ length bs → frame_request (frame_from 3 9 bs) ≡ some (update_from bs)
+update_is : (bs : List ℕ) → 40 ≤ length bs → frame_request (frame_from 3 9 bs) ≡ Some (update_from bs)
 unfolding frame_request first_row update_from
 update_is bs h =
     let r1 = not_kind (frame_from 3 9 bs) 1 5 (λ a b. omega arith) in
@@ -230,28 +238,28 @@ search_words k bs = rw (rect_in_lem bs 4 0 (omega arith))
 
 -- the row of a search of kind k applies to a frame of that kind; to another, the rows after it may
 search_row : (f : Frame) (k : ℕ) (rows : List (Row Request)) → length f.body ≡ 16
-    → ((f.kind ≡ k → ⊥) → first_row rows ≡ some (window_in (pos f.kind) f.body))
-    → first_row (row (of_kind f k 4) (window_in (pos k) f.body) ∷ rows) ≡ some (window_in (pos f.kind) f.body)
+    → ((f.kind ≡ k → ⊥) → first_row rows ≡ Some (window_in (pos f.kind) f.body))
+    → first_row (row (of_kind f k 4) (window_in (pos k) f.body) ∷ rows) ≡ Some (window_in (pos f.kind) f.body)
 unfolding first_row
 search_row f k rows m others = go (ℕ_discrete f.kind k)
   where
-    go : Dec (f.kind ≡ k) → first_row (row (of_kind f k 4) (window_in (pos k) f.body) ∷ rows) ≡ some (window_in (pos f.kind) f.body)
-    go (yes e) = rw (first_row, is_kind f k 4 e m) (ap (λ (j : ℕ). some (window_in (pos j) f.body)) (sym e))
+    go : Dec (f.kind ≡ k) → first_row (row (of_kind f k 4) (window_in (pos k) f.body) ∷ rows) ≡ Some (window_in (pos f.kind) f.body)
+    go (yes e) = rw (first_row, is_kind f k 4 e m) (ap (λ (j : ℕ). Some (window_in (pos j) f.body)) (sym e))
     go (no n) = rw (first_row, not_kind f k 4 (λ a b. n a)) (others n)
 
 search_rows : (f : Frame) → 4 ≤ f.kind → f.kind ≤ 6 → length f.body ≡ 16
     → first_row (row (of_kind f 4 4) (window_in (pos 4) f.body) ∷ row (of_kind f 5 4) (window_in (pos 5) f.body)
-    ∷ row (of_kind f 6 4) (window_in (pos 6) f.body) ∷ []) ≡ some (window_in (pos f.kind) f.body)
+    ∷ row (of_kind f 6 4) (window_in (pos 6) f.body) ∷ []) ≡ Some (window_in (pos f.kind) f.body)
 search_rows f l h m = search_row f 4 _ m (λ a. search_row f 5 _ m (λ b. search_row f 6 _ m (λ c. absurd (omega arith))))
 
-search_is : (k : ℕ) (bs : List ℕ) → 4 ≤ k → k ≤ 6 → 20 ≤ length bs → frame_request (frame_from k 4 bs) ≡ some (search_from (pos k) bs)
+search_is : (k : ℕ) (bs : List ℕ) → 4 ≤ k → k ≤ 6 → 20 ≤ length bs → frame_request (frame_from k 4 bs) ≡ Some (search_from (pos k) bs)
 unfolding frame_request first_row
 search_is k bs l m h =
     let r1 = not_kind (frame_from k 4 bs) 1 5 (λ a b. omega arith) in
     let r2 = not_kind (frame_from k 4 bs) 2 5 (λ a b. omega arith) in
     let r3 = not_kind (frame_from k 4 bs) 3 9 (λ a b. omega arith) in
     rw (frame_request, first_row, r1, first_row, r2, first_row, r3)
-    (search_rows (frame_from k 4 bs) l m (body_length 4 bs (omega arith)) ∙ ap some (search_words (pos k) bs))
+    (search_rows (frame_from k 4 bs) l m (body_length 4 bs (omega arith)) ∙ ap Some (search_words (pos k) bs))
 
 -- ---- what the code makes of each kind
 
@@ -266,10 +274,10 @@ module _ (bs : List ℕ) where
   unfolding change_from request_in
   change_made k' e f g h = λ i. record { kind = e i; number = number (f i); first = g i; second = h i }
 
-  pub update_made : {n : ℤ} {a b : Rect} → n ≡ word_from bs 4 → a ≡ rect_of_bytes bs 8 → b ≡ rect_of_bytes bs 24
-      → record { kind = pos 3; number = number n; first = a; second = b } ≡ update_from bs
+  pub update_made : {k n : ℤ} {a b : Rect} → k ≡ pos 3 → n ≡ word_from bs 4 → a ≡ rect_of_bytes bs 8 → b ≡ rect_of_bytes bs 24
+      → record { kind = k; number = number n; first = a; second = b } ≡ update_from bs
   unfolding update_from request_in
-  update_made f g h = λ i. record { kind = pos 3; number = number (f i); first = g i; second = h i }
+  update_made e f g h = λ i. record { kind = e i; number = number (f i); first = g i; second = h i }
 
   pub search_made : {k : ℤ} (k' : ℤ) {a b : Rect} → k ≡ k' → a ≡ rect_of_bytes bs 4 → b ≡ no_rect
       → record { kind = k; number = number (pos 0); first = a; second = b } ≡ search_from k' bs
@@ -288,12 +296,38 @@ pub from_change : {k j : ℕ} (bs : List ℕ) → k ≡ j → j < 3 → request_
 unfolding request_from
 from_change {k} {j} bs e l = rw (e, request_from, ne_eqb j 3 (λ q. omega arith), searches_not j (λ m. omega arith))
 
+-- ---- the kinds of the code
+
+pub default_none : {r : Rect} → (r.lowX ≡ pos 0) × ((r.lowY ≡ pos 0) × ((r.highX ≡ pos 0) × (r.highY ≡ pos 0))) → r ≡ no_rect
+default_none d = λ i. record { lowX = d.0 i; lowY = d.1.0 i; highX = d.1.1.0 i; highY = d.1.1.1 i }
+
+module _ (k : FrameKind) (bs : List ℕ) where
+  pub changes_long : (k ≡ Insert) ⊎ (k ≡ Delete) → kind_length (kind_number k) ≡ 22
+  changes_long (inl e) = length_1 (kind_number k) (ap kind_number e)
+  changes_long (inr e) = length_2 (kind_number k) (ap kind_number e)
+
+  pub changes_from : (k ≡ Insert) ⊎ (k ≡ Delete) → request_from (kind_number k) bs ≡ change_from (pos (kind_number k)) bs
+  changes_from (inl e) = from_change bs refl (omega (arith, ap kind_number e))
+  changes_from (inr e) = from_change bs refl (omega (arith, ap kind_number e))
+
+  search_numbers : (k ≡ Search) ⊎ ((k ≡ SearchInside) ⊎ (k ≡ SearchEnclosing)) → (4 ≤ kind_number k) × (kind_number k ≤ 6)
+  search_numbers (inl e) = (omega (arith, ap kind_number e), omega (arith, ap kind_number e))
+  search_numbers (inr (inl e)) = (omega (arith, ap kind_number e), omega (arith, ap kind_number e))
+  search_numbers (inr (inr e)) = (omega (arith, ap kind_number e), omega (arith, ap kind_number e))
+
+  module _ (e : (k ≡ Search) ⊎ ((k ≡ SearchInside) ⊎ (k ≡ SearchEnclosing))) where
+    pub searches_long : kind_length (kind_number k) ≡ 18
+    searches_long = length_search (kind_number k) (search_numbers e).0 (search_numbers e).1
+
+    pub searches_from : request_from (kind_number k) bs ≡ search_from (pos (kind_number k)) bs
+    searches_from = from_search bs refl (search_numbers e).0 (search_numbers e).1
+
 -- every kind that has a length: the request is the definition's
 pub request_is : (k n : ℕ) (bs : List ℕ) → kind_length k ≡ n → 0 < n → 2 + n ≤ length bs
-    → frame_request (record { kind = k; body = take (n - 2) (drop 4 bs) }) ≡ some (request_from k bs)
+    → frame_request (record { kind = k; body = take (n - 2) (drop 4 bs) }) ≡ Some (request_from k bs)
 request_is k n bs e p h = go (which k)
   where
-    go : Which k → frame_request (record { kind = k; body = take (n - 2) (drop 4 bs) }) ≡ some (request_from k bs)
+    go : Which k → frame_request (record { kind = k; body = take (n - 2) (drop 4 bs) }) ≡ Some (request_from k bs)
     go (insert q) = let m : n ≡ 22 = sym e ∙ length_1 k q in rw (from_change bs q (omega arith), q, m) (insert_is bs (omega arith))
     go (delete q) = let m : n ≡ 22 = sym e ∙ length_2 k q in rw (from_change bs q (omega arith), q, m) (delete_is bs (omega arith))
     go (update q) = let m : n ≡ 38 = sym e ∙ length_3 k q in rw (from_update k bs q, q, m) (update_is bs (omega arith))
@@ -313,21 +347,21 @@ is_request_lem (suc (suc (suc (suc zero)))) n a b h = refl
 is_request_lem (suc (suc (suc (suc (suc zero))))) n a b h = refl
 is_request_lem (suc (suc (suc (suc (suc (suc k)))))) n a b h = absurd (omega arith)
 
-none_some : {q : Request} → none ≡ some q → ⊥
+none_some : {q : Request} → None ≡ Some q → ⊥
 none_some e = let z : ◌≡◌ {A = ℕ} 0 1 = cc in omega arith
 
 -- what a table gives, its first row or one of the others gives
-row_asks : (q : Request) (b : Bool) (p : Request) (rows : List (Row Request)) → is_request p ≡ true → (first_row rows ≡ some q → is_request q ≡ true)
-    → first_row (row b p ∷ rows) ≡ some q → is_request q ≡ true
+row_asks : (q : Request) (b : Bool) (p : Request) (rows : List (Row Request)) → is_request p ≡ true → (first_row rows ≡ Some q → is_request q ≡ true)
+    → first_row (row b p ∷ rows) ≡ Some q → is_request q ≡ true
 unfolding first_row
 row_asks q true p rows k r e = let z : p ≡ q = cc in subst (λ (x : Request). is_request x ≡ true) z k
 row_asks q false p rows k r e = r e
 
-no_row_asks : (q : Request) → first_row [] ≡ some q → is_request q ≡ true
+no_row_asks : (q : Request) → first_row [] ≡ Some q → is_request q ≡ true
 unfolding first_row
 no_row_asks q e = absurd (none_some e)
 
-pub frame_asks : (f : Frame) (q : Request) → frame_request f ≡ some q → is_request q ≡ true
+pub frame_asks : (f : Frame) (q : Request) → frame_request f ≡ Some q → is_request q ≡ true
 unfolding frame_request window_in
 frame_asks f q =
     row_asks q _ _ _ (is_request_lem 0 _ _ _ (omega arith))

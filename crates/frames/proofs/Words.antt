@@ -1,72 +1,73 @@
--- A word from its four bytes. From 2,147,483,648 on a number of 32 bits stands for itself less 4,294,967,296, which is below zero and
--- fits 32 signed bits again.
+-- A word from its four bytes, and its bytes again. From 2,147,483,648 on a number of 32 bits stands for itself less 4,294,967,296.
 use mathlib.Core.Path.{◌≡◌, refl, sym, ap, ◌∙◌}
-use mathlib.Core.List.{List}
+use mathlib.Core.List.{List, [], ◌∷◌}
 use Prim.Native.Nat.{ℕ, zero, suc, ◌+◌, ◌*◌, ◌-◌, ◌^◌, ◌≤◌, ◌<◌}
 use native.Mathlib.Omega.{arith}
+use native.Mathlib.Decide.{dec_le}
 use lib.ListN.{take, drop, get_or}
 use lib.Seq.{get_or-take, get_or-drop, drop-drop}
-use lib.IntN.{ℤ, pos, negsuc, sub_ℕ, ◌+ℤ◌, ◌-ℤ◌}
+use lib.IntN.{ℤ, pos, negsuc}
 use lib.Signed.{mag}
 use borrow.Author.Tests.{lt-ltb, le-ltb}
-use mir.Syntax.{w32, w64}
-use mir.Val.{SFits, to_z, of_z}
-use mir.Facts.{to_z-of_z, to_z_pos, sfits_widen}
+use mir.Syntax.{w16, w32, w64}
+use mir.Val.{to_z, of_z}
+use mir.Facts.{to_z-of_z, to_z_pos, to_z-neg}
+use Rattle.std.specs.Int.{from_le_bytes, to_le_bytes}
+use Rattle.rules.specs.File.{pair_bytes, unsigned, word_bytes}
 use Rattle.rules.specs.Layout.{word_at}
 use Rattle.rules.specs.Frames.{byte_at, pair_value, signed, word_value, word_values}
-use Rattle.frames.specs.Places.{lift, word_from}
+use Rattle.frames.specs.Places.{word_from}
 
 -- ---- the sign
 
-pub signed_low : (n : ℕ) → n < 2147483648 → signed n ≡ pos n
+signed_low : (n : ℕ) → n < 2147483648 → signed n ≡ pos n
 unfolding signed
 signed_low n h = rw (signed, lt-ltb n 2147483648 h)
 
--- the upper half
-pub record Upper (n : ℕ) : Type 0 where
-  pub low : 2147483648 ≤ n
-  pub high : n < 4294967296
+signed_high : (n : ℕ) → 2147483648 ≤ n → n < 4294967296 → signed n ≡ negsuc (4294967295 - n)
+unfolding signed
+signed_high n l h = rw (signed, le-ltb n 2147483648 l, lt-ltb n 4294967296 h) (ap negsuc (omega arith))
 
-module _ {n : ℕ} (u : Upper n) where
-  below : sub_ℕ n 4294967296 ≡ negsuc (4294967295 - n)
-  below = rw (lt-ltb n 4294967296 u.high) (ap negsuc (omega arith))
-
-  pub signed_high : signed n ≡ negsuc (4294967295 - n)
-  unfolding signed
-  signed_high = rw (signed, le-ltb n 2147483648 u.low) below
-
-  -- the machine's difference
-  pub less_whole : to_z w64 n -ℤ pos 4294967296 ≡ negsuc (4294967295 - n)
-  less_whole = rw (to_z_pos w64 {n = n} (omega arith)) below
-
-  pub fits_wide : SFits w64 (negsuc (4294967295 - n))
-  fits_wide = record { sfits = omega arith }
-
-  pub fits_word : SFits w32 (negsuc (4294967295 - n))
-  fits_word = record { sfits = omega arith }
+-- the machine reads 32 bits as the definition does
+pub signed_is : (n : ℕ) → n < 4294967296 → to_z w32 n ≡ signed n
+signed_is n h = go (dec_le 2147483648 n)
+  where
+    go : Dec (2147483648 ≤ n) → to_z w32 n ≡ signed n
+    go (no l) = to_z_pos w32 (omega arith) ∙ sym (signed_low n (omega arith))
+    go (yes l) =
+        let k = 4294967295 - n in
+        let e : n ≡ 4294967296 - suc k = omega arith in
+        ap (to_z w32) e ∙ to_z-neg w32 k (omega arith) ∙ sym (signed_high n l h)
 
 -- a word that a call gave, as the code goes on with it
 pub word_kept : {z : ℤ} → mag z < 2 ^ 31 → to_z w32 (of_z w32 z) ≡ z
 word_kept {z} h = to_z-of_z {w = w32} {z = z} (record { sfits = h })
 
--- the machine's sum, for a number counted from the least of 32 bits
-pub lift_small : (z : ℤ) → mag z < 2 ^ 31 → lift z < 4294967296
-lift_small (pos n) h = omega arith
-lift_small (negsuc n) h = omega arith
+-- two words of the same bits
+pub bits_same : {y z : ℤ} → mag y < 2 ^ 31 → mag z < 2 ^ 31 → of_z w32 y ≡ of_z w32 z → y ≡ z
+bits_same {y} {z} h k e = sym (word_kept h) ∙ ap (to_z w32) e ∙ word_kept k
 
-lift_is : (z : ℤ) → mag z < 2 ^ 31 → z +ℤ pos 2147483648 ≡ pos (lift z)
-lift_is (pos n) h = refl
-lift_is (negsuc n) h = rw (le-ltb 2147483648 (suc n) (omega arith)) (ap pos (omega arith))
+-- ---- the bytes, as the library takes a number apart and puts it together
 
-pub lift_sum : (z : ℤ) → mag z < 2 ^ 31 → to_z w64 (of_z w64 (to_z w32 (of_z w32 z))) +ℤ pos 2147483648 ≡ pos (lift z)
-lift_sum z h =
-    let f : SFits w32 z = record { sfits = h } in
-    rw (to_z-of_z f, to_z-of_z {w = w64} (sfits_widen {w = w32} tt f)) (lift_is z h)
+pub two_bytes : (a b : ℕ) → from_le_bytes w16 (a ∷ b ∷ []) ≡ a + 256 * b
+two_bytes a b = omega arith
 
-pub lift_fits : (z : ℤ) → mag z < 2 ^ 31 → SFits w64 (pos (lift z))
-lift_fits z h = record { sfits = omega (arith, lift_small z h) }
+pub four_bytes : (a b c d : ℕ) → from_le_bytes w32 (a ∷ b ∷ c ∷ d ∷ []) ≡ a + 256 * b + 65536 * c + 16777216 * d
+four_bytes a b c d = omega arith
 
--- ---- the bytes
+pub bytes_of_pair : (n : ℕ) → take 2 (to_le_bytes w64 n) ≡ pair_bytes n
+unfolding pair_bytes
+bytes_of_pair n = refl
+
+-- the bits of a word
+bits_are : (z : ℤ) → mag z < 2 ^ 31 → of_z w32 z ≡ unsigned z
+unfolding unsigned
+bits_are (pos n) h = refl
+bits_are (negsuc n) h = omega arith
+
+pub bytes_of_word : (z : ℤ) → mag z < 2 ^ 31 → to_le_bytes w32 (of_z w32 z) ≡ word_bytes z
+unfolding word_bytes
+bytes_of_word z h = ap (to_le_bytes w32) (bits_are z h)
 
 -- byte k of n that are taken from a place on
 byte_is : (n : ℕ) (bs : List ℕ) (at k : ℕ) → k < n → byte_at (take n (drop at bs)) k ≡ get_or bs (at + k) 0

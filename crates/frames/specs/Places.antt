@@ -1,6 +1,6 @@
 -- Where the code finds the parts of a frame: the length at byte 0, the kind at byte 2, the words from byte 4 on. A reader of `framed` needs
 -- none of this.
-use Rattle.std.specs.Prelude.{cond, List, ℕ, ◌+◌, ◌-◌, take, drop, eqb, ℤ, pos, negsuc}
+use Rattle.std.specs.Prelude.{cond, List, ℕ, ◌+◌, take, drop, eqb, ℤ, pos}
 use Rattle.rules.specs.declared.Rect.{Rect}
 use Rattle.rules.specs.declared.Request.{Request}
 use Rattle.rules.specs.Pool.{rectangle}
@@ -25,8 +25,3 @@ search_from k bs = request_in k (pos 0) (rect_of_bytes bs 4) no_rect
 
 unfoldable pub request_from : ℕ → List ℕ → Request
 request_from k bs = cond (eqb k 3) (update_from bs) (cond (search_kind k) (search_from (pos k) bs) (change_from (pos k) bs))
-
--- a whole number of 32 bits, counted from the least of them
-abbrev pub lift : ℤ → ℕ
-lift (pos n) = n + 2147483648
-lift (negsuc n) = 2147483647 - n

@@ -1,57 +1,24 @@
 // Frames in, lines out: the bytes that `dustmap` reads and writes, and the numbers of a file's frames. There is no pool here and no system call.
 #![tactic(auto)]
 
-ghost use Rattle.std.specs.Prelude.{◌≡◌, [], ◌∷◌, ◌++◌, suc, min, ◌+◌, ◌*◌, ◌-◌, ◌%◌, ◌≤◌, ◌<◌, length, take, drop, get_or};
-ghost use Rattle.rules.specs.Geometry.{no_rect};
+ghost use Rattle.std.specs.Prelude.{◌≡◌, [], ◌∷◌, ◌++◌, suc, min, ◌+◌, ◌-◌, ◌≤◌, ◌<◌, length, take, drop, pos};
 ghost use Rattle.rules.specs.Frames as F;
-ghost use Rattle.rules.specs.File.{pair_bytes, unsigned, word_bytes};
-ghost use Rattle.frames.specs.Reading.{kind_length, some_length, framed};
-ghost use Rattle.frames.specs.Places.{word_from, rect_of_bytes, change_from, update_from, search_from, request_from, lift};
-ghost use Rattle.frames.specs.Writing.{Wrote};
+ghost use Rattle.rules.specs.File.{pair_bytes, word_bytes};
+ghost use Rattle.frames.specs.Reading.{kind_length, some_length, kind_number, TellsKind, framed};
+ghost use Rattle.frames.specs.Places.{word_from, rect_of_bytes, change_from, update_from, search_from, request_from};
+ghost use Rattle.frames.specs.Writing.{Wrote, Room, Adds};
 
+use itoa::{Buffer, Integer};
 use rules::{Answer, FoundRecord, RecordNumber, Rect, Request};
 
 // ---- numbers, from their bytes: "all little-endian"
 
-fn wide(x: u8) -> u64
-    ensures is { result ≡ x }
-    ensures small { result < 256 }
-{
-    x as u64
-}
-
 // Two bytes, the lowest first.
-pub fn pair_at(bytes: &[u8], at: usize) -> u64
+pub fn pair_at(bytes: &[u8], at: usize) -> u16
     requires { at + 2 ≤ length bytes.now }
-    ensures is { result ≡ F.pair_value (take 2 (drop at bytes.now)) }
-    ensures small { result < 65536 }
+    ensures { result ≡ F.pair_value (take 2 (drop at bytes.now)) }
 {
-    let low = wide(bytes[at]);
-    let high = wide(bytes[at + 1]);
-    low + 256 * high
-}
-
-// Four bytes as a number without a sign.
-fn unsigned_at(bytes: &[u8], at: usize) -> u64
-    requires { at + 4 ≤ length bytes.now }
-    ensures is { result ≡ get_or bytes.now at 0 + 256 * get_or bytes.now (at + 1) 0
-        + 65536 * get_or bytes.now (at + 2) 0 + 16777216 * get_or bytes.now (at + 3) 0 }
-    ensures small { result < 4294967296 }
-{
-    let low = wide(bytes[at]) + 256 * wide(bytes[at + 1]);
-    low + 65536 * wide(bytes[at + 2]) + 16777216 * wide(bytes[at + 3])
-}
-
-// The upper half of the numbers stands for those below zero.
-fn signed(n: u64) -> i32
-    requires { n < 4294967296 }
-    ensures { result ≡ F.signed n }
-{
-    if n < 2147483648 {
-        n as i32
-    } else {
-        (n as i64 - 4294967296) as i32
-    }
+    u16::from_le_bytes([bytes[at], bytes[at + 1]])
 }
 
 // A "signed 32-bit" word.
@@ -59,7 +26,7 @@ pub fn word_at(bytes: &[u8], at: usize) -> i32
     requires { at + 4 ≤ length bytes.now }
     ensures { result ≡ word_from bytes.now at }
 {
-    signed(unsigned_at(bytes, at))
+    i32::from_le_bytes([bytes[at], bytes[at + 1], bytes[at + 2], bytes[at + 3]])
 }
 
 // Low x, low y, high x, high y.
@@ -79,13 +46,16 @@ pub fn rect_at(bytes: &[u8], at: usize) -> Rect
     }
 }
 
-// ---- numbers, as their bytes. Each of these gives the place after what it wrote
+// ---- numbers, as their bytes. Each of these gives the place after what it wrote. `out` and `at`
+// stay apart: under a cursor, as `Lines` is one below, each would be three lines for one.
 
-// The lowest byte of a number.
-fn low_byte(n: u64) -> u8
-    ensures { result ≡ n % 256 }
+fn put_bytes(out: &mut [u8], at: usize, text: &[u8]) -> usize
+    requires { at + length text.now ≤ length out.old }
+    ensures { Wrote out.old at text.now out.new result }
 {
-    (n % 256) as u8
+    let end = at + text.len();
+    out[at..end].copy_from_slice(text);
+    end
 }
 
 // Two bytes, the lowest first.
@@ -93,29 +63,8 @@ pub fn put_pair(out: &mut [u8], at: usize, n: u64) -> usize
     requires { at + 2 ≤ length out.old }
     ensures { Wrote out.old at (pair_bytes n) out.new result }
 {
-    out[at] = low_byte(n);
-    out[at + 1] = low_byte(n / 256);
-    at + 2
-}
-
-// A number with a sign, counted from the least that 32 bits hold.
-fn lifted(z: i32) -> u64
-    ensures is { result ≡ lift z }
-    ensures small { result < 4294967296 }
-{
-    (z as i64 + 2147483648) as u64
-}
-
-// The number that the bits of a word are.
-fn unsigned(z: i32) -> u64
-    ensures { result ≡ unsigned z }
-{
-    let up = lifted(z);
-    if up < 2147483648 {
-        up + 2147483648
-    } else {
-        up - 2147483648
-    }
+    let bytes = n.to_le_bytes();
+    put_bytes(out, at, &bytes[..2])
 }
 
 // A "signed 32-bit" word.
@@ -123,80 +72,99 @@ pub fn put_word(out: &mut [u8], at: usize, z: i32) -> usize
     requires { at + 4 ≤ length out.old }
     ensures { Wrote out.old at (word_bytes z) out.new result }
 {
-    let n = unsigned(z);
-    out[at] = low_byte(n);
-    out[at + 1] = low_byte(n / 256);
-    out[at + 2] = low_byte(n / 65536);
-    out[at + 3] = low_byte(n / 16777216);
-    at + 4
+    put_bytes(out, at, &z.to_le_bytes())
 }
 
 // ---- frames
 
-// What the bytes that have arrived show about the frame that they begin.
+// A frame that is here, whole: what it asks, and how many bytes it has.
 #[derive(Clone, Copy)]
-pub enum Framed {
-    // All of it is here: what it asks, and how many bytes it has.
-    Asks { request: Request, size: usize },
-    // Its end, or all of it, has yet to come.
-    Waits,
-    // Whatever comes, it is a bad frame.
-    Bad,
+pub struct WholeFrame {
+    pub request: Request,
+    pub size: usize,
 }
 
-// "Kind 1 insert and 2 delete: number, rectangle (length 22). 3 update: number, old, new (38). 4 search: window (18)." Req 01: "kinds 5 and
-// 6, of the same layout".
-fn length_of(kind: u64) -> u64
-    ensures is { result ≡ kind_length kind }
-    ensures small { result ≤ 38 }
-{
-    match kind {
-        1 => 22,
-        2 => 22,
-        3 => 38,
-        4 => 18,
-        5 => 18,
-        6 => 18,
-        _ => 0,
+// Whatever comes after the bytes that are here, they are a bad frame.
+#[derive(Clone, Copy, PartialEq, Eq)]
+pub struct BadFrame;
+
+// "Kind 1 insert and 2 delete .. 3 update .. 4 search". Req 01: "kind 4 keeps meeting; kinds 5 and 6, of
+// the same layout, are inside and enclosing".
+#[derive(Clone, Copy, PartialEq, Eq)]
+enum FrameKind {
+    Insert,
+    Delete,
+    Update,
+    Search,
+    SearchInside,
+    SearchEnclosing,
+}
+
+impl FrameKind {
+    // As a request has it.
+    fn number(self) -> i32
+        ensures { result ≡ pos (kind_number self) }
+    {
+        match self {
+            FrameKind::Insert => 1,
+            FrameKind::Delete => 2,
+            FrameKind::Update => 3,
+            FrameKind::Search => 4,
+            FrameKind::SearchInside => 5,
+            FrameKind::SearchEnclosing => 6,
+        }
+    }
+
+    // "insert and .. delete: number, rectangle (length 22). .. update: number, old, new (38). .. search:
+    // window (18)." Req 01: "kinds 5 and 6, of the same layout".
+    #[tactic(auto, unfolding(crate::specs::Reading::kind_length, crate::specs::Reading::search_kind))]
+    fn length(self) -> u16
+        ensures is { result ≡ kind_length (kind_number self) }
+        ensures small { result ≤ 38 }
+    {
+        match self {
+            FrameKind::Insert | FrameKind::Delete => 22,
+            FrameKind::Update => 38,
+            FrameKind::Search | FrameKind::SearchInside | FrameKind::SearchEnclosing => 18,
+        }
     }
 }
 
-fn is_length(n: u64) -> bool
+impl TryFrom<u16> for FrameKind {
+    type Error = BadFrame;
+
+    ghost try_from_gives = { TellsKind };
+
+    fn try_from(number: u16) -> Result<FrameKind, BadFrame> {
+        match number {
+            1 => Ok(FrameKind::Insert),
+            2 => Ok(FrameKind::Delete),
+            3 => Ok(FrameKind::Update),
+            4 => Ok(FrameKind::Search),
+            5 => Ok(FrameKind::SearchInside),
+            6 => Ok(FrameKind::SearchEnclosing),
+            _ => Err(BadFrame),
+        }
+    }
+}
+
+// Whether some kind has the length.
+fn is_length(n: u16) -> bool
     ensures { result ≡ some_length n }
 {
-    match n {
-        18 => true,
-        22 => true,
-        38 => true,
-        _ => false,
-    }
-}
-
-// The rectangle in a field that a kind does not use.
-fn no_rect() -> Rect
-    ensures { result ≡ no_rect }
-{
-    Rect {
-        lowX: 0,
-        lowY: 0,
-        highX: 0,
-        highY: 0,
-    }
+    matches!(n, 18 | 22 | 38)
 }
 
 // Insert and delete: number, rectangle.
-fn change_in(bytes: &[u8], kind: i32) -> Request
+fn change_in(bytes: &[u8], kind: FrameKind) -> Request
     requires { 24 ≤ length bytes.now }
-    ensures { result ≡ change_from kind bytes.now }
+    ensures { result ≡ change_from (pos (kind_number kind)) bytes.now }
 {
-    let number = RecordNumber(word_at(bytes, 4));
-    let first = rect_at(bytes, 8);
-    let second = no_rect();
     Request {
-        kind,
-        number,
-        first,
-        second,
+        kind: kind.number(),
+        number: RecordNumber(word_at(bytes, 4)),
+        first: rect_at(bytes, 8),
+        second: Rect::default(),
     }
 }
 
@@ -205,156 +173,138 @@ fn update_in(bytes: &[u8]) -> Request
     requires { 40 ≤ length bytes.now }
     ensures { result ≡ update_from bytes.now }
 {
-    let number = RecordNumber(word_at(bytes, 4));
-    let first = rect_at(bytes, 8);
-    let second = rect_at(bytes, 24);
     Request {
-        kind: 3,
-        number,
-        first,
-        second,
+        kind: FrameKind::Update.number(),
+        number: RecordNumber(word_at(bytes, 4)),
+        first: rect_at(bytes, 8),
+        second: rect_at(bytes, 24),
     }
 }
 
 // Search, in each of its kinds: window. It has no number.
-fn search_in(bytes: &[u8], kind: i32) -> Request
+fn search_in(bytes: &[u8], kind: FrameKind) -> Request
     requires { 20 ≤ length bytes.now }
-    ensures { result ≡ search_from kind bytes.now }
+    ensures { result ≡ search_from (pos (kind_number kind)) bytes.now }
 {
-    let number = RecordNumber(0);
-    let first = rect_at(bytes, 4);
-    let second = no_rect();
     Request {
-        kind,
-        number,
-        first,
-        second,
+        kind: kind.number(),
+        number: RecordNumber(0),
+        first: rect_at(bytes, 4),
+        second: Rect::default(),
     }
 }
 
-// What a whole frame of a known kind asks. Req 01: "kind 4 keeps meeting; kinds 5 and 6, of the same layout, are inside and enclosing"
-fn request_in(bytes: &[u8], kind: u64) -> Request
-    requires known { 0 < kind_length kind }
-    requires whole { 2 + kind_length kind ≤ length bytes.now }
-    ensures { result ≡ request_from kind bytes.now }
+// What a whole frame of a kind asks.
+fn request_in(bytes: &[u8], kind: FrameKind) -> Request
+    requires { 2 + kind_length (kind_number kind) ≤ length bytes.now }
+    ensures { result ≡ request_from (kind_number kind) bytes.now }
 {
     match kind {
-        3 => update_in(bytes),
-        4 => search_in(bytes, 4),
-        5 => search_in(bytes, 5),
-        6 => search_in(bytes, 6),
-        2 => change_in(bytes, 2),
-        _ => change_in(bytes, 1),
+        FrameKind::Insert | FrameKind::Delete => change_in(bytes, kind),
+        FrameKind::Update => update_in(bytes),
+        FrameKind::Search | FrameKind::SearchInside | FrameKind::SearchEnclosing => {
+            search_in(bytes, kind)
+        }
     }
 }
 
-// Reads the frame that the bytes begin: "two bytes length of what follows, two bytes kind, then signed 32-bit words". A length that no kind
-// has is bad before the kind has arrived, and so is a kind with another length, before its words have.
-pub fn read_frame(bytes: &[u8]) -> Framed
+// Reads the frame that the bytes begin: "two bytes length of what follows, two bytes kind, then signed 32-bit words". There is none yet while
+// its end has yet to come. A length that no kind has is bad before the kind has arrived, and so is a kind with another length, before its
+// words have.
+pub fn read_frame(bytes: &[u8]) -> Result<Option<WholeFrame>, BadFrame>
     ensures { result ≡ framed bytes.now }
 {
     if bytes.len() < 2 {
-        return Framed::Waits;
+        return Ok(None);
     }
     let length = pair_at(bytes, 0);
     if !is_length(length) {
-        return Framed::Bad;
+        return Err(BadFrame);
     }
     if bytes.len() < 4 {
-        return Framed::Waits;
+        return Ok(None);
     }
-    let kind = pair_at(bytes, 2);
-    if length_of(kind) != length {
-        return Framed::Bad;
+    let kind = FrameKind::try_from(pair_at(bytes, 2))?;
+    if kind.length() != length {
+        return Err(BadFrame);
     }
-    let size = 2 + length as usize;
+    let size = 2 + usize::from(length);
     if bytes.len() < size {
-        return Framed::Waits;
+        return Ok(None);
     }
     let request = request_in(bytes, kind);
-    Framed::Asks { request, size }
+    Ok(Some(WholeFrame { request, size }))
 }
 
 // ---- lines
 
-fn digit(n: u64) -> u8
-    requires { n < 10 }
-    ensures { result ≡ 48 + n }
-{
-    48 + n as u8
+// Lines that are being written into a lent buffer: `at` is the place after what is written.
+#[derive(Drop)]
+struct Lines<'a> {
+    out: &'a mut [u8],
+    at: usize,
 }
 
-// The decimal digits of a number, from byte `at` on. Each of these gives the place after what it wrote.
-fn put_number(out: &mut [u8], at: usize, n: u64) -> usize
-    requires { at + length (F.nat_shown n) ≤ length out.old }
-    ensures { Wrote out.old at (F.nat_shown n) out.new result }
-{
-    if n < 10 {
-        out[at] = digit(n);
-        return at + 1;
+impl Lines<'_> {
+    #[inline(always)]
+    fn byte(&mut self, byte: u8)
+        requires { Room 1 self.old }
+        ensures { Adds 1 self.old (byte ∷ []) self.new }
+    {
+        self.out[self.at] = byte;
+        self.at += 1;
     }
-    let last = put_number(out, at, n / 10);
-    out[last] = digit(n % 10);
-    last + 1
-}
 
-// A number and the byte that separates it from the next field or ends the line.
-fn put_field(out: &mut [u8], at: usize, n: u64, after: u8) -> usize
-    requires { at + 21 ≤ length out.old }
-    ensures wrote { Wrote out.old at (F.nat_shown n ++ after ∷ []) out.new result }
-    ensures short { result ≤ at + 21 }
-{
-    let end = put_number(out, at, n);
-    out[end] = after;
-    end + 1
-}
-
-// A number with its sign, and the byte after it.
-fn put_signed(out: &mut [u8], at: usize, z: i32, after: u8) -> usize
-    requires { at + 22 ≤ length out.old }
-    ensures wrote { Wrote out.old at (F.int_shown z ++ after ∷ []) out.new result }
-    ensures short { result ≤ at + 22 }
-{
-    let up = lifted(z);
-    if up < 2147483648 {
-        out[at] = b'-';
-        return put_field(out, at + 1, 2147483648 - up, after);
+    // A text as it stands. Most numbers of an answer have one digit, and for that no copy is called.
+    #[inline(always)]
+    fn text(&mut self, text: &[u8])
+        requires { Room (length text.now) self.old }
+        ensures { Adds (length text.now) self.old text.now self.new }
+    {
+        if text.len() == 1 {
+            self.byte(text[0]);
+            return;
+        }
+        self.at = put_bytes(self.out, self.at, text);
     }
-    put_field(out, at, up - 2147483648, after)
-}
 
-fn long(x: u32) -> u64
-    ensures { result ≡ x }
-{
-    x as u64
-}
+    // A number in decimal digits, with its sign, and the byte that separates it from the next field
+    // or ends the line. It is put in place: called, it takes a fifth more instructions.
+    #[inline(always)]
+    fn field<I: Integer>(&mut self, n: I, after: u8)
+        requires { Room (suc I.MAX_STR_LEN) self.old }
+        ensures { Adds (suc I.MAX_STR_LEN) self.old (I.text n ++ after ∷ []) self.new }
+    {
+        let mut digits = Buffer::new();
+        self.text(digits.format(n).as_bytes());
+        self.byte(after);
+    }
 
-// "a line of request place from 1, answer number, found, opened". `before` is how many frames came before this one.
-fn answer_line(out: &mut [u8], at: usize, before: u64, answer: Answer) -> usize
-    requires room { at + 84 ≤ length out.old }
-    requires counted { before < 18446744073709551615 }
-    ensures wrote { Wrote out.old at (F.answer_line (suc before) answer) out.new result }
-    ensures short { result ≤ at + 84 }
-{
-    let number = put_field(out, at, before + 1, b' ');
-    let found = put_field(out, number, long(answer.number), b' ');
-    let opened = put_field(out, found, long(answer.found), b' ');
-    put_field(out, opened, long(answer.opened), b'\n')
-}
+    // "a line of request place from 1, answer number, found, opened". `before` is how many frames
+    // came before this one.
+    fn answer(&mut self, before: u64, answer: Answer)
+        requires room { Room 84 self.old }
+        requires counted { before < 18446744073709551615 }
+        ensures { Adds 84 self.old (F.answer_line (suc before) answer) self.new }
+    {
+        self.field(before + 1, b' ');
+        self.field(answer.number, b' ');
+        self.field(answer.found, b' ');
+        self.field(answer.opened, b'\n');
+    }
 
-// "a line per record: number, low x, low y, high x, high y"
-fn record_line(out: &mut [u8], at: usize, listed: FoundRecord) -> usize
-    requires { at + 110 ≤ length out.old }
-    ensures wrote { Wrote out.old at (F.record_line listed) out.new result }
-    ensures short { result ≤ at + 110 }
-{
-    let number = listed.number;
-    let rect = listed.rect;
-    let lowX = put_signed(out, at, number.0, b' ');
-    let lowY = put_signed(out, lowX, rect.lowX, b' ');
-    let highX = put_signed(out, lowY, rect.lowY, b' ');
-    let highY = put_signed(out, highX, rect.highX, b' ');
-    put_signed(out, highY, rect.highY, b'\n')
+    // "a line per record: number, low x, low y, high x, high y"
+    fn record(&mut self, listed: &FoundRecord)
+        requires { Room 110 self.old }
+        ensures { Adds 110 self.old (F.record_line listed.now) self.new }
+    {
+        let FoundRecord { number, rect } = *listed;
+        self.field(number.0, b' ');
+        self.field(rect.lowX, b' ');
+        self.field(rect.lowY, b' ');
+        self.field(rect.highX, b' ');
+        self.field(rect.highY, b'\n');
+    }
 }
 
 // How many record lines follow an answer: "after an accepted search a line per record". The found list has 64 places.
@@ -364,10 +314,7 @@ fn listed_of(answer: Answer) -> usize
     if answer.number != 0 {
         return 0;
     }
-    if answer.found < 64 {
-        return answer.found as usize;
-    }
-    64
+    answer.found.min(64) as usize
 }
 
 // What is printed for a call: the line of its answer, and a line for each record that it lists.
@@ -384,13 +331,12 @@ pub fn reply_lines(
     ensures short { result ≤ at + 7124 }
 {
     let listed = listed_of(answer);
-    let mut next = answer_line(out, at, before, answer);
-    let mut i: usize = 0;
-    while i < listed {
-        next = record_line(out, next, found[i]);
-        i += 1;
+    let mut lines = Lines { out, at };
+    lines.answer(before, answer);
+    for record in &found[..listed] {
+        lines.record(record);
     }
-    next
+    lines.at
 }
 
 // "prints `bad frame`, a space and its place"
@@ -400,8 +346,10 @@ pub fn bad_line(out: &mut [u8], at: usize, before: u64) -> usize
     ensures wrote { Wrote out.old at (F.bad_line (suc before)) out.new result }
     ensures short { result ≤ at + 31 }
 {
-    out[at..at + 10].copy_from_slice(b"bad frame ");
-    put_field(out, at + 10, before + 1, b'\n')
+    let mut lines = Lines { out, at };
+    lines.text(b"bad frame ");
+    lines.field(before + 1, b'\n');
+    lines.at
 }
 
 // ---- the bytes that wait
@@ -414,11 +362,6 @@ pub fn keep_rest(buffer: &mut [u8], at: usize, end: usize) -> usize
     ensures front { take (end - at) buffer.new ≡ take (end - at) (drop at buffer.old) }
     ensures others { drop (end - at) buffer.new ≡ drop (end - at) buffer.old }
 {
-    let rest = end - at;
-    let mut i: usize = 0;
-    while i < rest {
-        buffer[i] = buffer[at + i];
-        i += 1;
-    }
-    rest
+    buffer.copy_within(at..end, 0);
+    end - at
 }

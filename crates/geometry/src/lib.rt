@@ -10,41 +10,23 @@ ghost use Rattle.rules.specs.Numbers as N;
 ghost use Rattle.rules.specs.Geometry as G;
 ghost use Rattle.rules.specs.Compare as C;
 
-use rules::{Mode, Owner, Record, RecordNumber, Rect, Relation};
+use rules::{Mode, Record, Rect, Relation};
 
-// ---- truths and comparisons
-
-pub fn and(p: bool, q: bool) -> bool
-    ensures { result ≡ (p && q) }
-{
-    if p { q } else { false }
-}
-
-pub fn or(p: bool, q: bool) -> bool
-    ensures { result ≡ (p || q) }
-{
-    if p { true } else { q }
-}
+// ---- truths
 
 // A rule and the next, for coordinates, measures and counts alike: `less_then(a < b, b < a, next)`. The outcome is computed and nothing
 // branches on it: the processor would guess it wrong half of the time.
 pub fn less_then(less: bool, more: bool, next: bool) -> bool
     ensures { result ≡ (less || (not more && next)) }
 {
-    or(less, and(!more, next))
+    less | (!more & next)
 }
 
 // One of two by a test, with no branch: the processor would guess the test wrong too often.
-pub fn place_by(t: bool, a: usize, b: usize) -> usize
+pub fn pick<T: Copy>(t: bool, a: T, b: T) -> T
     ensures { result ≡ cond t a b }
 {
     if t { a } else { b }
-}
-
-pub fn key_by(t: bool, m: u64, n: u64) -> u64
-    ensures { result ≡ cond t m n }
-{
-    if t { m } else { n }
 }
 
 // 1 where it is so, 0 where it is not: a sum in place of a branch.
@@ -52,91 +34,73 @@ pub fn one_if(b: bool) -> usize
     ensures is { result ≡ cond b 1 0 }
     ensures most { result ≤ 1 }
 {
-    if b { 1 } else { 0 }
-}
-
-pub fn le(a: i32, b: i32) -> bool
-    ensures { result ≡ le_z a b }
-{
-    a <= b
-}
-
-pub fn same(a: i32, b: i32) -> bool
-    ensures { result ≡ L.same a b }
-{
-    and(le(a, b), le(b, a))
+    b as usize
 }
 
 // ---- rectangles
 
+#[tactic(auto, unfolding(rules::specs::Numbers::in_range))]
 pub fn in_range(x: i32) -> bool
     ensures { result ≡ N.in_range x }
 {
-    and(le(-1000000000, x), le(x, 1000000000))
+    (-1000000000 <= x) & (x <= 1000000000)
 }
 
 // Low may equal high.
+#[tactic(auto, unfolding(rules::specs::Geometry::valid))]
 pub fn valid(r: Rect) -> bool
     ensures { result ≡ G.valid r }
 {
-    let low = and(in_range(r.lowX), in_range(r.lowY));
-    let all = and(and(low, in_range(r.highX)), in_range(r.highY));
-    and(and(all, le(r.lowX, r.highX)), le(r.lowY, r.highY))
+    let low = in_range(r.lowX) & in_range(r.lowY);
+    let high = in_range(r.highX) & in_range(r.highY);
+    low & high & (r.lowX <= r.highX) & (r.lowY <= r.highY)
 }
 
 // Touching counts.
+#[tactic(auto, unfolding(rules::specs::Geometry::meets))]
 fn meets(a: Rect, b: Rect) -> bool
     ensures { result ≡ G.meets a b }
 {
-    let x = and(le(a.lowX, b.highX), le(b.lowX, a.highX));
-    and(and(x, le(a.lowY, b.highY)), le(b.lowY, a.highY))
+    (a.lowX <= b.highX) & (b.lowX <= a.highX) & (a.lowY <= b.highY) & (b.lowY <= a.highY)
 }
 
+#[tactic(auto, unfolding(rules::specs::Lists::same))]
+fn same(a: i32, b: i32) -> bool
+    ensures { result ≡ L.same a b }
+{
+    a == b
+}
+
+// Derived `==` takes 17 instructions with three branches, this six with none: the soundness walk asks
+// it of every node.
+#[tactic(auto, unfolding(rules::specs::Geometry::same_rect))]
 pub fn same_rect(a: Rect, b: Rect) -> bool
     ensures { result ≡ G.same_rect a b }
 {
-    let low = and(same(a.lowX, b.lowX), same(a.lowY, b.lowY));
-    and(and(low, same(a.highX, b.highX)), same(a.highY, b.highY))
-}
-
-fn same_number(a: RecordNumber, b: RecordNumber) -> bool
-    ensures { result ≡ L.same a.0 b.0 }
-{
-    same(a.0, b.0)
-}
-
-fn same_owner(a: Owner, b: Owner) -> bool
-    ensures { result ≡ L.same a.0 b.0 }
-{
-    same(a.0, b.0)
+    let low = same(a.lowX, b.lowX) & same(a.lowY, b.lowY);
+    low & same(a.highX, b.highX) & same(a.highY, b.highY)
 }
 
 // ---- Req 01: the comparison, and the questions on it
 
 // Whether a lies in b. A side may lie on a side.
+#[tactic(auto, unfolding(rules::specs::Compare::lies_in))]
 pub fn lies_in(a: Rect, b: Rect) -> bool
     ensures { result ≡ C.lies_in a b }
 {
-    let low = and(le(b.lowX, a.lowX), le(b.lowY, a.lowY));
-    and(and(low, le(a.highX, b.highX)), le(a.highY, b.highY))
+    (b.lowX <= a.lowX) & (b.lowY <= a.lowY) & (a.highX <= b.highX) & (a.highY <= b.highY)
 }
 
 // Two that meet, by whether the first lies in the second, and the second in the first.
+#[tactic(auto, unfolding(rules::specs::Compare::meeting_as))]
 fn meeting_as(inside: bool, enclosing: bool) -> Relation
     ensures { result ≡ C.meeting_as inside enclosing }
 {
-    if inside {
-        if enclosing {
-            Relation::Equal
-        } else {
-            Relation::Inside
-        }
-    } else {
-        if enclosing {
-            Relation::Enclosing
-        } else {
-            Relation::OtherwiseMeeting
-        }
+    match (inside, enclosing) {
+        (true, true) => Relation::Equal,
+        (true, false) => Relation::Inside,
+        (false, true) => Relation::Enclosing,
+        (false, false) => Relation::OtherwiseMeeting,
     }
 }
 
@@ -156,43 +120,33 @@ pub fn compare(a: Rect, b: Rect) -> Relation
 }
 
 // All but apart.
+#[tactic(auto, unfolding(rules::specs::Compare::is_meeting))]
 pub fn is_meeting(r: Relation) -> bool
     ensures { result ≡ C.is_meeting r }
 {
-    match r {
-        Relation::Inside | Relation::Enclosing | Relation::Equal | Relation::OtherwiseMeeting =>
-            true,
-        Relation::Apart => false,
-    }
+    r != Relation::Apart
 }
 
 // "Equal counts as inside and as enclosing."
+#[tactic(auto, unfolding(rules::specs::Compare::is_inside))]
 fn is_inside(r: Relation) -> bool
     ensures { result ≡ C.is_inside r }
 {
-    match r {
-        Relation::Inside | Relation::Equal => true,
-        Relation::Apart | Relation::Enclosing | Relation::OtherwiseMeeting => false,
-    }
+    matches!(r, Relation::Inside | Relation::Equal)
 }
 
+#[tactic(auto, unfolding(rules::specs::Compare::is_enclosing))]
 fn is_enclosing(r: Relation) -> bool
     ensures { result ≡ C.is_enclosing r }
 {
-    match r {
-        Relation::Enclosing | Relation::Equal => true,
-        Relation::Apart | Relation::Inside | Relation::OtherwiseMeeting => false,
-    }
+    matches!(r, Relation::Enclosing | Relation::Equal)
 }
 
+#[tactic(auto, unfolding(rules::specs::Compare::is_equal))]
 pub fn is_equal(r: Relation) -> bool
     ensures { result ≡ C.is_equal r }
 {
-    match r {
-        Relation::Equal => true,
-        Relation::Apart | Relation::Inside | Relation::Enclosing | Relation::OtherwiseMeeting =>
-            false,
-    }
+    r == Relation::Equal
 }
 
 // Whether a search of the mode lists a record with this rectangle.
@@ -211,36 +165,23 @@ pub fn wanted(mode: Mode, a: Rect, window: Rect) -> bool
 pub fn exact_pair(a: Record, b: Record) -> bool
     ensures { result ≡ C.exact_pair a b }
 {
-    if !same_number(a.number, b.number) {
+    if a.number != b.number {
         return false;
     }
-    let rect = is_equal(compare(a.rect, b.rect));
-    and(rect, same_owner(b.owner, a.owner))
+    is_equal(compare(a.rect, b.rect)) & (b.owner == a.owner)
 }
 
-// ---- covers. The kit's library has no smaller and no larger of two numbers
-
-fn smaller(a: i32, b: i32) -> i32
-    ensures { result ≡ G.smaller a b }
-{
-    if le(a, b) { a } else { b }
-}
-
-fn larger(a: i32, b: i32) -> i32
-    ensures { result ≡ G.larger a b }
-{
-    if le(a, b) { b } else { a }
-}
+// ---- covers
 
 // Req 04: the smallest rectangle holding both, "a smaller low and a larger high for each axis". Every cover is made here.
 pub fn cover(a: Rect, b: Rect) -> Rect
     ensures { result ≡ G.cover a b }
 {
     Rect {
-        lowX: smaller(a.lowX, b.lowX),
-        lowY: smaller(a.lowY, b.lowY),
-        highX: larger(a.highX, b.highX),
-        highY: larger(a.highY, b.highY),
+        lowX: a.lowX.min(b.lowX),
+        lowY: a.lowY.min(b.lowY),
+        highX: a.highX.max(b.highX),
+        highY: a.highY.max(b.highY),
     }
 }
 
@@ -285,7 +226,8 @@ pub fn waste(a: Rect, b: Rect, m: u64, n: u64) -> u64
     area(cover(a, b)) + (8000000000000000000 - (m + n))
 }
 
-// ---- Req 05: the same in half perimeter, asked for only where the areas tie
+// ---- Req 05: the same in half perimeter, asked for only where the areas tie. Each is one line: with
+// the measure as a parameter, what it asks and promises of the measure would be longer than it is
 
 // Width plus height, 4,000,000,000 at most.
 pub fn half_perimeter(r: Rect) -> u64

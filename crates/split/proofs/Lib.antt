@@ -1,8 +1,9 @@
 -- Laws that the proofs of `split` cite.
-pub mod Corners
-pub mod Seeds
+pub mod Nine
+pub mod Choices
+pub mod Rows
 pub mod Lefts
-pub mod Nexts
+pub mod Preferences
 pub mod Joins
 pub mod Steps
 pub mod Turns

@@ -1,4 +1,5 @@
--- What `split_nine` promises leaves one outcome: the groups give the places that they have, and the others are zero.
+-- What `split_nine` promises leaves one outcome: the groups give the places that they have, and the
+-- others are zero.
 use mathlib.Core.Path.{◌≡◌, sym, ap, ◌∙◌}
 use mathlib.Core.List.{List}
 use Prim.Native.Nat.{ℕ, ◌≤◌}
@@ -17,7 +18,8 @@ module _ (xs ys : List ℕ) (m n : ℕ) (long : length xs ≡ 9) (other : length
   many_same =
       sym (length-take-le m xs (omega (arith, long, few))) ∙ ap (λ (l : List ℕ). length l) e ∙ length-take-le n ys (omega (arith, other, less))
 
-  places_same : ((k : ℕ) → m ≤ k → get_or xs k 0 ≡ 0) → ((k : ℕ) → n ≤ k → get_or ys k 0 ≡ 0) → xs ≡ ys
+  places_same : ((k : ℕ) → m ≤ k → get_or xs k 0 ≡ 0) → ((k : ℕ) → n ≤ k → get_or ys k 0 ≡ 0)
+      → xs ≡ ys
   places_same a b = ext_get_or 0 xs ys (long ∙ sym other) (λ k _. all k (dec_le m k))
     where
       all : (k : ℕ) → Dec (m ≤ k) → get_or xs k 0 ≡ get_or ys k 0
@@ -25,16 +27,21 @@ module _ (xs ys : List ℕ) (m n : ℕ) (long : length xs ≡ 9) (other : length
       all k (no h) =
           sym (get_or-take m xs k 0 (omega (arith, h))) ∙ ap (λ (l : List ℕ). get_or l k 0) e ∙ get_or-take n ys k 0 (omega (arith, h, many_same))
 
-pub groups_once : (rs : List Rect) (s t : Grouping) → take s.ones s.one ≡ take t.ones t.one → take s.twos s.two ≡ take t.twos t.two
-    → GroupsWhole rs s → GroupsWhole rs t → s ≡ t
+pub groups_once : (rs : List Rect) (s t : Grouping)
+    → take s.one.count s.one.places ≡ take t.one.count t.one.places
+    → take s.two.count s.two.places ≡ take t.two.count t.two.places → GroupsWhole rs s → GroupsWhole rs t → s ≡ t
 groups_once rs s t e f a b =
-    let o : s.ones ≤ 9 = omega (arith, a.all) in
-    let p : t.ones ≤ 9 = omega (arith, b.all) in
-    let u : s.twos ≤ 9 = omega (arith, a.all) in
-    let v : t.twos ≤ 9 = omega (arith, b.all) in
-    let ones = many_same s.one t.one s.ones t.ones a.one9 b.one9 o p e in
-    let twos = many_same s.two t.two s.twos t.twos a.two9 b.two9 u v f in
-    let one = places_same s.one t.one s.ones t.ones a.one9 b.one9 o p e a.after_one b.after_one in
-    let two = places_same s.two t.two s.twos t.twos a.two9 b.two9 u v f a.after_two b.after_two in
+    let o : s.one.count ≤ 9 = omega (arith, a.all) in
+    let p : t.one.count ≤ 9 = omega (arith, b.all) in
+    let u : s.two.count ≤ 9 = omega (arith, a.all) in
+    let v : t.two.count ≤ 9 = omega (arith, b.all) in
+    let ones = many_same s.one.places t.one.places s.one.count t.one.count a.one9 b.one9 o p e in
+    let twos = many_same s.two.places t.two.places s.two.count t.two.count a.two9 b.two9 u v f in
+    let one = places_same s.one.places t.one.places s.one.count t.one.count a.one9 b.one9 o p e a.after_one b.after_one in
+    let two = places_same s.two.places t.two.places s.two.count t.two.count a.two9 b.two9 u v f a.after_two b.after_two in
     let cover = a.coverTwo ∙ ap (S.cover_group rs) f ∙ sym b.coverTwo in
-    λ i. record { one = one i; ones = ones i; two = two i; twos = twos i; coverTwo = cover i }
+    λ i. record {
+      one = record { places = one i; count = ones i };
+      two = record { places = two i; count = twos i };
+      coverTwo = cover i;
+    }

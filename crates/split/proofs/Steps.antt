@@ -1,5 +1,6 @@
--- `distribute` a place at a time: whichever place joins whichever group, what the groups come to stays the same. A forced joining takes the
--- first of those left: then the group still needs all the others, so they join it in order.
+-- `distribute` a place at a time: whichever place joins whichever group, what the groups come to
+-- stays the same. A forced joining takes the first of those left: then the group still needs all
+-- the others, so they join it in order.
 use mathlib.Core.Path.{◌≡◌, refl, sym, ap, ◌∙◌}
 use mathlib.Core.Bool.{Bool, true, false}
 use mathlib.Core.List.{List, [], ◌∷◌, ◌++◌, append-nil}
@@ -23,15 +24,18 @@ module _ (next : S.Groups → ℕ) (toTwo : S.Groups → ℕ → Bool) (n : ℕ)
     all_two f = rw (S.distribute, e, f)
 
     module _ (f : S.needs_all g.two g.left ≡ false) where
-      pub next_two : toTwo g (next g) ≡ true → S.distribute next toTwo (suc n) g ≡ S.distribute next toTwo n (S.join_two (next g) g)
+      pub next_two : toTwo g (next g) ≡ true
+          → S.distribute next toTwo (suc n) g ≡ S.distribute next toTwo n (S.join_two (next g) g)
       unfolding S.distribute
       next_two h = rw (S.distribute, e, f, h)
 
-      pub next_one : toTwo g (next g) ≡ false → S.distribute next toTwo (suc n) g ≡ S.distribute next toTwo n (S.join_one (next g) g)
+      pub next_one : toTwo g (next g) ≡ false
+          → S.distribute next toTwo (suc n) g ≡ S.distribute next toTwo n (S.join_one (next g) g)
       unfolding S.distribute
       next_one h = rw (S.distribute, e, f, h)
 
-pub none : (next : S.Groups → ℕ) (toTwo : S.Groups → ℕ → Bool) (g : S.Groups) → S.distribute next toTwo 0 g ≡ g
+pub none : (next : S.Groups → ℕ) (toTwo : S.Groups → ℕ → Bool) (g : S.Groups)
+    → S.distribute next toTwo 0 g ≡ g
 unfolding S.distribute
 none next toTwo g = refl
 
@@ -41,7 +45,8 @@ empty : (m : List ℕ) → length m ≡ 0 → m ≡ []
 empty [] e = refl
 empty (x ∷ m) e = absurd (omega arith)
 
-last_one : (a b m : List ℕ) → length m ≡ 0 → S.all_join_one (record { one = a; two = b; left = m }) ≡ record { one = a; two = b; left = m }
+last_one : (a b m : List ℕ) → length m ≡ 0
+    → S.all_join_one (record { one = a; two = b; left = m }) ≡ record { one = a; two = b; left = m }
 unfolding S.all_join_one
 last_one a b m z = let e = empty m z in λ k. record { one = (ap (λ (x : List ℕ). a ++ x) e ∙ append-nil a) k; two = b; left = sym e k }
 
@@ -106,7 +111,8 @@ module _ (next : S.Groups → ℕ) (toTwo : S.Groups → ℕ → Bool) (g : S.Gr
       joins : (n : ℕ) → S.distribute next toTwo (suc n) g ≡ S.all_join_two g
       joins n = all_two next toTwo n g (needs_not g.one g.left (λ x. omega arith)) (needs_if g.two g.left e)
 
-      go : (n : ℕ) → length rest ≡ n → S.distribute next toTwo (suc n) g ≡ S.distribute next toTwo n (S.join_two i g)
+      go : (n : ℕ) → length rest ≡ n
+          → S.distribute next toTwo (suc n) g ≡ S.distribute next toTwo n (S.join_two i g)
       go zero z = joins 0 ∙ two_last g i rest l q z ∙ sym (none next toTwo (S.join_two i g))
       go (suc n) z =
           let t = two_left g i rest l q in

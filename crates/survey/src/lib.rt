@@ -6,12 +6,13 @@ ghost use Rattle.rules.specs.Doubles as D;
 ghost use Rattle.rules.specs.Survey as S;
 ghost use Rattle.survey_laws.specs.Sizes as Z;
 
-use geometry::{and, in_range};
-use rules::{Query, Rect, SurveyBox, Surveyed};
+use geometry::in_range;
+use rules::{Query, Rect, SurveyBox, SurveyFault, Surveyed};
 
 // ---- outward rounding
 
-// The largest whole number not above x.
+// The largest whole number not above x. (`x.floor()` is no plainer: it would still be a double,
+// and its cast has to be shown to lose nothing.)
 fn floor(x: f64) -> i32
     requires { Z.NumberWithin 2000000000 x }
     ensures { result ≡ D.floor_of (D.exact_of x) }
@@ -31,44 +32,39 @@ fn ceiling(x: f64) -> i32
     requires { Z.NumberWithin 2000000000 x }
     ensures { result ≡ D.ceiling_of (D.exact_of x) }
 {
-    0 - floor(-x)
+    -floor(-x)
 }
 
+#[tactic(auto, unfolding(rules::specs::Survey::outward))]
 fn outward(b: SurveyBox) -> Rect
     requires { Z.BoxWithin 2000000000 b }
     ensures { result ≡ S.outward b }
 {
-    let lowX = floor(b.lowX);
-    let lowY = floor(b.lowY);
-    let highX = ceiling(b.highX);
-    let highY = ceiling(b.highY);
     Rect {
-        lowX,
-        lowY,
-        highX,
-        highY,
+        lowX: floor(b.lowX),
+        lowY: floor(b.lowY),
+        highX: ceiling(b.highX),
+        highY: ceiling(b.highY),
     }
 }
 
 // ---- boxes
 
-// Two bounds that no box is refused for: in order, and in range when they are rounded. A NaN passes no comparison.
+// Two bounds that no box is refused for: in order, and in range when they are rounded. A NaN passes
+// no comparison. (With `moderate` of each, two tests more would be made, which follow from these.)
 fn spans(low: f64, high: f64) -> bool
     ensures { result ≡ Z.spans low high }
 {
-    and(-1000000000.0 <= low, and(low <= high, high <= 1000000000.0))
+    (-1000000000.0 <= low) & (low <= high) & (high <= 1000000000.0)
 }
 
 pub fn box_window(b: SurveyBox) -> Surveyed
     ensures { result ≡ S.box_window b }
 {
-    let x = spans(b.lowX, b.highX);
-    let y = spans(b.lowY, b.highY);
-    if and(x, y) {
-        let r = outward(b);
-        Surveyed::Rounded(r)
+    if spans(b.lowX, b.highX) & spans(b.lowY, b.highY) {
+        Ok(outward(b))
     } else {
-        Surveyed::BadSurvey
+        Err(SurveyFault::BadSurvey)
     }
 }
 
@@ -77,17 +73,17 @@ pub fn box_window(b: SurveyBox) -> Surveyed
 fn moderate(x: f64) -> bool
     ensures { result ≡ S.moderate x }
 {
-    and(-1000000000.0 <= x, x <= 1000000000.0)
+    (-1000000000.0 <= x) & (x <= 1000000000.0)
 }
 
 fn good_disc(x: f64, y: f64, radius: f64) -> bool
     ensures { result ≡ S.good_disc x y radius }
 {
-    let centre = and(moderate(x), moderate(y));
-    and(and(centre, moderate(radius)), 0.0 <= radius)
+    moderate(x) & moderate(y) & moderate(radius) & (0.0 <= radius)
 }
 
 // The centre less the radius and the centre and the radius, each rounded once to a double.
+#[tactic(auto, unfolding(rules::specs::Survey::spread))]
 fn spread(x: f64, y: f64, radius: f64) -> SurveyBox
     ensures { result ≡ S.spread x y radius }
 {
@@ -112,20 +108,20 @@ fn further(r: Rect) -> Rect
     }
 }
 
+#[tactic(auto, unfolding(survey_laws::specs::Sizes::all_in_range))]
 fn all_in_range(r: Rect) -> bool
     ensures { result ≡ Z.all_in_range r }
 {
-    let low = and(in_range(r.lowX), in_range(r.lowY));
-    and(and(low, in_range(r.highX)), in_range(r.highY))
+    in_range(r.lowX) & in_range(r.lowY) & in_range(r.highX) & in_range(r.highY)
 }
 
 fn finish(r: Rect) -> Surveyed
     ensures { result ≡ S.finish true r }
 {
     if all_in_range(r) {
-        Surveyed::Rounded(r)
+        Ok(r)
     } else {
-        Surveyed::BadSurvey
+        Err(SurveyFault::BadSurvey)
     }
 }
 
@@ -133,31 +129,27 @@ pub fn disc_window(x: f64, y: f64, radius: f64) -> Surveyed
     ensures { result ≡ S.disc_window x y radius }
 {
     if good_disc(x, y, radius) {
-        let b = spread(x, y, radius);
-        let r = outward(b);
-        let s = further(r);
-        finish(s)
+        let r = outward(spread(x, y, radius));
+        finish(further(r))
     } else {
-        Surveyed::BadSurvey
+        Err(SurveyFault::BadSurvey)
     }
 }
 
 // ---- any query
 
 // A point is a box with low equal to high.
+#[tactic(auto, unfolding(rules::specs::Survey::query_window))]
 pub fn query_window(q: Query) -> Surveyed
     ensures { result ≡ S.query_window q }
 {
     match q {
-        Query::Point { x, y } => {
-            let b = SurveyBox {
-                lowX: x,
-                lowY: y,
-                highX: x,
-                highY: y,
-            };
-            box_window(b)
-        }
+        Query::Point { x, y } => box_window(SurveyBox {
+            lowX: x,
+            lowY: y,
+            highX: x,
+            highY: y,
+        }),
         Query::Box(b) => box_window(b),
         Query::Disc { x, y, radius } => disc_window(x, y, radius),
     }

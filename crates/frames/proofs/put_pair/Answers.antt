@@ -1,15 +1,11 @@
--- `put_pair`: the lowest byte, and then the next.
-use native.Mathlib.Omega.{arith}
-use lib.ListN.{length-set}
-use Rattle.rules.specs.File.{pair_bytes}
-use Rattle.frames.proofs.Texts.{wrote_two}
+-- `put_pair`: the first two of the library's bytes of a number are those of the definition.
+use mathlib.Core.Path.{ap, ◌∙◌}
+use mathlib.Core.List.{List}
+use Prim.Native.Nat.{ℕ}
+use lib.ListN.{take}
+use Rattle.frames.proofs.Texts.{wrote_as}
+use Rattle.frames.proofs.Words.{bytes_of_pair}
 use Rattle.frames.proofs.put_pair.Goals as goal
 
-pub bounds-out-at-2 : goal.bounds-out-at-2
-bounds-out-at-2 c =
-    omega (arith, c.requires, length-set c.args.out.now c.args.at c.low_byte.result)
-
 pub returns : goal.returns
-unfolding pair_bytes
-returns c =
-    wrote_two c.args.out.now c.args.at c.low_byte.ensures c.low_byte-2.ensures
+returns c = wrote_as (ap (λ (bs : List ℕ). take 2 bs) c.to_le_bytes-bytes.ensures ∙ bytes_of_pair c.args.n) c.put_bytes.ensures

@@ -3,14 +3,17 @@ use mathlib.Core.Path.{sym, ◌∙◌}
 use Rattle.rules.specs.Owners.{owned_by}
 use Rattle.rules.specs.Compare.{exact_pair}
 use Rattle.rules_laws.proofs.Bools.{not_true, not_false}
+use Rattle.rules.proofs.Derived.{number_same}
 use Rattle.geometry.proofs.exact_pair.Goals as goal
 
-pub returns-then-not-same_number : goal.returns-then-not-same_number
+pub returns-then-ne : goal.returns-then-ne
 unfolding exact_pair
-returns-then-not-same_number c = rw (sym c.same_number.ensures ∙ not_true _ c.if-not-same_number.true-raw)
+returns-then-ne c =
+    let number = sym (number_same c.args.a.number.0 c.args.b.number.0) ∙ not_true _ (sym c.ne.ensures ∙ c.if-ne.true) in
+    rw number
 
 pub returns : goal.returns
 unfolding exact_pair owned_by
 returns c =
-    let number = sym c.same_number.ensures ∙ not_false _ c.if-not-same_number.false-raw in
-    rw (c.and.ensures, number, c.is_equal-rect.ensures, c.compare.ensures, c.same_owner.ensures)
+    let number = sym (number_same c.args.a.number.0 c.args.b.number.0) ∙ not_false _ (sym c.ne.ensures ∙ c.if-ne.false) in
+    rw (number, c.is_equal.ensures, c.compare.ensures, c.eq.ensures, number_same c.args.b.owner.0 c.args.a.owner.0)

@@ -9,20 +9,6 @@ unfolding second_first
 returns-then-growTwo-growOne c =
     decides (as_pos c.requires.grow_one_value.1 c.requires.grow_one_value.0) _ c.if-growTwo-growOne.true
 
-pub half_enlargement-halfOne-requires : goal.half_enlargement-halfOne-requires
-half_enlargement-halfOne-requires c =
-    record {
-      a_value = c.requires.cover_value.0;
-      b_value = c.requires.r_value;
-    }
-
-pub half_enlargement-halfTwo-requires : goal.half_enlargement-halfTwo-requires
-half_enlargement-halfTwo-requires c =
-    record {
-      a_value = c.requires.cover_value.1;
-      b_value = c.requires.r_value;
-    }
-
 pub returns-then-halfTwo-halfOne : goal.returns-then-halfTwo-halfOne
 unfolding second_first
 returns-then-halfTwo-halfOne c =
@@ -34,28 +20,20 @@ unfolding second_first
 returns-then-two-one c =
     ties (as_pos c.requires.grow_one_value.1 c.requires.grow_one_value.0) _ c.if-growTwo-growOne.false
     (ties (as_pos c.half_enlargement-halfTwo.ensures c.half_enlargement-halfOne.ensures) _ c.if-halfTwo-halfOne.false
-    (decides (as_pos c.requires.area_value.1 c.requires.area_value.0) _ c.if-two-one.true))
-
-pub half_perimeter-aroundOne-requires : goal.half_perimeter-aroundOne-requires
-half_perimeter-aroundOne-requires c =
-    c.requires.cover_value.0
-
-pub half_perimeter-aroundTwo-requires : goal.half_perimeter-aroundTwo-requires
-half_perimeter-aroundTwo-requires c =
-    c.requires.cover_value.1
+    (decides (as_pos c.args.two.now.cover.right c.args.one.now.cover.right) _ c.if-two-one.true))
 
 pub returns-then-aroundTwo-aroundOne : goal.returns-then-aroundTwo-aroundOne
 unfolding second_first
 returns-then-aroundTwo-aroundOne c =
     ties (as_pos c.requires.grow_one_value.1 c.requires.grow_one_value.0) _ c.if-growTwo-growOne.false
     (ties (as_pos c.half_enlargement-halfTwo.ensures c.half_enlargement-halfOne.ensures) _ c.if-halfTwo-halfOne.false
-    (ties (as_pos c.requires.area_value.1 c.requires.area_value.0) _ c.if-two-one.false
-    (decides (as_pos c.half_perimeter-aroundTwo.ensures.is c.half_perimeter-aroundOne.ensures.is) _ c.if-aroundTwo-aroundOne.true)))
+    (ties (as_pos c.args.two.now.cover.right c.args.one.now.cover.right) _ c.if-two-one.false
+    (decides (as_pos c.half_perimeter-aroundTwo.ensures c.half_perimeter-aroundOne.ensures) _ c.if-aroundTwo-aroundOne.true)))
 
 pub returns : goal.returns
 unfolding second_first
 returns c =
     ties (as_pos c.requires.grow_one_value.1 c.requires.grow_one_value.0) _ c.if-growTwo-growOne.false
     (ties (as_pos c.half_enlargement-halfTwo.ensures c.half_enlargement-halfOne.ensures) _ c.if-halfTwo-halfOne.false
-    (ties (as_pos c.requires.area_value.1 c.requires.area_value.0) _ c.if-two-one.false
-    (ties (as_pos c.half_perimeter-aroundTwo.ensures.is c.half_perimeter-aroundOne.ensures.is) _ c.if-aroundTwo-aroundOne.false refl)))
+    (ties (as_pos c.args.two.now.cover.right c.args.one.now.cover.right) _ c.if-two-one.false
+    (ties (as_pos c.half_perimeter-aroundTwo.ensures c.half_perimeter-aroundOne.ensures) _ c.if-aroundTwo-aroundOne.false refl)))

@@ -1,28 +1,9 @@
+-- One beyond a coordinate of at most 2,000,000,001 fits 32 bits, and so it reads back as it is.
 use Rattle.std.proofs.Common.{pos, ◌+ℤ◌, ◌-ℤ◌, arith}
 use Rattle.rules.specs.Survey.{further}
 use Rattle.geometry.proofs.Rects.{rect_back}
 use Rattle.survey_laws.proofs.Floors.{less_mag, more_mag, back32}
 use Rattle.survey.proofs.further.Goals as goal
-
-pub overflow_sub-result : goal.overflow_sub-result
-overflow_sub-result c =
-    let a = rect_back c.args.r c.struct_told-1.given in
-    rw a.lowX (record { sfits = omega (arith, less_mag c.args.r.lowX 2000000001 c.requires.lowX) })
-
-pub overflow_sub-result-2 : goal.overflow_sub-result-2
-overflow_sub-result-2 c =
-    let a = rect_back c.args.r c.struct_told-1.given in
-    rw a.lowY (record { sfits = omega (arith, less_mag c.args.r.lowY 2000000001 c.requires.lowY) })
-
-pub overflow_add-result : goal.overflow_add-result
-overflow_add-result c =
-    let a = rect_back c.args.r c.struct_told-1.given in
-    rw a.highX (record { sfits = omega (arith, more_mag c.args.r.highX 2000000001 c.requires.highX) })
-
-pub overflow_add-result-2 : goal.overflow_add-result-2
-overflow_add-result-2 c =
-    let a = rect_back c.args.r c.struct_told-1.given in
-    rw a.highY (record { sfits = omega (arith, more_mag c.args.r.highY 2000000001 c.requires.highY) })
 
 pub returns : goal.returns
 unfolding further

@@ -6,5 +6,5 @@ use Rattle.survey.proofs.good_disc.Goals as goal
 pub returns : goal.returns
 unfolding of_bits
 returns c =
-    rw (c.and-2.ensures, c.and.ensures, c.and-centre.ensures, c.moderate-3.ensures, c.moderate-2.ensures, c.moderate.ensures)
+    rw (c.moderate-3.ensures, c.moderate-2.ensures, c.moderate.ensures)
     (disc_test c.args.x c.args.y c.args.radius (is_double c.args.radius c.well_formed.1.1.0.1))

@@ -5,4 +5,4 @@ use Rattle.survey.proofs.moderate.Goals as goal
 
 pub returns : goal.returns
 unfolding of_bits neg
-returns c = rw c.and.ensures (moderate_is c.args.x (is_double c.args.x c.well_formed.0.1))
+returns c = moderate_is c.args.x (is_double c.args.x c.well_formed.0.1)
