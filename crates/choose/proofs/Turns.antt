@@ -6,23 +6,22 @@ use Prim.Native.Nat.{ℕ, ◌+◌, ◌-◌, ◌≤◌, ◌<◌}
 use native.Mathlib.Omega.{arith}
 use lib.Dec.{ltb}
 use lib.ListN.{length}
-use lib.IntN.{ℤ, pos}
+use lib.IntN.{pos}
 use Rattle.rules.specs.declared.Rect.{Rect}
-use Rattle.rules.specs.declared.SlotNumber.{SlotNumber}
 use Rattle.rules.specs.Geometry.{enlargement}
 use Rattle.rules.specs.Lists.{earliest_best, up_from}
-use Rattle.rules.specs.Pool.{entries_at}
-use Rattle.rules.specs.Layout.{read}
 use Rattle.rules.specs.Choose.{rect_from, takes_better, earliest, choose_child}
 use Rattle.rules_laws.proofs.Turns.{best_nil, best_cons, up_more, up_none}
 use Rattle.rules_laws.proofs.Rules.{chosen_part, as_pos, decides}
 use Rattle.layout_laws.proofs.Parts.{length_rects}
 use Rattle.choose.specs.declared.Best.{Best}
-use Rattle.choose.specs.State.{rects_of, better, ahead}
+use Rattle.pool.specs.declared.node.Node.{Node}
+use Rattle.pool.specs.Reading.{rects_of, entries_of}
+use Rattle.choose.specs.State.{better, ahead}
 
 -- an entry has the place of its rectangle
-pub in_node : (w : List ℤ) (s : SlotNumber) {i : ℕ} → i < length (rects_of w s) → i < length (entries_at (read w) s)
-in_node w s h = rw (length_rects (entries_at (read w) s)) at h
+pub in_node : (n : Node) {i : ℕ} → i < length (rects_of n) → i < length (entries_of n)
+in_node n h = rw (length_rects (entries_of n)) at h
 
 module _ (rs : List Rect) (new : Rect) where
   -- the entry that the code keeps

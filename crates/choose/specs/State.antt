@@ -1,17 +1,10 @@
 -- What `choose` asks of a node's rectangles, and what its struct stands for.
-use Rattle.std.specs.Prelude.{◌≡◌, Bool, true, List, ℕ, ◌-◌, ◌<◌, length, ℤ, pos}
+use Rattle.std.specs.Prelude.{◌≡◌, Bool, true, List, ℕ, ◌-◌, ◌<◌, length, pos}
 use Rattle.rules.specs.declared.Rect.{Rect}
-use Rattle.rules.specs.declared.SlotNumber.{SlotNumber}
 use Rattle.rules.specs.Lists.{earliest_best, up_from}
 use Rattle.rules.specs.Geometry.{valid, area, enlargement}
-use Rattle.rules.specs.Pool.{entries_at, rects}
-use Rattle.rules.specs.Layout.{read}
 use Rattle.rules.specs.Choose.{rect_from, takes_better}
 use Rattle.choose.specs.declared.Best.{Best}
-
--- the rectangles of a node's entries
-abbrev pub rects_of : List ℤ → SlotNumber → List Rect
-rects_of w s = rects (entries_at (read w) s)
 
 -- there is at least one, and all are valid
 pub record Choosable (rs : List Rect) : Type 0 where

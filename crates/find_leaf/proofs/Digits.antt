@@ -3,7 +3,7 @@
 use mathlib.Core.Path.{◌≡◌, refl, sym, ap, ◌∙◌}
 use mathlib.Core.Logic.{◌≢◌}
 use mathlib.Core.List.{◌∷◌}
-use mathlib.Core.Option.{none, some}
+use Rattle.std.specs.Prelude.{None, Some}
 use Prim.Native.Nat.{ℕ, zero, suc, ◌+◌, ◌*◌, ◌/◌, ◌%◌, ◌^◌, ◌≤◌, ◌<◌}
 use native.Mathlib.Nat.{lt_of_lt_of_le}
 use native.Mathlib.Omega.{arith}
@@ -22,11 +22,11 @@ use Rattle.find_leaf.specs.Packed.{bits_below, packed, packed_way}
 
 -- ---- the clauses
 
-pub packed_none : packed_way none ≡ 0
+pub packed_none : packed_way None ≡ 0
 unfolding packed_way
 packed_none = refl
 
-pub packed_some : (path : Path) → packed_way (some path) ≡ 2147483648 + packed path
+pub packed_some : (path : Path) → packed_way (Some path) ≡ 2147483648 + packed path
 unfolding packed_way
 packed_some path = refl
 
@@ -35,7 +35,7 @@ unfolding packed
 packed_cons s i path = refl
 
 -- a way is found exactly where its number is not 0
-pub some_not_zero : (path : Path) → packed_way (some path) ≢ 0
+pub some_not_zero : (path : Path) → packed_way (Some path) ≢ 0
 some_not_zero path e = omega (arith, sym (packed_some path) ∙ e)
 
 -- ---- a digit put in front

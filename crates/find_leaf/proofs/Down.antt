@@ -2,9 +2,8 @@
 -- there is the node of the level below.
 use mathlib.Core.Path.{◌≡◌, refl, sym, ap, subst, ◌∙◌}
 use mathlib.Core.Logic.{◌≢◌}
-use mathlib.Core.Bool.{Bool, true, false}
 use mathlib.Core.List.{[], ◌∷◌}
-use mathlib.Core.Option.{Option, none, some}
+use Rattle.std.specs.Prelude.{Option, None, Some}
 use Prim.Native.Nat.{ℕ, zero, suc, ◌+◌, ◌-◌, ◌*◌, ◌/◌, ◌%◌, ◌^◌, ◌≤◌, ◌<◌}
 use native.Mathlib.Decide.{dec_le}
 use native.Mathlib.Omega.{arith}
@@ -18,8 +17,9 @@ use Rattle.rules.specs.Delete.{Place, Path, place, find_leaf, path_to}
 use Rattle.rules_laws.proofs.Places.{get_d_alike}
 use Rattle.sound_laws.specs.Tree.{Tree}
 use Rattle.delete_laws.specs.Way.{Leads}
+use Rattle.find_leaf.specs.declared.Step.{Step}
 use Rattle.find_leaf.specs.declared.Way.{Way}
-use Rattle.find_leaf.specs.Ways.{path_of, UpTo, Gives}
+use Rattle.find_leaf.specs.Ways.{no_step, place_of, path_of, UpTo, Gives}
 use Rattle.find_leaf.specs.Packed.{bits_below, packed, packed_way}
 use Rattle.find_leaf.proofs.Digits.{packed_none, packed_some, packed_cons, some_not_zero, digit_here, digit_rest, leads_long, leads_small}
 use Rattle.find_leaf.proofs.Inner.{child_tree, found_leads}
@@ -27,21 +27,20 @@ use Rattle.find_leaf.proofs.Inner.{child_tree, found_leads}
 -- ---- places written
 
 abbrev pub node_in : Way → ℕ → Place
-node_in w k = place (get_or w.nodes k (slot 0)) (get_or w.places k 0)
+node_in w k = place_of (get_or w.steps k no_step)
 
-abbrev pub nothing_written : Bool → Way
-nothing_written b = record { found = b; nodes = replicate 8 (slot 0); places = replicate 8 0 }
+abbrev pub nothing_written : Way
+nothing_written = record { steps = replicate 8 no_step }
 
--- a way with zeros at every level
-pub all_zeros : (b : Bool) (l : ℕ) → UpTo l (nothing_written b)
-all_zeros b l = record {
-  long = record { nodes = refl; places = refl };
-  no_node = λ k _. get_d_alike 8 k (slot 0);
-  no_place = λ k _. get_d_alike 8 k 0;
-}
+-- a way with no step at any level
+pub no_steps : (l : ℕ) → UpTo l nothing_written
+no_steps l = record { long = refl; above = λ k _. get_d_alike 8 k no_step }
+
+abbrev pub step_at : SlotNumber → ℕ → Step
+step_at s i = record { node = s; place = i }
 
 abbrev pub put : Way → ℕ → SlotNumber → ℕ → Way
-put w k s i = record { found = true; nodes = set w.nodes k s; places = set w.places k i }
+put w k s i = record { steps = set w.steps k (step_at s i) }
 
 -- the places of the path from level h down to the level above l
 pub record Written (path : Path) (h : ℕ) (w : Way) (l : ℕ) : Type 0 where
@@ -51,9 +50,8 @@ pub record Written (path : Path) (h : ℕ) (w : Way) (l : ℕ) : Type 0 where
 module _ (path : Path) (h : ℕ) (w : Way) where
   put_up : (k : ℕ) (s : SlotNumber) (i : ℕ) → k < h → UpTo h w → UpTo h (put w k s i)
   put_up k s i a u = record {
-    long = record { nodes = length-set w.nodes k s ∙ u.long.nodes; places = length-set w.places k i ∙ u.long.places };
-    no_node = λ n b. get_or-set_other w.nodes k n s (slot 0) (omega (arith, a, b)) ∙ u.no_node n b;
-    no_place = λ n b. get_or-set_other w.places k n i 0 (omega (arith, a, b)) ∙ u.no_place n b;
+    long = length-set w.steps k (step_at s i) ∙ u.long;
+    above = λ n b. get_or-set_other w.steps k n (step_at s i) no_step (omega (arith, a, b)) ∙ u.above n b;
   }
 
   write_place : (l : ℕ) (s : SlotNumber) (i : ℕ) → 1 ≤ l → l ≤ h → h ≤ 8 → get_or path (h - l) (place (slot 0) 0) ≡ place s i
@@ -66,13 +64,12 @@ module _ (path : Path) (h : ℕ) (w : Way) where
       go : (k : ℕ) → l - 1 ≤ k → k < h → Dec (l ≤ k) → node_in (put w (l - 1) s i) k ≡ get_or path (h - suc k) (place (slot 0) 0)
       go k a b (yes c) =
           let o : k ≢ l - 1 = omega (arith, c, one) in
-          (λ j. place (get_or-set_other w.nodes (l - 1) k s (slot 0) o j) (get_or-set_other w.places (l - 1) k i 0 o j)) ∙ t.at k c b
+          ap place_of (get_or-set_other w.steps (l - 1) k (step_at s i) no_step o) ∙ t.at k c b
       go k a b (no c) =
           let q : k ≡ l - 1 = omega (arith, a, c) in
           let z : h - suc k ≡ h - l = omega (arith, q, one) in
           rw (z, e, q)
-          (λ j. place (get_or-set_same w.nodes (l - 1) s (slot 0) (omega (arith, t.up.long.nodes, one, high, few)) j)
-          (get_or-set_same w.places (l - 1) i 0 (omega (arith, t.up.long.places, one, high, few)) j))
+          (ap place_of (get_or-set_same w.steps (l - 1) (step_at s i) no_step (omega (arith, t.up.long, one, high, few))))
 
   -- all are written
   written_path : length path ≡ h → Written path h w 0 → (l : ℕ) → l ≤ h → path_of l w ≡ drop (h - l) path
@@ -84,15 +81,15 @@ module _ (path : Path) (h : ℕ) (w : Way) where
       ∙ sym (drop-cons path (h - suc l) (place (slot 0) 0) (omega (arith, a, size))
       ∙ ap (λ (n : ℕ). get_or path (h - suc l) (place (slot 0) 0) ∷ drop n path) z)
 
-  written_all : w.found ≡ true → length path ≡ h → Written path h w 0 → Gives (some path) h w
-  written_all f size t =
+  written_all : length path ≡ h → Written path h w 0 → Gives (Some path) h (Some w)
+  written_all size t =
       let z : h - h ≡ 0 = omega arith in
-      (f, written_path size t h (omega arith) ∙ ap (λ (n : ℕ). drop n path) z, t.up)
+      (written_path size t h (omega arith) ∙ ap (λ (n : ℕ). drop n path) z, t.up)
 
 -- ---- a level at a time
 
 -- the first place of a way that leads to a pair
-record Step (p : Pool) (r : Record) (l : ℕ) (s : SlotNumber) (path : Path) (i : ℕ) : Type 0 where
+record FirstStep (p : Pool) (r : Record) (l : ℕ) (s : SlotNumber) (path : Path) (i : ℕ) : Type 0 where
   rest : Path
   is : path ≡ place s i ∷ rest
   there : i < length (entries_at p s)
@@ -101,7 +98,7 @@ record Step (p : Pool) (r : Record) (l : ℕ) (s : SlotNumber) (path : Path) (i 
   below : 2 ≤ l → Leads p r (l - 1) (child_of (entry_at p s i)) rest
 
 leads_step : (p : Pool) (r : Record) (l : ℕ) (s : SlotNumber) (path : Path) → Tree p l s → Leads p r l s path
-    → (i : ℕ) × Step p r l s path i
+    → (i : ℕ) × FirstStep p r l s path i
 unfolding Leads packed
 leads_step p r zero s path d h = absurd h
 leads_step p r (suc zero) s path d h =
@@ -124,7 +121,7 @@ leads_step p r (suc (suc l)) s path d h =
 -- the way w is written down to the level above l, and goes on at s
 pub record Down (p : Pool) (r : Record) (h : ℕ) (root : SlotNumber) (w : ℕ) (way : Way) (s : SlotNumber) (l : ℕ) : Type 0 where
   pub path : Path
-  pub is : find_leaf p r h root ≡ some path
+  pub is : find_leaf p r h root ≡ Some path
   pub few : h ≤ 8
   pub one : 1 ≤ l
   pub high : l ≤ h
@@ -134,8 +131,8 @@ pub record Down (p : Pool) (r : Record) (h : ℕ) (root : SlotNumber) (w : ℕ) 
   pub written : Written path h way l
 
 module _ (p : Pool) (r : Record) (h : ℕ) (root : SlotNumber) (w : ℕ) where
-  down_first : (path : Path) → find_leaf p r h root ≡ some path → w ≡ packed_way (some path) → 1 ≤ h → h ≤ 8 → Tree p h root
-      → Down p r h root w (nothing_written true) root h
+  down_first : (path : Path) → find_leaf p r h root ≡ Some path → w ≡ packed_way (Some path) → 1 ≤ h → h ≤ 8 → Tree p h root
+      → Down p r h root w nothing_written root h
   down_first path e v one few d =
       let z : h - h ≡ 0 = omega arith in
       let leads = found_leads p r h root path e in
@@ -148,7 +145,7 @@ module _ (p : Pool) (r : Record) (h : ℕ) (root : SlotNumber) (w : ℕ) where
         tree = d;
         leads = rw z leads;
         digits = rw (z, v, packed_some path) (flagged (leads_small p r h root path d leads));
-        written = record { up = all_zeros true h; at = λ k a b. absurd (omega (arith, a, b)) };
+        written = record { up = no_steps h; at = λ k a b. absurd (omega (arith, a, b)) };
       }
     where
       -- the flag is above the digits
@@ -160,15 +157,15 @@ module _ (p : Pool) (r : Record) (h : ℕ) (root : SlotNumber) (w : ℕ) where
 
   -- there is a way where the number is not 0
   pub start_down : w ≡ packed_way (find_leaf p r h root) → w ≢ 0 → 1 ≤ h → h ≤ 8 → Tree p h root
-      → Down p r h root w (nothing_written true) root h
+      → Down p r h root w nothing_written root h
   start_down e f one few d = go (find_leaf p r h root) refl
     where
-      go : (o : Option Path) → find_leaf p r h root ≡ o → Down p r h root w (nothing_written true) root h
-      go none q = absurd (f (e ∙ ap packed_way q ∙ packed_none))
-      go (some path) q = down_first path q (e ∙ ap packed_way q) one few d
+      go : (o : Option Path) → find_leaf p r h root ≡ o → Down p r h root w nothing_written root h
+      go None q = absurd (f (e ∙ ap packed_way q ∙ packed_none))
+      go (Some path) q = down_first path q (e ∙ ap packed_way q) one few d
 
   module _ (way : Way) (s : SlotNumber) (l : ℕ) (t : Down p r h root w way s l) where
-    step : (i : ℕ) × Step p r l s (drop (h - l) t.path) i
+    step : (i : ℕ) × FirstStep p r l s (drop (h - l) t.path) i
     step = leads_step p r l s (drop (h - l) t.path) t.tree t.leads
 
     abbrev rest : Path
@@ -217,12 +214,12 @@ module _ (p : Pool) (r : Record) (h : ℕ) (root : SlotNumber) (w : ℕ) where
           }
 
     -- the leaf's place is the lowest digit
-    pub down_end : l ≡ 1 → (n : ℕ) → n ≡ w / 2 ^ bits_below 1 % 8 → Gives (find_leaf p r h root) h (put way 0 s n)
+    pub down_end : l ≡ 1 → (n : ℕ) → n ≡ w / 2 ^ bits_below 1 % 8 → Gives (find_leaf p r h root) h (Some (put way 0 s n))
     down_end leaf n e =
         let z : l - 1 ≡ 0 = omega (arith, leaf) in
         let size = leads_long p r h root t.path (found_leads p r h root t.path t.is) in
         let all = put_here n (subst (λ (k : ℕ). n ≡ w / 2 ^ bits_below k % 8) (sym leaf) e) in
-        rw t.is (written_all t.path h (put way 0 s n) refl size (subst (λ (k : ℕ). Written t.path h (put way k s n) k) z all))
+        rw t.is (written_all t.path h (put way 0 s n) size (subst (λ (k : ℕ). Written t.path h (put way k s n) k) z all))
 
 -- .. whatever pair it is the way to
 abbrev pub GoesDown : Pool → ℕ → SlotNumber → ℕ → Way → SlotNumber → ℕ → Type 0
@@ -230,12 +227,12 @@ GoesDown p h root w way s l = (r : Record) → w ≡ packed_way (find_leaf p r h
 
 -- ---- from the root
 
--- no way is all zeros
-pub gives_none : (o : Option Path) (l w : ℕ) → w ≡ packed_way o → w ≡ 0 → Gives o l (nothing_written false)
-gives_none none l w e z = (refl, all_zeros false 0)
-gives_none (some path) l w e z = absurd (some_not_zero path (sym e ∙ z))
+-- 0 is no way
+pub gives_none : (o : Option Path) (l w : ℕ) → w ≡ packed_way o → w ≡ 0 → Gives o l None
+gives_none None l w e z = tt
+gives_none (Some path) l w e z = absurd (some_not_zero path (sym e ∙ z))
 
-pub from_root : (p : Pool) (r : Record) (h : ℕ) (s : SlotNumber) (way : Way) → h ≡ p.height → s ≡ p.root → Gives (find_leaf p r h s) h way
+pub from_root : (p : Pool) (r : Record) (h : ℕ) (s : SlotNumber) (way : Option Way) → h ≡ p.height → s ≡ p.root → Gives (find_leaf p r h s) h way
     → Gives (path_to p r) p.height way
 from_root p r h s way high root g =
     subst (λ (n : ℕ). Gives (find_leaf p r n p.root) n way) high (subst (λ (t : SlotNumber). Gives (find_leaf p r h t) h way) root g)

@@ -3,7 +3,7 @@ use mathlib.Core.Path.{◌≡◌, refl, sym, ap, ap₂, subst, ◌∙◌}
 use mathlib.Core.Logic.{◌↔◌}
 use mathlib.Core.Bool.{Bool, true, false, not}
 use mathlib.Core.List.{List}
-use mathlib.Core.Option.{Option, none, some}
+use Rattle.std.specs.Prelude.{Option, None, Some}
 use Prim.Native.Nat.{ℕ, ◌≤◌}
 use native.Mathlib.Omega.{arith}
 use lib.Dec.{eqb}
@@ -14,8 +14,6 @@ use Rattle.rules.specs.declared.Record.{Record}
 use Rattle.rules.specs.Pool.{Pool, held}
 use Rattle.rules.specs.Delete.{Path, find_leaf, path_to}
 use Rattle.rules.specs.Layout.{valid_length, read}
-use Rattle.rules_laws.proofs.Bools.{same_test}
-use Rattle.rules_laws.proofs.Orders.{never_both}
 use Rattle.layout_laws.proofs.Parts.{few_slots}
 use Rattle.layout_laws.proofs.Written.{read_slots}
 use Rattle.sound_laws.specs.Tree.{Tree, Whole}
@@ -27,21 +25,27 @@ use Rattle.find_leaf.specs.Ways.{Gives}
 use Rattle.find_leaf.specs.Packed.{packed_way}
 use Rattle.find_leaf.proofs.Digits.{packed_none, some_not_zero}
 
-pub shows_found : (o : Option Path) (l : ℕ) (w : Way) → Gives o l w → (w.found ≡ true) ↔ Found o
-shows_found none l w h = ((λ t. never_both t h.0), λ f. absurd f)
-shows_found (some path) l w h = ((λ t. tt), λ f. h.0)
-
 never : (b : Bool) → (b ≡ true → ⊥) → b ≡ false
 never true f = absurd (f refl)
 never false f = refl
 
-pub shows_held : (p : Pool) (r : Record) (w : Way) → Whole p → Gives (path_to p r) p.height w → w.found ≡ held p r
-shows_held p r w whole h =
-    let shown = shows_found (path_to p r) p.height w h in
-    let is = find_held p whole r in
-    same_test w.found (held p r) (λ t. is.1 (shown.0 t)) (λ t. shown.1 (is.0 t))
+-- a way that is given leads to a pair that is held
+pub some_held : (p : Pool) (r : Record) (w : Way) → Whole p → Gives (path_to p r) p.height (Some w) → held p r ≡ true
+some_held p r w whole h = (find_held p whole r).1 (go (path_to p r) h)
+  where
+    go : (o : Option Path) → Gives o p.height (Some w) → Found o
+    go None g = absurd g
+    go (Some path) g = tt
 
--- .. and so is a number that is not 0
+-- .. and where none is given, none is
+pub none_held : (p : Pool) (r : Record) → Whole p → Gives (path_to p r) p.height None → held p r ≡ false
+none_held p r whole h = never (held p r) (λ t. go (path_to p r) h ((find_held p whole r).0 t))
+  where
+    go : (o : Option Path) → Gives o p.height None → Found o → ⊥
+    go None g f = f
+    go (Some path) g f = g
+
+-- a pair is held where the number is not 0
 pub way_held : (p : Pool) (r : Record) (h : ℕ) (s : SlotNumber) (w : ℕ) → Whole p → h ≡ p.height → s ≡ p.root
     → w ≡ packed_way (find_leaf p r h s)
     → not (eqb w 0) ≡ held p r
@@ -51,10 +55,10 @@ way_held p r h s w whole high root e =
     go (path_to p r) refl v is
   where
     go : (o : Option Path) → path_to p r ≡ o → w ≡ packed_way (path_to p r) → (held p r ≡ true) ↔ Found (path_to p r) → not (eqb w 0) ≡ held p r
-    go none q v is =
+    go None q v is =
         let z : eqb w 0 ≡ true = eq-eqb w 0 (v ∙ ap packed_way q ∙ packed_none) in
         rw z (sym (never (held p r) (λ t. subst Found q (is.0 t))))
-    go (some path) q v is =
+    go (Some path) q v is =
         let z : eqb w 0 ≡ false = ne_eqb w 0 (λ f. some_not_zero path (sym (ap packed_way q) ∙ sym v ∙ f)) in
         rw z (sym (is.1 (subst Found (sym q) tt)))
 

@@ -3,15 +3,15 @@ use mathlib.Core.Path.{◌≡◌, refl, sym, ap, subst, ◌∙◌}
 use mathlib.Core.Logic.{◌≢◌}
 use mathlib.Core.Bool.{true, false}
 use mathlib.Core.List.{List, ◌∷◌}
-use mathlib.Core.Option.{Option, none, some}
+use Rattle.std.specs.Prelude.{Option, None, Some}
 use Prim.Native.Nat.{ℕ, zero, suc, ◌+◌, ◌-◌, ◌*◌, ◌^◌, ◌≤◌, ◌<◌}
 use native.Mathlib.Nat.{lt_of_lt_of_le}
 use native.Mathlib.Numerals.{add-one, sub-one}
 use native.Mathlib.Omega.{arith}
 use lib.IntN.{ℤ}
-use lib.ListN.{length, take, drop, get_or, drop_of_length-le}
+use lib.ListN.{length, drop, get_or, drop_of_length-le}
 use lib.Pow.{pow_mono}
-use lib.Seq.{drop-cons, get_or-take, length-take-le}
+use lib.Seq.{drop-cons}
 use borrow.Author.Tests.{ne_eqb}
 use Rattle.rules.specs.declared.SlotNumber.{SlotNumber}
 use Rattle.rules.specs.declared.Record.{Record}
@@ -29,7 +29,7 @@ use Rattle.sound_laws.proofs.Walk.{inner_of, tree_node, tree_positive}
 use Rattle.delete_laws.specs.Way.{Leads, EachWay}
 use Rattle.delete_laws.proofs.Clauses.{or_some, or_none}
 use Rattle.delete_laws.proofs.Finds.{find_leads}
-use Rattle.find_leaf.specs.State.{holding, HitsOf}
+use Rattle.find_leaf.specs.State.{holding}
 use Rattle.find_leaf.specs.Packed.{bits_below, packed_way}
 use Rattle.find_leaf.proofs.Digits.{packed_none, packed_some, packed_cons, some_not_zero, leads_long, leads_small}
 use Rattle.find_leaf.proofs.Skips.{first_of, first_none, first_cons, found_at, inner_first}
@@ -58,10 +58,10 @@ child_tree p (suc (suc l)) s two d i h =
 -- ---- the way that is found in a tree
 
 module _ (p : Pool) (r : Record) (l : ℕ) (s : SlotNumber) where
-  pub found_leads : (path : Path) → find_leaf p r l s ≡ some path → Leads p r l s path
+  pub found_leads : (path : Path) → find_leaf p r l s ≡ Some path → Leads p r l s path
   found_leads path e = subst (EachWay (Leads p r l s)) e (find_leads p r l s)
 
-  pub found_long : (path : Path) → find_leaf p r l s ≡ some path → length path ≡ l
+  pub found_long : (path : Path) → find_leaf p r l s ≡ Some path → length path ≡ l
   found_long path e = leads_long p r l s path (found_leads path e)
 
   -- .. fits 32 bits
@@ -69,8 +69,8 @@ module _ (p : Pool) (r : Record) (l : ℕ) (s : SlotNumber) where
   way_fits d few = go (find_leaf p r l s) refl
     where
       go : (o : Option Path) → find_leaf p r l s ≡ o → packed_way o < 4294967296
-      go none e = rw packed_none (omega arith)
-      go (some path) e =
+      go None e = rw packed_none (omega arith)
+      go (Some path) e =
           rw (packed_some path)
           (omega (
             arith,
@@ -79,76 +79,59 @@ module _ (p : Pool) (r : Record) (l : ℕ) (s : SlotNumber) where
 
 -- ---- the hits left
 
-module _ (p : Pool) (r : Record) (level : ℕ) (s : SlotNumber) (places : List ℕ) (count : ℕ) where
-  pub record Left (k : ℕ) : Type 0 where
-    pub hits : HitsOf p s r.rect places count
-    pub is : find_leaf p r level s ≡ first_of (found_at p r (level - 1) s) s (drop k (holding p s r.rect))
+module _ (p : Pool) (r : Record) (level : ℕ) (s : SlotNumber) (hits : List ℕ) where
+  abbrev found : ℕ → Option Path
+  found = found_at p r (level - 1) s
 
-  abbrev all : List ℕ
-  all = holding p s r.rect
+  -- FindLeaf gives what is found at the hits from the k-th on
+  abbrev pub Left : ℕ → Type 0
+  Left k = find_leaf p r level s ≡ first_of found s (drop k hits)
 
-  module _ (k : ℕ) (t : Left k) where
-    module _ (h : k < count) where
-      there : k < length (take count places)
-      there = let n = length-take-le count places (omega (arith, t.hits.few, t.hits.long)) in omega (arith, n, h)
+  pub left_first : hits ≡ holding p s r.rect → 2 ≤ level → Tree p level s → Left 0
+  left_first are two d = inner_first p r level s two d ∙ ap (first_of found s) (sym are)
 
-      next_hit : drop k all ≡ get_or places k 0 ∷ drop (suc k) all
-      next_hit =
-          ap (drop k) (sym t.hits.are) ∙ drop-cons (take count places) k 0 there
-          ∙ (λ j. get_or-take count places k 0 h j ∷ drop (suc k) (t.hits.are j))
+  module _ (k : ℕ) where
+    module _ (h : k < length hits) where
+      abbrev i : ℕ
+      i = get_or hits k 0
 
       -- a hit is the place of an entry
-      pub hit_there : get_or places k 0 < length (entries_at p s)
+      pub hit_there : hits ≡ holding p s r.rect → i < length (entries_at p s)
       unfolding holding
-      hit_there =
+      hit_there are =
           let n = length (entries_at p s) in
-          let i = get_or places k 0 in
-          let b = subst (λ (j : ℕ). Among j (take count places)) (get_or-take count places k 0 h) (at_place (take count places) k 0 there) in
-          let a : Among i all = subst (Among i) t.hits.are b in
+          let a : Among i (holding p s r.rect) = subst (Among i) are (at_place hits k 0 h) in
           let m = place_of_lem ((among_those (λ j. lies_in r.rect (entry_at p s j).rect) i (up_from 0 n)).0 a).0 in
           let q : m.0 < n = omega (arith, m.1, length_up_from 0 n) in
           omega (arith, m.2 0, get_d_up_from 0 n m.0 0 q, q)
 
-      here : find_leaf p r level s
-          ≡ or_later s (get_or places k 0) (found_at p r (level - 1) s (get_or places k 0))
-          (first_of (found_at p r (level - 1) s) s (drop (suc k) all))
-      here =
-          t.is ∙ ap (first_of (found_at p r (level - 1) s) s) next_hit
-          ∙ first_cons (found_at p r (level - 1) s) s (get_or places k 0) (drop (suc k) all)
-
-      module _ (w : ℕ) (e : w ≡ packed_way (found_at p r (level - 1) s (get_or places k 0))) where
-        abbrev i : ℕ
-        i = get_or places k 0
-
+      module _ (t : Left k) where
         abbrev later : Option Path
-        later = first_of (found_at p r (level - 1) s) s (drop (suc k) all)
+        later = first_of found s (drop (suc k) hits)
 
-        pub left_found : w ≢ 0 → w + i * 2 ^ bits_below level ≡ packed_way (find_leaf p r level s)
-        left_found f = go (found_at p r (level - 1) s i) refl
-          where
-            go : (o : Option Path) → found_at p r (level - 1) s i ≡ o → w + i * 2 ^ bits_below level ≡ packed_way (find_leaf p r level s)
-            go none q = absurd (f (e ∙ ap packed_way q ∙ packed_none))
-            go (some path) q =
-                let n = found_long p r (level - 1) (child_of (entry_at p s i)) path q in
-                let v = e ∙ ap packed_way q ∙ packed_some path in
-                let z = here ∙ ap (λ (x : Option Path). or_later s i x later) q ∙ or_some s i path later in
-                rw (z, packed_some (place s i ∷ path), packed_cons s i path, n) (omega (arith, v))
+        here : find_leaf p r level s ≡ or_later s i (found i) later
+        here = t ∙ ap (first_of found s) (drop-cons hits k 0 h) ∙ first_cons found s i (drop (suc k) hits)
 
-        pub left_next : w ≡ 0 → Left (k + 1)
-        left_next f = go (found_at p r (level - 1) s i) refl
-          where
-            go : (o : Option Path) → found_at p r (level - 1) s i ≡ o → Left (k + 1)
-            go none q = record {
-              hits = t.hits;
-              is = rw (add-one k) (here ∙ ap (λ (x : Option Path). or_later s i x later) q ∙ or_none s i later);
-            }
-            go (some path) q = absurd (some_not_zero path (sym (ap packed_way q) ∙ sym e ∙ f))
+        module _ (w : ℕ) (e : w ≡ packed_way (found i)) where
+          pub left_found : w ≢ 0 → w + i * 2 ^ bits_below level ≡ packed_way (find_leaf p r level s)
+          left_found f = go (found i) refl
+            where
+              go : (o : Option Path) → found i ≡ o → w + i * 2 ^ bits_below level ≡ packed_way (find_leaf p r level s)
+              go None q = absurd (f (e ∙ ap packed_way q ∙ packed_none))
+              go (Some path) q =
+                  let n = found_long p r (level - 1) (child_of (entry_at p s i)) path q in
+                  let v = e ∙ ap packed_way q ∙ packed_some path in
+                  let z = here ∙ ap (λ (x : Option Path). or_later s i x later) q ∙ or_some s i path later in
+                  rw (z, packed_some (place s i ∷ path), packed_cons s i path, n) (omega (arith, v))
 
-    pub left_end : count ≤ k → 0 ≡ packed_way (find_leaf p r level s)
-    left_end h =
-        let n = length-take-le count places (omega (arith, t.hits.few, t.hits.long)) in
-        let e = ap (drop k) (sym t.hits.are) ∙ drop_of_length-le (take count places) {i = k} (omega (arith, n, h)) in
-        sym (ap packed_way (t.is ∙ ap (first_of (found_at p r (level - 1) s) s) e ∙ first_none (found_at p r (level - 1) s) s) ∙ packed_none)
+          pub left_next : w ≡ 0 → Left (k + 1)
+          left_next f = go (found i) refl
+            where
+              go : (o : Option Path) → found i ≡ o → Left (k + 1)
+              go None q = rw (add-one k) (here ∙ ap (λ (x : Option Path). or_later s i x later) q ∙ or_none s i later)
+              go (Some path) q = absurd (some_not_zero path (sym (ap packed_way q) ∙ sym e ∙ f))
 
-  pub left_first : HitsOf p s r.rect places count → 2 ≤ level → Tree p level s → Left 0
-  left_first h two d = record { hits = h; is = inner_first p r level s two d }
+    pub left_end : length hits ≤ k → Left k → 0 ≡ packed_way (find_leaf p r level s)
+    left_end h t =
+        let e = drop_of_length-le hits {i = k} (omega arith) in
+        sym (ap packed_way (t ∙ ap (first_of found s) e ∙ first_none found s) ∙ packed_none)

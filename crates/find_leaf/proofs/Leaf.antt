@@ -3,7 +3,7 @@
 use mathlib.Core.Path.{◌≡◌, refl, sym, ap, ◌∙◌}
 use mathlib.Core.Bool.{Bool, true, false, ◌&&◌, ◌||◌, or_assoc, or-false}
 use mathlib.Core.List.{List, [], ◌∷◌}
-use mathlib.Core.Option.{none}
+use Rattle.std.specs.Prelude.{None}
 use Prim.Native.Nat.{ℕ, suc, ◌+◌, ◌*◌, ◌≤◌, ◌<◌}
 use native.Mathlib.Numerals.{add-one}
 use native.Mathlib.Omega.{arith}
@@ -67,7 +67,7 @@ another_number r e h =
     stop (same r.number.0 (number_of e).0 && is_equal (compared r.rect e.rect)) (owned_by r.owner (record_of e))
     (stop (same r.number.0 (number_of e).0) (is_equal (compared r.rect e.rect)) h)
 
-no_number : (r : Record) (s : SlotNumber) (i : ℕ) (es : List Entry) → one_of (has_number r.number) es ≡ false → find_entry r s i es ≡ none
+no_number : (r : Record) (s : SlotNumber) (i : ℕ) (es : List Entry) → one_of (has_number r.number) es ≡ false → find_entry r s i es ≡ None
 no_number r s i [] h = entry_none r s i
 no_number r s i (e ∷ es) h =
     let b = or_neither (has_number r.number e) (one_of (has_number r.number) es) (sym (one_cons (has_number r.number) e es) ∙ h) in

@@ -3,7 +3,7 @@
 use mathlib.Core.Path.{◌≡◌, refl, sym, ap, subst, ◌∙◌}
 use mathlib.Core.Bool.{Bool, true, false}
 use mathlib.Core.List.{List, [], ◌∷◌}
-use mathlib.Core.Option.{Option, none, some}
+use Rattle.std.specs.Prelude.{Option, None, Some}
 use Prim.Native.Nat.{ℕ, zero, suc, ◌+◌, ◌-◌, ◌≤◌, ◌<◌}
 use native.Mathlib.Omega.{arith}
 use native.Mathlib.Numerals.{sub-one}
@@ -33,10 +33,10 @@ use Rattle.find_leaf.specs.State.{holding}
 -- ---- the first of some places at which something is found
 
 unfoldable pub first_of : (ℕ → Option Path) → SlotNumber → List ℕ → Option Path
-first_of found s [] = none
+first_of found s [] = None
 first_of found s (i ∷ is) = or_later s i (found i) (first_of found s is)
 
-pub first_none : (found : ℕ → Option Path) (s : SlotNumber) → first_of found s [] ≡ none
+pub first_none : (found : ℕ → Option Path) (s : SlotNumber) → first_of found s [] ≡ None
 unfolding first_of
 first_none found s = refl
 
@@ -47,33 +47,33 @@ first_cons found s i is = refl
 
 module _ (p : Pool) (r : Record) where
   -- a pair that is found is one of the tree's, and its rectangle meets itself
-  found_record : (l : ℕ) (s : SlotNumber) (path : Path) → find_leaf p r l s ≡ some path → Among r (records_in p l s)
+  found_record : (l : ℕ) (s : SlotNumber) (path : Path) → find_leaf p r l s ≡ Some path → Among r (records_in p l s)
   found_record l s path e = leads_record p r l s path (subst (EachWay (Leads p r l s)) e (find_leads p r l s))
 
   module _ (l : ℕ) (e : Entry) (inner : InnerEntry p (λ t. Tree p l t) e) where
-    found_held : (path : Path) → find_leaf p r l (child_of e) ≡ some path → HoldsRect e.rect r.rect
+    found_held : (path : Path) → find_leaf p r l (child_of e) ≡ Some path → HoldsRect e.rect r.rect
     found_held path q =
         subst (λ (a : Rect). HoldsRect a r.rect) (sym inner.tight)
         (record_held p l (child_of e) inner.child r (found_record l (child_of e) path q))
 
-    found_meets : (path : Path) → find_leaf p r l (child_of e) ≡ some path → meets e.rect r.rect ≡ true
+    found_meets : (path : Path) → find_leaf p r l (child_of e) ≡ Some path → meets e.rect r.rect ≡ true
     found_meets path q =
         holds_meets r.rect (found_held path q)
         (valid_meets r.rect (record_good p l (child_of e) inner.child r (found_record l (child_of e) path q)).0)
 
-    not_held : lies_in r.rect e.rect ≡ false → find_leaf p r l (child_of e) ≡ none
+    not_held : lies_in r.rect e.rect ≡ false → find_leaf p r l (child_of e) ≡ None
     not_held h = go (find_leaf p r l (child_of e)) refl
       where
-        go : (o : Option Path) → find_leaf p r l (child_of e) ≡ o → o ≡ none
-        go none q = refl
-        go (some path) q = never_both ((lies_in_lem r.rect e.rect).1 (found_held path q)) h
+        go : (o : Option Path) → find_leaf p r l (child_of e) ≡ o → o ≡ None
+        go None q = refl
+        go (Some path) q = never_both ((lies_in_lem r.rect e.rect).1 (found_held path q)) h
 
-    not_met : meets e.rect r.rect ≡ false → find_leaf p r l (child_of e) ≡ none
+    not_met : meets e.rect r.rect ≡ false → find_leaf p r l (child_of e) ≡ None
     not_met h = go (find_leaf p r l (child_of e)) refl
       where
-        go : (o : Option Path) → find_leaf p r l (child_of e) ≡ o → o ≡ none
-        go none q = refl
-        go (some path) q = never_both (found_meets path q) h
+        go : (o : Option Path) → find_leaf p r l (child_of e) ≡ o → o ≡ None
+        go None q = refl
+        go (Some path) q = never_both (found_meets path q) h
 
   -- ---- an inner node
 

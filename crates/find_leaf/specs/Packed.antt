@@ -1,6 +1,5 @@
 -- A way as one number: 0 for none; else 2^31, and three bits of the place at each level, the leaf's lowest.
-use Rattle.std.specs.Prelude.{[], ◌∷◌, ℕ, ◌+◌, ◌-◌, ◌*◌, ◌^◌, length}
-use Rattle.std.proofs.Math.Option.{Option, none, some}
+use Rattle.std.specs.Prelude.{[], ◌∷◌, ℕ, ◌+◌, ◌-◌, ◌*◌, ◌^◌, length, Option, None, Some}
 use Rattle.rules.specs.Delete.{Path}
 
 -- the bits below those of a level's place
@@ -17,5 +16,5 @@ packed [] = 0
 packed (a ∷ path) = a.at * 2 ^ (3 * length path) + packed path
 
 unfoldable pub packed_way : Option Path → ℕ
-packed_way none = 0
-packed_way (some path) = found_flag + packed path
+packed_way None = 0
+packed_way (Some path) = found_flag + packed path

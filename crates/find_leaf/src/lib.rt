@@ -1,34 +1,46 @@
-// FindLeaf, in a whole pool: the way down to the first exact pair. It is recursive with the level falling; from call to call the way is one
-// number, and it is written out level by level only where it is asked for.
+// FindLeaf, in a whole pool: the way down to the first exact pair. It is recursive with the level
+// falling; from call to call the way is one number, and it is written out level by level only where
+// it is asked for.
 #![tactic(auto)]
 
-ghost use Rattle.std.specs.Prelude.{◌≡◌, true, ◌+◌, ◌*◌, ◌/◌, ◌%◌, ◌^◌, ◌≤◌, ◌<◌, length};
+ghost use Rattle.std.specs.Prelude.{◌≡◌, ◌+◌, ◌*◌, ◌/◌, ◌%◌, ◌^◌, ◌≤◌, ◌<◌};
 ghost use Rattle.rules.specs.Lists.{one_of};
-ghost use Rattle.rules.specs.Numbers.{most};
 ghost use Rattle.rules.specs.Layout as L;
 ghost use Rattle.rules.specs.Pool as P;
 ghost use Rattle.rules.specs.Delete as D;
-ghost use Rattle.layout_laws.specs.Slots.{InPool};
 ghost use Rattle.sound_laws.specs.Tree.{Tree, Whole};
+ghost use Rattle.pool.specs.Reading.{read, node_of, entries_of};
 ghost use Rattle.find_leaf.specs.Ways.{Gives};
 ghost use Rattle.find_leaf.specs.Packed.{bits_below, packed_way};
-ghost use Rattle.find_leaf.specs.State.{has_number, HitsOf};
+ghost use Rattle.find_leaf.specs.State.{has_number, holding};
 
 use geometry::one_if;
+use pool::node::{Node, Pool};
 use rules::{Edition, MOST, MOST_HEIGHT, Record, RecordNumber, Rect, SlotNumber};
 
-// The way down to a pair: for each level, from 1 on, the node that is passed and the entry's place in it.
+// A step of the way down: the node that is passed, and the entry's place in it.
+#[derive(Clone, Copy)]
+pub struct Step {
+    pub node: SlotNumber,
+    pub place: usize,
+}
+
+// The way down to a pair: a step for each level, from 1 on.
 #[derive(Clone, Copy)]
 pub struct Way {
-    pub found: bool,
-    pub nodes: [SlotNumber; MOST_HEIGHT],
-    pub places: [usize; MOST_HEIGHT],
+    pub steps: [Step; MOST_HEIGHT],
 }
+
+// What stands above the height.
+const NO_STEP: Step = Step {
+    node: SlotNumber(0),
+    place: 0,
+};
 
 // ---- a way as one number
 
-// 0 for none; else 2^31, and three bits of the place at each level, the leaf's lowest. A number comes back from a call in a register; a
-// `Way` would be copied at each level.
+// 0 for none; else 2^31, and three bits of the place at each level, the leaf's lowest. A number
+// comes back from a call in a register; a `Way` would be copied at each level.
 const FOUND: usize = 2147483648;
 
 const PLACE_BITS: usize = 3;
@@ -64,121 +76,94 @@ fn place_in(w: usize, level: usize) -> usize
 
 // ---- FL2: a leaf
 
-// Whether some entry of the leaf at s has the number. All are looked at and nothing branches on one: a branch that the processor guesses
-// wrong costs more than the comparisons that it would save.
-fn has_number_in(pool: &[i32], edition: Edition, s: SlotNumber, k: RecordNumber) -> bool
-    requires in_pool { InPool pool.now s }
-    requires edition_value { edition ≡ L.edition_of pool.now }
-    requires s_value { (P.node_at (L.read pool.now) s).level ≡ 1 }
-    ensures { result ≡ one_of (has_number k) (P.entries_at (L.read pool.now) s) }
+// Whether some entry of the leaf has the number. All are looked at and nothing branches on one: a
+// branch that the processor guesses wrong costs more than the comparisons that it would save.
+fn has_number_in(node: &Node<'_>, k: RecordNumber) -> bool
+    requires { (node_of node.now).level ≡ 1 }
+    ensures { result ≡ one_of (has_number k) (entries_of node.now) }
 {
-    let n = pool::count_in(pool, edition, s);
     let mut any = false;
-    let mut i: usize = 0;
-    while i < n {
-        let m = pool::number_in(pool, edition, s, i);
-        any = any | geometry::same(k.0, m.0);
-        i += 1;
+    for i in 0..node.count() {
+        any |= k == node.number(i);
     }
     any
 }
 
-// .. in a pool, by its own edition, which is read once for the leaf. Each case is written out: in each arm the compiler knows how many words an
-// entry has, and unrolls the loop.
-fn has_number(pool: &[i32], s: SlotNumber, k: RecordNumber) -> bool
-    requires in_pool { InPool pool.now s }
-    requires s_value { (P.node_at (L.read pool.now) s).level ≡ 1 }
-    ensures { result ≡ one_of (has_number k) (P.entries_at (L.read pool.now) s) }
+// .. with an arm for each edition, as in `gather` of `search`: in each the compiler knows how many
+// words an entry has, and unrolls the loop.
+fn has_number(node: &Node<'_>, k: RecordNumber) -> bool
+    requires { (node_of node.now).level ≡ 1 }
+    ensures { result ≡ one_of (has_number k) (entries_of node.now) }
 {
-    match pool::edition_of(pool) {
-        Edition::One => has_number_in(pool, Edition::One, s, k),
-        Edition::Two => has_number_in(pool, Edition::Two, s, k),
+    match node.edition {
+        Edition::One => has_number_in(&node.in_edition(Edition::One), k),
+        Edition::Two => has_number_in(&node.in_edition(Edition::Two), k),
     }
 }
 
 // The first of its entries that is the pair. Most leaves have no entry of the number.
-fn find_entry(pool: &[i32], r: Record, s: SlotNumber) -> usize
-    requires in_pool { InPool pool.now s }
-    requires s_value { (P.node_at (L.read pool.now) s).level ≡ 1 }
-    ensures { result ≡ packed_way (D.find_leaf (L.read pool.now) r 1 s) }
+fn find_entry(node: &Node<'_>, r: Record) -> usize
+    requires { (node_of node.now).level ≡ 1 }
+    ensures { result ≡ packed_way (D.find_leaf (L.read node.now.words.now) r 1 node.now.slot) }
 {
-    if !has_number(pool, s, r.number) {
+    if !has_number(node, r.number) {
         return 0;
     }
-    let n = pool::count_of(pool, s);
-    let mut at: usize = 0;
-    while at < n {
-        let e = pool::entry_of(pool, s, at);
-        if geometry::exact_pair(r, nodes::record_of(e)) {
+    let n = node.count();
+    for at in 0..n {
+        if geometry::exact_pair(r, nodes::record_of(node.entry(at))) {
             return FOUND + at;
         }
-        at += 1;
     }
     0
 }
 
 // ---- FL1: an inner node
 
-// The places of the entries that hold the rectangle are put in front, in stored order; it says how many there are, and what stands after
-// them means nothing. Each place is written down, and the next goes over one that does not hold it: so nothing branches on the outcome,
-// which the processor would often guess wrong. Of the comparison only this half is asked: a rectangle with no low above its high meets what it
-// lies in.
-fn put_hits_in(
-    pool: &[i32],
-    edition: Edition,
-    s: SlotNumber,
-    r: Rect,
-    places: &mut [usize; MOST],
-) -> usize
-    requires in_pool { InPool pool.now s }
-    requires edition_value { edition ≡ L.edition_of pool.now }
-    requires places_len { length places.old ≡ most }
-    ensures { HitsOf (L.read pool.now) s r places.new result }
+// The places of the entries that hold the rectangle, in stored order. Each place is written down,
+// and the next goes over one that does not hold it: so nothing branches on the outcome, which the
+// processor would often guess wrong. Of the comparison only this half is asked: a rectangle with no
+// low above its high meets what it lies in.
+fn hits_in<'a>(node: &Node<'_>, r: Rect, places: &'a mut [usize; MOST]) -> &'a [usize]
+    ensures { result.now ≡ holding (L.read node.now.words.now) node.now.slot r }
 {
-    let n = pool::count_in(pool, edition, s);
     let mut count: usize = 0;
-    let mut i: usize = 0;
-    while i < n {
+    for i in 0..node.count() {
         places[count] = i;
-        count += one_if(geometry::lies_in(r, pool::rect_in(pool, edition, s, i)));
-        i += 1;
+        count += one_if(geometry::lies_in(r, node.rect(i)));
     }
-    count
+    &places[..count]
 }
 
-// .. in a pool, by its own edition, each case written out as in `has_number`.
-fn put_hits(pool: &[i32], s: SlotNumber, r: Rect, places: &mut [usize; MOST]) -> usize
-    requires in_pool { InPool pool.now s }
-    requires places_len { length places.old ≡ most }
-    ensures { HitsOf (L.read pool.now) s r places.new result }
+// .. with an arm for each edition, as in `has_number`.
+fn hits<'a>(node: &Node<'_>, r: Rect, places: &'a mut [usize; MOST]) -> &'a [usize]
+    ensures { result.now ≡ holding (L.read node.now.words.now) node.now.slot r }
 {
-    match pool::edition_of(pool) {
-        Edition::One => put_hits_in(pool, Edition::One, s, r, places),
-        Edition::Two => put_hits_in(pool, Edition::Two, s, r, places),
+    match node.edition {
+        Edition::One => hits_in(&node.in_edition(Edition::One), r, places),
+        Edition::Two => hits_in(&node.in_edition(Edition::Two), r, places),
     }
 }
 
-// FindLeaf from the node at s down, which has the level given: "FindLeaf visits children in stored order". It goes only below entries that
-// hold the pair's rectangle: a cover that does not hold it has no such pair below. Where a child has nothing, it comes back to the next.
-fn find_in(pool: &[i32], r: Record, level: usize, s: SlotNumber) -> usize
-    requires pool_value { L.valid_length pool.now ≡ true }
-    requires tree { Tree (L.read pool.now) level s }
+// FindLeaf from the node at s down, which has the level given: "FindLeaf visits children in stored
+// order". It goes only below entries that hold the pair's rectangle: a cover that does not hold it
+// has no such pair below. Where a child has nothing, it comes back to the next.
+fn find_in(pool: Pool<'_>, r: Record, level: usize, s: SlotNumber) -> usize
+    requires tree { Tree (read pool) level s }
     requires level_bound { level ≤ 8 }
-    ensures { result ≡ packed_way (D.find_leaf (L.read pool.now) r level s) }
+    ensures { result ≡ packed_way (D.find_leaf (read pool.entry) r level s) }
 {
+    let node = pool.node(s);
     if level == 1 {
-        return find_entry(pool, r, s);
+        return find_entry(&node, r);
     }
     let mut places = [0usize; MOST];
-    let count = put_hits(pool, s, r.rect, &mut places);
-    let mut k: usize = 0;
-    while k < count {
-        let i = places[k];
-        let w = find_in(pool, r, level - 1, pool::child_of(pool, s, i));
+    let hits = hits(&node, r.rect, &mut places);
+    for &i in hits {
+        let w = find_in(pool, r, level - 1, node.child(i));
         if w != 0 {
             return with_place(w, level, i);
         }
-        k += 1;
     }
     0
 }
@@ -186,46 +171,31 @@ fn find_in(pool: &[i32], r: Record, level: usize, s: SlotNumber) -> usize
 // ---- FindLeaf
 
 // "FindLeaf visits children in stored order; the first exact pair found goes."
-pub fn find_leaf(pool: &[i32], r: Record) -> Way
-    requires pool_value { L.valid_length pool.now ≡ true }
-    requires whole { Whole (L.read pool.now) }
-    ensures { Gives (D.path_to (L.read pool.now) r) (L.read pool.now).height result }
+pub fn find_leaf(pool: Pool<'_>, r: Record) -> Option<Way>
+    requires { Whole (read pool) }
+    ensures { Gives (D.path_to (read pool.entry) r) (read pool.entry).height result }
 {
-    let mut nodes = [SlotNumber(0); MOST_HEIGHT];
-    let mut places = [0usize; MOST_HEIGHT];
-    let h = pool::height_of(pool);
-    let mut s = pool::root_of(pool);
+    let h = pool.height();
+    let mut s = pool.root();
     let w = find_in(pool, r, h, s);
     if w == 0 {
-        return Way {
-            found: false,
-            nodes,
-            places,
-        };
+        return None;
     }
-    let mut l = h;
-    while 1 < l {
-        let i = place_in(w, l);
-        nodes[l - 1] = s;
-        places[l - 1] = i;
-        s = pool::child_of(pool, s, i);
-        l -= 1;
+    let mut steps = [NO_STEP; MOST_HEIGHT];
+    for l in (1..h).rev() {
+        let place = place_in(w, l + 1);
+        steps[l] = Step { node: s, place };
+        s = pool.node(s).child(place);
     }
-    nodes[0] = s;
-    places[0] = place_in(w, 1);
-    Way {
-        found: true,
-        nodes,
-        places,
-    }
+    let place = place_in(w, 1);
+    steps[0] = Step { node: s, place };
+    Some(Way { steps })
 }
 
 // "pair held": FindLeaf finds a pair exactly where some leaf has it.
-pub fn holds(pool: &[i32], r: Record) -> bool
-    requires pool_value { L.valid_length pool.now ≡ true }
-    requires whole { Whole (L.read pool.now) }
-    ensures { result ≡ P.held (L.read pool.now) r }
+pub fn holds(pool: Pool<'_>, r: Record) -> bool
+    requires { Whole (read pool) }
+    ensures { result ≡ P.held (read pool.entry) r }
 {
-    let h = pool::height_of(pool);
-    find_in(pool, r, h, pool::root_of(pool)) != 0
+    find_in(pool, r, pool.height(), pool.root()) != 0
 }

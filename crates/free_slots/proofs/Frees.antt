@@ -8,25 +8,21 @@ use native.Mathlib.Numerals.{add-one}
 use native.Mathlib.Omega.{arith}
 use lib.ListN.{length, drop, drop_of_length-le}
 use lib.Seq.{drop-cons}
-use Rattle.rules.specs.declared.FreeSlot.{FreeSlot}
-use Rattle.rules.specs.declared.FreeSlot.TheVariants.{At, Nowhere}
+use Rattle.std.specs.Prelude.{Option, Some, None}
+use Rattle.rules.specs.declared.SlotNumber.{SlotNumber}
 use Rattle.rules.specs.Lists.{those}
 use Rattle.rules.specs.Pool.{Node, Pool, slot, free_node, node_at, free_from, lowest_free, free_count}
 use Rattle.rules_laws.proofs.Parts.{those_yes, those_no, those_none}
 use Rattle.sound_laws.proofs.Free.{is_free, free_nowhere, free_here, free_later}
 
 -- the lowest free slot of those from s on, and how many of them are free
-abbrev pub lowest_from : Pool → ℕ → FreeSlot
+abbrev pub lowest_from : Pool → ℕ → Option SlotNumber
 lowest_from p s = free_from s (drop (s - 1) p.slots)
 
 abbrev pub count_from : Pool → ℕ → ℕ
 count_from p s = length (those is_free (drop (s - 1) p.slots))
 
 -- ---- a slot at a time
-
-pub one_most : (b : Bool) → cond b 1 0 ≤ 1
-one_most true = omega arith
-one_most false = omega arith
 
 pub count_one : (n : Node) (ns : List Node) → length (those is_free (n ∷ ns)) ≡ cond (is_free n) 1 0 + length (those is_free ns)
 count_one n ns = go (is_free n) refl
@@ -41,7 +37,7 @@ module _ (p : Pool) (s : ℕ) where
     unfolding node_at
     onward = let e : suc (s - 1) ≡ s + 1 - 1 = omega arith in rw (drop-cons p.slots (s - 1) free_node (omega arith), e)
 
-    pub lowest_here : is_free (node_at p (slot s)) ≡ true → lowest_from p s ≡ At (slot s)
+    pub lowest_here : is_free (node_at p (slot s)) ≡ true → lowest_from p s ≡ Some (slot s)
     lowest_here e = ap (free_from s) onward ∙ free_here s (node_at p (slot s)) (drop (s + 1 - 1) p.slots) e
 
     pub lowest_next : is_free (node_at p (slot s)) ≡ false → lowest_from p s ≡ lowest_from p (s + 1)
@@ -52,7 +48,7 @@ module _ (p : Pool) (s : ℕ) where
     pub count_next : count_from p s ≡ cond (is_free (node_at p (slot s))) 1 0 + count_from p (s + 1)
     count_next = ap (λ (ns : List Node). length (those is_free ns)) onward ∙ count_one (node_at p (slot s)) (drop (s + 1 - 1) p.slots)
 
-  pub lowest_end : length p.slots < s → lowest_from p s ≡ Nowhere
+  pub lowest_end : length p.slots < s → lowest_from p s ≡ None
   lowest_end h = ap (free_from s) (drop_of_length-le p.slots {i = s - 1} (omega arith)) ∙ free_nowhere s
 
   pub count_end : length p.slots < s → count_from p s ≡ 0

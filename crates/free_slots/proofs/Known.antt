@@ -1,14 +1,14 @@
 -- What is known of the free slots stays true: when the lowest free slot is taken, when a slot becomes free, and when a node is written again.
 -- One slot changes each time, so the count changes by that one, and a slot in use below another stays so.
-use mathlib.Core.Path.{◌≡◌, sym, ap, ap₂, subst, subst⁻¹, ◌∙◌}
+use mathlib.Core.Path.{◌≡◌, sym, ap, subst, subst⁻¹, ◌∙◌}
 use mathlib.Core.Logic.{◌≢◌}
-use Prim.Native.Nat.{ℕ, ◌+◌, ◌-◌, ◌≤◌, ◌<◌, min}
+use Prim.Native.Nat.{ℕ, ◌≤◌, min}
 use native.Mathlib.Numerals.{add-one}
 use native.Mathlib.Omega.{arith}
 use lib.ListN.{length}
 use Rattle.rules.specs.declared.SlotNumber.{SlotNumber}
-use Rattle.rules.specs.declared.FreeSlot.TheVariants.{At}
-use Rattle.rules.specs.Pool.{Node, Pool, slot, free_node, node_at, lowest_free, free_count, put_node, put_root, put_records}
+use Rattle.std.specs.Prelude.{Some}
+use Rattle.rules.specs.Pool.{Node, Pool, free_node, node_at, lowest_free, free_count, put_node, put_root, put_records}
 use Rattle.free_slots.specs.declared.FreeSlots.{FreeSlots}
 use Rattle.free_slots.specs.Known.{UsedBelow, Known, less_slot, more_slot}
 use Rattle.sound_laws.specs.Tree.{Slot}
@@ -29,7 +29,7 @@ module _ (p : Pool) (f : FreeSlots) (k : Known p f) where
         (subst⁻¹ (λ (x : Node). x.level ≢ 0) (put_same p t n l.slot) d));
   }
 
-  pub known_less : (t : SlotNumber) (n : Node) → lowest_free p ≡ At t → n.level ≢ 0 → Known (put_node p t n) (less_slot f t)
+  pub known_less : (t : SlotNumber) (n : Node) → lowest_free p ≡ Some t → n.level ≢ 0 → Known (put_node p t n) (less_slot f t)
   known_less t n e d = known_at t n (lowest_at p t e) d
 
   module _ (s : SlotNumber) (low : 1 ≤ s.0) (high : s.0 ≤ length p.slots) (u : (node_at p s).level ≢ 0) where
@@ -70,21 +70,3 @@ lowest_put p t s n l i u d = record {
   free = ap (λ (m : Node). m.level) (put_other p s n t i.low l.slot.low (λ e. u (ap (λ (v : SlotNumber). (node_at p v).level) (sym e) ∙ l.free))) ∙ l.free;
   below = used_put p s n i t.0 l.below (λ _. d);
 }
-
--- ---- what the code makes of it
-
-abbrev known : ℕ → ℕ → FreeSlots
-known n l = record { count = n; low = slot l }
-
-module _ (f : FreeSlots) (s : SlotNumber) where
-  pub less_is : record { count = f.count - 1; low = slot (s.0 + 1) } ≡ less_slot f s
-  unfolding less_slot
-  less_is = ap (known (f.count - 1)) (add-one s.0)
-
-  pub more_low : s.0 < f.low.0 → record { count = f.count + 1; low = s } ≡ more_slot f s
-  unfolding more_slot
-  more_low h = ap₂ known (add-one f.count) (omega arith)
-
-  pub more_high : f.low.0 ≤ s.0 → record { count = f.count + 1; low = f.low } ≡ more_slot f s
-  unfolding more_slot
-  more_high h = ap₂ known (add-one f.count) (omega arith)

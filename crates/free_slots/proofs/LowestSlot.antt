@@ -9,7 +9,7 @@ use native.Mathlib.Omega.{arith}
 use lib.ListN.{length, get_or-eq_default}
 use borrow.Author.Tests.{ne_eqb}
 use Rattle.rules.specs.declared.SlotNumber.{SlotNumber}
-use Rattle.rules.specs.declared.FreeSlot.TheVariants.{At}
+use Rattle.std.specs.Prelude.{Some}
 use Rattle.rules.specs.Pool.{Node, Pool, slot, free_node, node_at, lowest_free, put_node}
 use Rattle.free_slots.specs.Known.{UsedBelow}
 use Rattle.sound_laws.specs.Tree.{Slot}
@@ -45,7 +45,7 @@ pub record LowestAt (p : Pool) (s : SlotNumber) : Type 0 where
   pub free : (node_at p s).level ≡ 0
   pub below : UsedBelow p s.0
 
-pub lowest_at : (p : Pool) (s : SlotNumber) → lowest_free p ≡ At s → LowestAt p s
+pub lowest_at : (p : Pool) (s : SlotNumber) → lowest_free p ≡ Some s → LowestAt p s
 lowest_at p s h = record {
   slot = lowest_slot p s h;
   free = lowest_free_lem p s h;

@@ -1,13 +1,16 @@
-// Nodes: what a slot number and an entry stand for, a node's cover, an entry's rectangle made tight.
+// Nodes: what a slot number and an entry stand for, a node's cover, an entry's rectangle made
+// tight.
 #![tactic(auto)]
 
-ghost use Rattle.std.specs.Prelude.{◌≡◌, ◌<◌};
+ghost use Rattle.std.specs.Prelude.{◌≡◌};
 ghost use Rattle.rules.specs.Layout as L;
 ghost use Rattle.rules.specs.Pool as P;
 ghost use Rattle.rules.specs.Sound as S;
-ghost use Rattle.layout_laws.specs.Slots.{Fit, InPool};
-ghost use Rattle.nodes.specs.Reading.{pointed_number, pointed_owner, LeadsOn};
+ghost use Rattle.layout_laws.specs.Slots.{Fit};
+ghost use Rattle.pool.specs.Reading.{entries_of, read};
+ghost use Rattle.nodes.specs.Reading.{LeadsOn};
 
+use pool::node::{Node, Pool};
 use rules::{Entry, Owner, Pointer, Record, RecordNumber, Rect, SlotNumber};
 
 // ---- slot numbers
@@ -16,71 +19,40 @@ use rules::{Entry, Owner, Pointer, Record, RecordNumber, Rect, SlotNumber};
 pub fn is_slot(pool: &[i32], s: SlotNumber) -> bool
     ensures { result ≡ S.is_slot (L.read pool.now) s }
 {
-    let n = s.0;
-    if n < 1 {
-        return false;
-    }
-    n <= pool::slot_count(pool)
+    (1..=pool::slot_count(pool)).contains(&s.0)
 }
 
 // ---- what an entry stands for
 
-// The record number that a pointer is; a child slot is none.
-fn pointed_number(p: Pointer) -> RecordNumber
-    ensures { result ≡ pointed_number p }
-{
-    match p {
-        Pointer::Number(n, _) => n,
-        Pointer::Child(_) => RecordNumber(0),
-    }
-}
-
-// Its owner; a child slot has none.
-fn pointed_owner(p: Pointer) -> Owner
-    ensures { result ≡ pointed_owner p }
-{
-    match p {
-        Pointer::Number(_, o) => o,
-        Pointer::Child(_) => Owner(0),
-    }
-}
-
-// A leaf entry as the record that it holds.
+// A leaf entry as the record that it holds; a child slot is no number, and nobody's.
+#[tactic(auto, unfolding(rules::specs::Pool::record_of, rules::specs::Pool::number_of, rules::specs::Pool::owner_of))]
 pub fn record_of(e: Entry) -> Record
     ensures { result ≡ P.record_of e }
 {
-    let p = e.pointer;
-    let owner = pointed_owner(p);
-    let number = pointed_number(p);
-    let rect = e.rect;
+    let (number, owner) = match e.pointer {
+        Pointer::Number(number, owner) => (number, owner),
+        Pointer::Child(_) => (RecordNumber(0), Owner(0)),
+    };
     Record {
         owner,
         number,
-        rect,
+        rect: e.rect,
     }
 }
 
 // ---- covers
 
 // A cover: "its rectangle is the smallest holding that node's entries"; of none, the point (0, 0).
-pub fn cover_of(pool: &[i32], s: SlotNumber) -> Rect
-    requires { InPool pool.now s }
-    ensures { result ≡ P.cover_of (P.entries_at (L.read pool.now) s) }
+pub fn cover_of(node: &Node<'_>) -> Rect
+    ensures { result ≡ P.cover_of (entries_of node.now) }
 {
-    let n = pool::count_of(pool, s);
+    let n = node.count();
     if n == 0 {
-        return Rect {
-            lowX: 0,
-            lowY: 0,
-            highX: 0,
-            highY: 0,
-        };
+        return Rect::default();
     }
-    let mut all = pool::rect_of(pool, s, 0);
-    let mut i: usize = 1;
-    while i < n {
-        all = geometry::cover(all, pool::rect_of(pool, s, i));
-        i += 1;
+    let mut all = node.rect(0);
+    for i in 1..n {
+        all = geometry::cover(all, node.rect(i));
     }
     all
 }
@@ -92,7 +64,9 @@ pub fn tighten(pool: &mut [i32], s: SlotNumber, i: usize)
     ensures is { L.read pool.new ≡ P.tighten (L.read pool.old) s i }
     ensures fit { Fit pool.new }
 {
-    let c = pool::child_of(pool, s, i);
-    let rect = cover_of(pool, c);
+    let node = Node::at(pool, s);
+    let c = node.child(i);
+    let child = Node::at(pool, c);
+    let rect = cover_of(&child);
     pool::put_rect_of(pool, s, i, rect);
 }

@@ -18,7 +18,7 @@ stops true = refl
 stops false = refl
 
 -- a word is zero where its bits are
-zero_bits : (n : ℕ) → same (pos 0) (to_z w32 n) ≡ eqb n 0
+pub zero_bits : (n : ℕ) → same (pos 0) (to_z w32 n) ≡ eqb n 0
 unfolding same
 zero_bits zero = refl
 zero_bits (suc n) = go (ltb (suc n) (2 ^ hbits w32)) ∙ sym (ne_eqb (suc n) 0 (λ e. omega arith))
@@ -33,9 +33,14 @@ or_zero (suc a) b =
     ne_eqb (bit_or (suc a) b) 0 (λ e. omega (arith, e, or_add_and (suc a) b, and_le_r (suc a) b))
     ∙ sym (stop (eqb (suc a) 0) (eqb b 0) (ne_eqb (suc a) 0 (λ e. omega arith)))
 
+-- whether a word is zero, as the code asks it
+pub zero_asked : (z : ℤ) → SFits w32 z → eqb (of_z w32 z) 0 ≡ same (pos 0) z
+zero_asked z s = sym (zero_bits (of_z w32 z)) ∙ ap (same (pos 0)) (to_z-of_z s)
+
+-- .. and of two sets of bits joined
+pub bits_joined : (a b : ℕ) → same (pos 0) (to_z w32 (bit_or a b)) ≡ (same (pos 0) (to_z w32 a) && same (pos 0) (to_z w32 b))
+bits_joined a b = zero_bits (bit_or a b) ∙ or_zero a b ∙ ap₂ ◌&&◌ (sym (zero_bits a)) (sym (zero_bits b))
+
 pub joined_zero : (a b : ℤ) → SFits w32 a → SFits w32 b
     → same (pos 0) (to_z w32 (bit_or (of_z w32 a) (of_z w32 b))) ≡ (same (pos 0) a && same (pos 0) b)
-joined_zero a b f g = zero_bits (bit_or (of_z w32 a) (of_z w32 b)) ∙ or_zero (of_z w32 a) (of_z w32 b) ∙ ap₂ ◌&&◌ (part a f) (part b g)
-  where
-    part : (z : ℤ) → SFits w32 z → eqb (of_z w32 z) 0 ≡ same (pos 0) z
-    part z s = sym (zero_bits (of_z w32 z)) ∙ ap (same (pos 0)) (to_z-of_z s)
+joined_zero a b f g = zero_bits (bit_or (of_z w32 a) (of_z w32 b)) ∙ or_zero (of_z w32 a) (of_z w32 b) ∙ ap₂ ◌&&◌ (zero_asked a f) (zero_asked b g)

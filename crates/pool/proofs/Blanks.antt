@@ -5,8 +5,7 @@ use mathlib.Core.List.{List, [], ◌++◌, map}
 use Prim.Native.Nat.{ℕ, zero, suc, ◌+◌, ◌*◌, ◌-◌}
 use native.Mathlib.Nat.{mul-zero, mul-suc}
 use native.Mathlib.Omega.{arith}
-use lib.ListN.{length, set, replicate, length-replicate, replicate-append-replicate}
-use lib.Seq.{sets}
+use lib.ListN.{length, set, replicate, replicate-append-replicate}
 use lib.IntN.{ℤ, pos}
 use Rattle.rules.specs.declared.Edition.{Edition}
 use Rattle.rules.specs.declared.Edition.TheVariants.{One, Two}
@@ -15,7 +14,7 @@ use Rattle.rules.specs.Owners.{edition_number}
 use Rattle.rules.specs.Pool.{node, free_node, blank_pool}
 use Rattle.rules.specs.Layout.{head_size, edition_place, root_place, height_place, slot_size, slots_fitting, valid_size, padded, node_words, head_words, words, Blanked, blank}
 use Rattle.layout_laws.proofs.Parts.{sized}
-use Rattle.layout_laws.proofs.Runs.{zeros, sets_all}
+use Rattle.layout_laws.proofs.Runs.{zeros}
 
 -- a free slot's words are zero
 pub free_words : (e : Edition) → node_words e free_node ≡ zeros (slot_size e)
@@ -73,8 +72,3 @@ blank_valid e w r =
 pub blank_wrong : (e : Edition) (w : List ℤ) → valid_size e (length w) ≡ false → blank e w ≡ record { number = pos 1; pool = w }
 unfolding blank
 blank_wrong e w r = rw (blank, r)
-
--- ---- zeros for all words
-
-pub zeros_all : (w : List ℤ) → sets w 0 (zeros (length w)) ≡ zeros (length w)
-zeros_all w = sets_all w (zeros (length w)) (length-replicate (length w) (pos 0))

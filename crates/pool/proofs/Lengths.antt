@@ -1,13 +1,12 @@
 -- Whether a length is valid, by the number of slots and then by the length.
 use mathlib.Core.Path.{◌≡◌}
-use mathlib.Core.Bool.{true, false, and-false, and-true}
+use mathlib.Core.Bool.{true, false, and-false}
 use mathlib.Core.List.{List}
 use Prim.Native.Nat.{ℕ, ◌+◌, ◌*◌, ◌-◌, ◌≤◌, ◌<◌}
 use native.Mathlib.Omega.{arith}
-use lib.Dec.{eqb}
 use lib.ListN.{length}
 use lib.IntN.{ℤ}
-use borrow.Author.Tests.{le-leb, lt-leb}
+use borrow.Author.Tests.{lt-leb}
 use Rattle.rules.specs.declared.Edition.{Edition}
 use Rattle.rules.specs.declared.Edition.TheVariants.{One, Two}
 use Rattle.rules.specs.declared.SlotNumber.{SlotNumber}
@@ -16,18 +15,9 @@ use Rattle.rules.specs.Layout.{head_size, entry_size, slot_size, slot_start, ent
 use Rattle.layout_laws.specs.Slots.{InPool}
 use Rattle.layout_laws.proofs.Parts.{sized, right_size, few}
 
-module _ (e : Edition) (n : ℕ) where
-  pub no_slots : slots_fitting e n < 1 → valid_size e n ≡ false
-  unfolding valid_size
-  no_slots h = rw (lt-leb 1 (slots_fitting e n) h, and-false)
-
-  pub many_slots : most_slots < slots_fitting e n → valid_size e n ≡ false
-  unfolding valid_size
-  many_slots h = rw (lt-leb (slots_fitting e n) most_slots h, and-false)
-
-  pub by_length : 1 ≤ slots_fitting e n → slots_fitting e n ≤ most_slots → valid_size e n ≡ eqb n (head_size + slot_size e * slots_fitting e n)
-  unfolding valid_size
-  by_length l h = simp (le-leb 1 (slots_fitting e n) l, le-leb (slots_fitting e n) most_slots h, and-true)
+no_slots : (e : Edition) (n : ℕ) → slots_fitting e n < 1 → valid_size e n ≡ false
+unfolding valid_size
+no_slots e n h = rw (lt-leb 1 (slots_fitting e n) h, and-false)
 
 -- fewer words than a head has no slot
 pub short_none : (e : Edition) (n : ℕ) → n < head_size → slots_fitting e n ≡ 0
@@ -51,10 +41,6 @@ size_some Two n h = omega arith
 pub size_few : (e : Edition) (n : ℕ) → n ≤ most_slots → slot_size e * n ≤ 204800
 size_few One n h = omega arith
 size_few Two n h = omega arith
-
-pub entry_few : (e : Edition) → entry_size e ≤ 6
-entry_few One = omega arith
-entry_few Two = omega arith
 
 pub entries_few : (e : Edition) (i : ℕ) → i ≤ most → entry_size e * i ≤ 48
 entries_few One i h = omega arith

@@ -1,6 +1,6 @@
 -- Where words stand in a list is asked a word at a time, or a part at a time: of two parts, one after the other, each where it begins.
 use mathlib.Core.Path.{◌≡◌, refl, sym, ap, ap₂, ◌∙◌}
-use mathlib.Core.Bool.{Bool, true, ◌&&◌, and_assoc}
+use mathlib.Core.Bool.{Bool, true, ◌&&◌, and_assoc, and-true}
 use mathlib.Core.List.{List, [], ◌∷◌, ◌++◌, map}
 use Prim.Native.Nat.{ℕ, zero, suc, ◌+◌, ◌*◌, ◌-◌, ◌≤◌, ◌<◌, min}
 use native.Mathlib.Nat.{mul-zero, mul-suc, mul-le-mul_left}
@@ -49,15 +49,15 @@ stand_all vs w e = ap (λ (n : ℕ). same_words vs (take n w)) e ∙ ap (same_wo
 
 -- ---- zeros
 
-module _ (w : List ℤ) (i to : ℕ) where
-  pub zeros_more : i < to → to ≤ length w
-      → stand (zeros (to - i)) w i ≡ (same (pos 0) (word_at w i) && stand (zeros (to - (i + 1))) w (i + 1))
-  zeros_more h l =
-      let e : to - i ≡ suc (to - (i + 1)) = omega arith in
-      ap (λ (n : ℕ). stand (zeros n) w i) e ∙ stand_cons (pos 0) (zeros (to - (i + 1))) w i (omega arith)
-
-  pub zeros_end : to ≤ i → stand (zeros (to - i)) w i ≡ true
-  zeros_end h = let e : to - i ≡ 0 = omega arith in ap (λ (n : ℕ). stand (zeros n) w i) e ∙ stand_none w i
+-- one word more
+pub zeros_next : (xs : List ℤ) (i : ℕ) → i < length xs
+    → same_words (zeros (suc i)) (take (suc i) xs) ≡ (same_words (zeros i) (take i xs) && same (pos 0) (get_or xs i (pos 0)))
+unfolding same_words
+zeros_next [] i h = absurd (omega arith)
+zeros_next (x ∷ xs) zero h = and-true (same (pos 0) x)
+zeros_next (x ∷ xs) (suc i) h =
+    ap (λ (b : Bool). same (pos 0) x && b) (zeros_next xs i (omega arith))
+    ∙ sym (and_assoc (same (pos 0) x) (same_words (zeros i) (take i xs)) (same (pos 0) (get_or xs i (pos 0))))
 
 -- .. of one width, one after another: those from the i-th of m on
 module _ (k : ℕ) (w : List ℤ) (a m i : ℕ) where

@@ -6,8 +6,11 @@ use mathlib.Core.List.{List, [], ◌∷◌, ◌++◌, map}
 use Prim.Native.Nat.{ℕ, suc, ◌+◌, ◌*◌, ◌-◌, ◌≤◌, ◌<◌}
 use native.Mathlib.Omega.{arith}
 use lib.ListN.{length, get_or, set, take, drop, length-append, length-take, length-set, length-map, length-replicate}
-use lib.Seq.{sets, length-sets, get_or-set_same, set-set, set-get_or, get_or-drop, drop-append-add}
+use lib.Seq.{sets, sets-eq, length-sets, get_or-set_same, set-set, set-get_or, get_or-drop, drop-append-add}
 use lib.IntN.{ℤ, pos}
+use borrow.Rule.Slice.PartMut.{put_mid}
+use Rattle.std.proofs.lemmas.Slice.{put_mid-paste}
+use Rattle.std.proofs.lemmas.List.{take_all}
 use Rattle.rules.specs.declared.Edition.{Edition}
 use Rattle.rules.specs.declared.Edition.TheVariants.{One, Two}
 use Rattle.rules.specs.declared.Rect.{Rect}
@@ -23,7 +26,7 @@ use Rattle.rules_laws.proofs.Places.{each_append, each_without, each_at}
 use Rattle.rules_laws.proofs.Parts.{length_without}
 use Rattle.layout_laws.specs.Slots.{InPool, Fit, KindOf}
 use Rattle.layout_laws.proofs.Parts.{room, entry_ends, places_end, slot_rect, rect_entry}
-use Rattle.layout_laws.proofs.Runs.{sets_right, sets_taken, sets_over, after_sets, zeros, shifted, length_shifted, shifted_right, wide_set, map_set, sets_joined, part_joined}
+use Rattle.layout_laws.proofs.Runs.{sets_right, sets_over, zeros, shifted, length_shifted, shifted_right, wide_set, map_set, sets_joined, part_joined}
 use Rattle.layout_laws.proofs.Padded.{placed_again, placed_more, placed_less}
 use Rattle.layout_laws.proofs.Written.{Fine, entry_size_lem, place_words, node_wide, node_size, head_size_lem, same_head}
 use Rattle.layout_laws.proofs.Written.{each_set, fine_at, read_slots, put_is, put_read, put_fit}
@@ -58,47 +61,14 @@ spot_entry {w} {s} p i h = spot_rect p i h ∙ rect_entry (entries_at (read w) s
 abbrev pub rect_words : Rect → List ℤ
 rect_words r = r.lowX ∷ r.lowY ∷ r.highX ∷ r.highY ∷ []
 
--- ---- words stored one after another
+-- ---- words over others are a run of stores
 
--- of the vs that are to stand from one place up to another, those before place k are stored
-pub record Storing (w vs : List ℤ) (from to : ℕ) (v : List ℤ) (k : ℕ) : Type 0 where
-  pub low : from ≤ k
-  pub high : k ≤ to
-  pub is : v ≡ sets w from (take (k - from) vs)
-
-module _ {w vs : List ℤ} {from to : ℕ} where
-  pub storing_first : from ≤ to → Storing w vs from to w from
-  storing_first h =
-      let none : 0 ≡ from - from = omega arith in
-      record { low = omega arith; high = h; is = ap (λ (n : ℕ). sets w from (take n vs)) none }
-
-  module _ {v : List ℤ} {k : ℕ} (t : Storing w vs from to v k) where
-    pub storing_size : length v ≡ length w
-    storing_size = ap length t.is ∙ length-sets w from (take (k - from) vs)
-
-    -- what is not stored over yet is as it was
-    pub storing_ahead : (j : ℕ) → k ≤ j → get_or v j (pos 0) ≡ get_or w j (pos 0)
-    storing_ahead j h =
-        ap (λ (x : List ℤ). get_or x j (pos 0)) t.is
-        ∙ after_sets (take (k - from) vs) w from j (pos 0) (omega (arith, t.low, length-take (k - from) vs))
-
-    pub storing_next : to - from ≤ length vs → k < to → (z : ℤ) → z ≡ get_or vs (k - from) (pos 0) → Storing w vs from to (set v k z) (k + 1)
-    storing_next long h z e =
-        let here : k ≡ from + (k - from) = omega (arith, t.low) in
-        let next : suc (k - from) ≡ k + 1 - from = omega (arith, t.low) in
-        record {
-          low = omega (arith, t.low);
-          high = omega arith;
-          is = ap₂ (λ (x : List ℤ) (a : ℕ). set x a z) t.is here
-              ∙ ap (set (sets w from (take (k - from) vs)) (from + (k - from))) e
-              ∙ sets_taken w vs from (k - from) (pos 0) (omega (arith, t.low))
-              ∙ ap (λ (n : ℕ). sets w from (take n vs)) next;
-        }
-
-    pub storing_last : to ≤ k → v ≡ sets w from (take (to - from) vs)
-    storing_last h =
-        let all : k ≡ to = omega (arith, t.high) in
-        t.is ∙ ap (λ (n : ℕ). sets w from (take (n - from) vs)) all
+-- a part of the list is lent, and written as a whole
+pub part_put : (w vs ys : List ℤ) (at n : ℕ) → ys ≡ vs → n ≡ length vs → at + n ≤ length w → put_mid at n w ys ≡ sets w at vs
+part_put w vs ys at n e size h =
+    put_mid-paste at n w ys vs n e refl size ∙ ap (λ (xs : List ℤ). take at w ++ xs ++ drop (at + n) w) (take_all n vs (omega arith))
+    ∙ ap (λ (k : ℕ). take at w ++ vs ++ drop (at + k) w) size
+    ∙ sym (sets-eq vs w at (omega arith))
 
 -- ---- the words of one slot
 

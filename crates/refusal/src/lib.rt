@@ -5,7 +5,8 @@ ghost use Rattle.std.specs.Prelude.{◌≡◌, not, ◌||◌, ltb, eqb};
 ghost use Rattle.rules.specs.Numbers.{most_requests};
 ghost use Rattle.refusal.specs.Refusing.{refusal_of};
 
-use rules::{MOST_REQUESTS, Owner};
+use pool::node::Pool;
+use rules::{CallFault, MOST_REQUESTS, Owner};
 
 // False where 9 is given: "more than 1,024 requests, or answer list of another length than the request list".
 fn lists_fit(requests: usize, answers: usize) -> bool
@@ -18,7 +19,7 @@ fn lists_fit(requests: usize, answers: usize) -> bool
 }
 
 // "The table's order is the order of checks.": 9, then 13 for another owner, 1, 2; last, -1 for a list that holds something which is no
-// request. 0 where nothing refuses.
+// request.
 pub fn refusal(
     pool: &[i32],
     owner: i32,
@@ -26,26 +27,26 @@ pub fn refusal(
     requests: usize,
     answers: usize,
     asked: bool,
-) -> i32
+) -> Result<(), CallFault>
     ensures { result ≡ refusal_of pool.now owner workspace requests answers asked }
 {
     let lists = lists_fit(requests, answers);
     let known = pool::good_owner(Owner(owner));
     let lengths = pool::lengths_fit(pool, workspace);
     if !lists {
-        return 9;
+        return Err(CallFault::BadLists);
     }
     if !known {
-        return 13;
+        return Err(CallFault::BadOwner);
     }
     if !lengths {
-        return 1;
+        return Err(CallFault::BadLength);
     }
-    if !sound::sound(pool) {
-        return 2;
+    if !sound::sound(Pool::over(pool)) {
+        return Err(CallFault::NotSound);
     }
     if !asked {
-        return -1;
+        return Err(CallFault::NoRequest);
     }
-    0
+    Ok(())
 }

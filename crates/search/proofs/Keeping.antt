@@ -1,6 +1,6 @@
 -- The items whose records a test holds for, closed up to the front, an item at a time: those kept so far are those of the items looked at, and
 -- the items ahead are as they were, since what is written lies before them. Whatever the test is: the mode's, or whether the record is the owner's.
-use mathlib.Core.Path.{◌≡◌, refl, sym, ap, subst, ◌∙◌}
+use mathlib.Core.Path.{◌≡◌, refl, sym, ap, ap₂, subst, ◌∙◌}
 use mathlib.Core.Logic.{◌⊎◌, inl, inr}
 use mathlib.Core.Bool.{Bool, true, false, cond}
 use mathlib.Core.List.{List, [], ◌∷◌, ◌++◌, append-nil}
@@ -13,20 +13,20 @@ use Rattle.rules.specs.declared.Edition.{Edition}
 use Rattle.rules.specs.declared.Edition.TheVariants.{One}
 use Rattle.rules.specs.declared.Rect.{Rect}
 use Rattle.rules.specs.declared.Owner.{Owner}
+use Rattle.rules.specs.declared.RecordNumber.{RecordNumber}
 use Rattle.rules.specs.declared.Record.{Record}
 use Rattle.rules.specs.declared.Mode.{Mode}
 use Rattle.rules.specs.Lists.{those, same}
 use Rattle.rules.specs.Owners.{owned_by, owner_in}
 use Rattle.rules.specs.Compare.{compared, wanted}
-use Rattle.rules.specs.Layout.{entry_size, word_at, edition_of, slot_count, valid_length, rect_of, owner_at}
+use Rattle.rules.specs.Pool.{number}
+use Rattle.rules.specs.Layout.{entry_size, word_at, edition_of, rect_of, owner_at}
 use Rattle.rules_laws.proofs.Parts.{those_yes, those_no, those_none, those_append}
-use Rattle.layout_laws.proofs.Parts.{right_size, few_slots}
-use Rattle.pool.proofs.Lengths.{size_most}
 use Rattle.search_laws.specs.Window.{record_wanted}
 use Rattle.found_items.specs.Items.{spot_at, item_at, items_from, Pointing}
 use Rattle.found_items.proofs.Words.{SameItems, same_itself, same_spot, same_item, put_other, spot_put, item_put, items_none}
 use Rattle.found_items.proofs.Words.{items_one, items_more, items_append, items_same, record_from, pointing_none, pointing_same, pointing_append}
-use Rattle.search.specs.Walk.{Movable, KeptOne, KeptAll}
+use Rattle.search.specs.Walk.{KeptAll}
 
 -- ---- what the tests look at
 
@@ -44,34 +44,6 @@ pub owned_item : (pool w : List ℤ) (k : ℕ) (o : Owner) (at : ℕ) (z : ℤ) 
 unfolding item_at owned_by
 owned_item pool w k o at z e f = ap (λ (x : ℤ). same x o.0) (f ∙ ap (λ (i : ℕ). owner_at (edition_of pool) (drop i pool)) e)
 
--- ---- one item, from what the code reads and writes
-
--- a place in the pool's words is a number that a word holds
-pub movable_spot : {pool u : List ℤ} {k count : ℕ} → valid_length pool ≡ true → Movable pool u k count → spot_at u k ≤ 2147483647
-movable_spot {pool} right m = omega (arith, m.inside, right_size pool right, size_most pool (slot_count pool) (few_slots pool right))
-
-pub kept_one : (pool : List ℤ) {u : List ℤ} (test : Record → Bool) {k count : ℕ} → Movable pool u k count → (v : List ℤ) (b : Bool) (j : ℕ)
-    → v ≡ sets u (2 * count) (word_at u (2 * k) ∷ pos (spot_at u k) ∷ []) → b ≡ test (item_at pool u k) → j ≡ cond b 1 0
-    → KeptOne pool test u v k count (count + j)
-kept_one pool {u} test {k} {count} m v b j g e f =
-    subst (λ (x : List ℤ). KeptOne pool test u x k count (count + j)) (sym g) (record {
-      place = ap (λ (x : ℕ). count + x) (f ∙ ap (λ (t : Bool). cond t 1 0) e);
-      item = item_put pool u count n (spot_at u k) room ∙ sym (item_of pool u k);
-      spot = spot_put u count n (spot_at u k) room;
-      stay = other;
-      long = length-sets u (2 * count) (n ∷ pos (spot_at u k) ∷ []);
-    })
-  where
-    n : ℤ
-    n = word_at u (2 * k)
-
-    room : 2 * count + 2 ≤ length u
-    room = omega (arith, m.few, m.room)
-
-    other : (a : ℕ) → (a < 2 * count) ⊎ (2 * k + 2 ≤ a) → word_at (sets u (2 * count) (n ∷ pos (spot_at u k) ∷ [])) a ≡ word_at u a
-    other a (inl l) = put_other u count n (pos (spot_at u k)) a (inl l)
-    other a (inr l) = put_other u count n (pos (spot_at u k)) a (inr (omega (arith, m.few, l)))
-
 -- one item more
 items_last : (pool w : List ℤ) (k : ℕ) → items_from pool w 0 (k + 1) ≡ items_from pool w 0 k ++ item_at pool w k ∷ []
 items_last pool w k =
@@ -79,101 +51,135 @@ items_last pool w k =
     items_append (item_at pool w) 0 k 1 ∙ ap (λ (j : ℕ). items_from pool w 0 k ++ items_from pool w j 1) z
     ∙ ap (λ (rs : List Record). items_from pool w 0 k ++ rs) (items_one (item_at pool w) k)
 
--- ---- so far
+-- ---- so far: of the first k of n items `count` are kept, and the items ahead are as they were
 
-pub record Keeping (pool : List ℤ) (test : Record → Bool) (u v : List ℤ) (n count k : ℕ) : Type 0 where
+pub record Ahead (u v : List ℤ) (n count k : ℕ) : Type 0 where
   pub few : count ≤ k
   pub most : k ≤ n
-  pub kept : items_from pool v 0 count ≡ those test (items_from pool u 0 k)
-  pub ahead : SameItems v u k (n - k)
-  pub pointing : Pointing pool v 0 count
+  pub same : SameItems v u k (n - k)
   pub long : length v ≡ length u
 
-pub keeping_first : (pool : List ℤ) (test : Record → Bool) (u : List ℤ) (n : ℕ) → Keeping pool test u u n 0 0
-keeping_first pool test u n = record {
+-- .. and those kept are those whose records the test holds for
+pub record Keeping (pool : List ℤ) (test : Record → Bool) (u v : List ℤ) (count k : ℕ) : Type 0 where
+  pub kept : items_from pool v 0 count ≡ those test (items_from pool u 0 k)
+  pub pointing : Pointing pool v 0 count
+
+pub ahead_first : (u : List ℤ) (n : ℕ) → Ahead u u n 0 0
+ahead_first u n = record {
   few = omega arith;
   most = omega arith;
-  kept = items_none (item_at pool u) 0 ∙ sym (ap (those test) (items_none (item_at pool u) 0) ∙ those_none test);
-  ahead = same_itself u 0 (n - 0);
-  pointing = pointing_none pool u 0;
+  same = same_itself u 0 (n - 0);
   long = refl;
 }
 
-module _ {pool : List ℤ} {test : Record → Bool} {u v : List ℤ} {n count k : ℕ} (g : Keeping pool test u v n count k) (more : k < n) (points : Pointing pool u 0 n) where
-  spot_ahead : spot_at v k ≡ spot_at u k
-  spot_ahead = same_spot g.ahead k (omega arith) (omega arith)
+pub keeping_first : (pool : List ℤ) (test : Record → Bool) (u : List ℤ) → Keeping pool test u u 0 0
+keeping_first pool test u = record {
+  kept =
+      items_none (item_at pool u) 0
+      ∙ sym (ap (those test) (items_none (item_at pool u) 0) ∙ those_none test);
+  pointing = pointing_none pool u 0;
+}
 
-  pub next_movable : 2 * n ≤ length u → Movable pool v k count
-  next_movable room = record {
-    few = g.few;
-    room = omega (arith, g.long);
-    inside = omega (arith, spot_ahead, points.inside k (omega arith) (omega arith));
-  }
+-- ---- a turn: the item at place k is written at the place `count`
 
-  module _ {x : List ℤ} {next : ℕ} (h : KeptOne pool test v x k count next) where
-    here : item_at pool v k ≡ item_at pool u k
-    here = same_item g.ahead pool k (omega arith) (omega arith)
+module _ {u v : List ℤ} {n count k : ℕ} (g : Ahead u v n count k) (more : k < n) where
+  pub spot_ahead : spot_at v k ≡ spot_at u k
+  spot_ahead = same_spot g.same k (omega arith) (omega arith)
 
-    before : SameItems x v 0 count
-    before = record { word = λ i l m. h.stay i (inl (omega arith)) }
+  module _ (room : 2 * n ≤ length u) {x : List ℤ} {z : RecordNumber} {s : ℕ}
+      (d : z ≡ number (word_at v (2 * k))) (e : s ≡ spot_at v k)
+      (put : x ≡ sets v (2 * count) (z.0 ∷ pos s ∷ [])) where
+    stay : (i : ℕ) → (i < 2 * count) ⊎ (2 * count + 2 ≤ i) → word_at x i ≡ word_at v i
+    stay i h = ap (λ (w : List ℤ). word_at w i) put ∙ put_other v count z.0 (pos s) i h
 
-    kept_before : items_from pool x 0 count ≡ those test (items_from pool u 0 k)
-    kept_before = items_same pool 0 count before ∙ g.kept
+    -- it counts, or does not
+    pub next_ahead : (j : ℕ) → j ≤ 1 → Ahead u x n (count + j) (k + 1)
+    next_ahead j one = record {
+      few = omega (arith, g.few, one);
+      most = omega arith;
+      same = record {
+        word = λ i l m. stay i (inr (omega (arith, g.few, l))) ∙ g.same.word i (omega arith) (omega arith);
+      };
+      long = ap length put ∙ length-sets v (2 * count) (z.0 ∷ pos s ∷ []) ∙ g.long;
+    }
 
-    points_before : Pointing pool x 0 count
-    points_before = pointing_same pool 0 count before g.pointing
+    there : 2 * count + 2 ≤ length v
+    there = omega (arith, g.few, g.long, room, more)
 
-    turn : (b : Bool) → test (item_at pool v k) ≡ b → Keeping pool test u x n (count + cond b 1 0) (k + 1)
-    turn true e =
-        let yes : test (item_at pool u k) ≡ true = sym (ap test here) ∙ e in
-        record {
-          few = omega (arith, g.few);
-          most = omega arith;
-          kept =
-              items_last pool x count
-              ∙ ap (λ (r : Record). items_from pool x 0 count ++ r ∷ []) (h.item ∙ here)
-              ∙ ap (λ (rs : List Record). rs ++ item_at pool u k ∷ []) kept_before
-              ∙ sym (ap (those test) (items_last pool u k) ∙ those_append test (items_from pool u 0 k) (item_at pool u k ∷ [])
-              ∙ ap (λ (rs : List Record). those test (items_from pool u 0 k) ++ rs)
-              (those_yes test (item_at pool u k) [] yes ∙ ap (λ (rs : List Record). item_at pool u k ∷ rs) (those_none test)));
-          ahead = record { word = λ i l m. h.stay i (inr (omega arith)) ∙ g.ahead.word i (omega arith) (omega arith) };
-          pointing = pointing_append pool x 0 count 1 points_before (record { inside = λ i l m. at i (omega (arith, l, m)) });
-          long = h.long ∙ g.long;
-        }
-      where
-        at : (i : ℕ) → i ≡ count → spot_at x i + entry_size (edition_of pool) ≤ length pool
-        at i q =
-            let s : spot_at x i ≡ spot_at u k = ap (spot_at x) q ∙ h.spot ∙ spot_ahead in
-            omega (arith, s, points.inside k (omega arith) (omega arith))
-    turn false e =
-        let no : test (item_at pool u k) ≡ false = sym (ap test here) ∙ e in
-        let z : count + 0 ≡ count = omega arith in
-        subst (λ (j : ℕ). Keeping pool test u x n j (k + 1)) (sym z) (record {
-          few = omega (arith, g.few);
-          most = omega arith;
-          kept =
-              kept_before
-              ∙ sym (ap (those test) (items_last pool u k) ∙ those_append test (items_from pool u 0 k) (item_at pool u k ∷ [])
-              ∙ ap (λ (rs : List Record). those test (items_from pool u 0 k) ++ rs) (those_no test (item_at pool u k) [] no ∙ those_none test)
-              ∙ append-nil (those test (items_from pool u 0 k)));
-          ahead = record { word = λ i l m. h.stay i (inr (omega arith)) ∙ g.ahead.word i (omega arith) (omega arith) };
-          pointing = points_before;
-          long = h.long ∙ g.long;
-        })
+    spot_here : spot_at x count ≡ spot_at u k
+    spot_here =
+        ap (λ (w : List ℤ). spot_at w count) put ∙ spot_put v count z.0 s there ∙ e ∙ spot_ahead
 
-    pub keeping_next : Keeping pool test u x n next (k + 1)
-    keeping_next =
-        subst (λ (j : ℕ). Keeping pool test u x n j (k + 1)) (sym h.place) (go (test (item_at pool v k)) refl)
-      where
-        go : (b : Bool) → test (item_at pool v k) ≡ b → Keeping pool test u x n (count + cond (test (item_at pool v k)) 1 0) (k + 1)
-        go b e = subst (λ (t : Bool). Keeping pool test u x n (count + cond t 1 0) (k + 1)) (sym e) (turn b e)
+    module _ (pool : List ℤ) where
+      item_here : item_at pool x count ≡ item_at pool u k
+      item_here =
+          ap (λ (w : List ℤ). item_at pool w count) put ∙ item_put pool v count z.0 s there
+          ∙ ap₂ (record_from pool) (ap (λ (y : RecordNumber). y.0) d) e
+          ∙ sym (item_of pool v k) ∙ same_item g.same pool k (omega arith) (omega arith)
+
+      module _ {test : Record → Bool} (points : Pointing pool u 0 n)
+          (h : Keeping pool test u v count k) where
+        before : SameItems x v 0 count
+        before = record { word = λ i l m. stay i (inl (omega arith)) }
+
+        kept_before : items_from pool x 0 count ≡ those test (items_from pool u 0 k)
+        kept_before = items_same pool 0 count before ∙ h.kept
+
+        points_before : Pointing pool x 0 count
+        points_before = pointing_same pool 0 count before h.pointing
+
+        turn : (b : Bool) → test (item_at pool u k) ≡ b
+            → Keeping pool test u x (count + cond b 1 0) (k + 1)
+        turn true in_ =
+            record {
+              kept =
+                  items_last pool x count
+                  ∙ ap (λ (r : Record). items_from pool x 0 count ++ r ∷ []) item_here
+                  ∙ ap (λ (rs : List Record). rs ++ item_at pool u k ∷ []) kept_before
+                  ∙ sym (ap (those test) (items_last pool u k)
+                  ∙ those_append test (items_from pool u 0 k) (item_at pool u k ∷ [])
+                  ∙ ap (λ (rs : List Record). those test (items_from pool u 0 k) ++ rs)
+                  (those_yes test (item_at pool u k) [] in_
+                  ∙ ap (λ (rs : List Record). item_at pool u k ∷ rs) (those_none test)));
+              pointing =
+                  pointing_append pool x 0 count 1 points_before
+                  (record { inside = λ i l m. at i (omega (arith, l, m)) });
+            }
+          where
+            at : (i : ℕ) → i ≡ count → spot_at x i + entry_size (edition_of pool) ≤ length pool
+            at i q =
+                let s : spot_at x i ≡ spot_at u k = ap (spot_at x) q ∙ spot_here in
+                omega (arith, s, points.inside k (omega arith) (omega arith))
+        turn false out =
+            let z : count + 0 ≡ count = omega arith in
+            subst (λ (j : ℕ). Keeping pool test u x j (k + 1)) (sym z) (record {
+              kept =
+                  kept_before
+                  ∙ sym (ap (those test) (items_last pool u k)
+                  ∙ those_append test (items_from pool u 0 k) (item_at pool u k ∷ [])
+                  ∙ ap (λ (rs : List Record). those test (items_from pool u 0 k) ++ rs)
+                  (those_no test (item_at pool u k) [] out ∙ those_none test)
+                  ∙ append-nil (those test (items_from pool u 0 k)));
+              pointing = points_before;
+            })
+
+        pub next_keeping : (b : Bool) (j : ℕ) → b ≡ test (item_at pool u k) → j ≡ cond b 1 0
+            → Keeping pool test u x (count + j) (k + 1)
+        next_keeping b j says is =
+            subst (λ (i : ℕ). Keeping pool test u x (count + i) (k + 1)) (sym is)
+            (turn b (sym says))
 
 -- ---- all of them
 
-pub kept_all : {pool : List ℤ} {test : Record → Bool} {u v : List ℤ} {n count k : ℕ} → Keeping pool test u v n count k → n ≤ k → KeptAll pool test u v n count
-kept_all {pool} {test} {u} {v} {n} {count} {k} g end =
+pub kept_all : {pool : List ℤ} {test : Record → Bool} {u v : List ℤ} {n count k : ℕ}
+    → Ahead u v n count k → n ≤ k → Keeping pool test u v count k → KeptAll pool test u v n count
+kept_all {pool} {test} {u} {v} {n} {count} {k} g end h =
     let e : k ≡ n = omega (arith, g.most) in
-    record { kept = g.kept ∙ ap (λ (i : ℕ). those test (items_from pool u 0 i)) e; pointing = g.pointing; long = g.long }
+    record {
+      kept = h.kept ∙ ap (λ (i : ℕ). those test (items_from pool u 0 i)) e;
+      pointing = h.pointing;
+      long = g.long;
+    }
 
 -- ---- in edition 1 there is nothing to keep apart
 

@@ -5,7 +5,6 @@ use mathlib.Core.List.{List, ◌++◌, append-nil}
 use Prim.Native.Nat.{ℕ, ◌+◌, ◌-◌, ◌*◌, ◌≤◌, ◌<◌}
 use native.Mathlib.Omega.{arith}
 use lib.ListN.{length, get_or, set, take, drop, length-set}
-use lib.Seq.{length-take-le, get_or-take}
 use lib.IntN.{ℤ}
 use Rattle.rules.specs.declared.Rect.{Rect}
 use Rattle.rules.specs.declared.SlotNumber.{SlotNumber}
@@ -84,11 +83,8 @@ module _ (w : List ℤ) (window : Rect) where
       pub leaf_went : {u v : List ℤ} {a z : Walked} → Went w u v a z (found_in p Meeting window 1 s) 1 → Went w u v a z (found_in p Meeting window level s) (opened_in p window level s)
       leaf_went g = went_same (sym found_leaf) (sym opened_one) g
 
-    -- the first n of the array are the places of the children to open
-    module _ (inner : 2 ≤ level) (array : List ℕ) (n : ℕ) (are : take n array ≡ meeting_places p window s) where
-      abbrev places : List ℕ
-      places = take n array
-
+    -- given the places of the children to open
+    module _ (inner : 2 ≤ level) (places : List ℕ) (are : places ≡ meeting_places p window s) where
       found_are : found_in p Meeting window level s ≡ found_below p window (level - 1) s places
       found_are = node_found p window level s inner ∙ ap (found_below p window (level - 1) s) (sym are)
 
@@ -105,52 +101,45 @@ module _ (w : List ℤ) (window : Rect) where
 
   -- ---- its children, of which those from the k-th on are to come
 
-  module _ (below : ℕ) (t : SlotNumber) (array : List ℕ) (n : ℕ) where
+  module _ (below : ℕ) (t : SlotNumber) (places : List ℕ) where
     abbrev pub ChildWalk : List ℤ → List ℤ → Walked → Walked → ℕ → Type 0
     ChildWalk u v a b k =
-        Underway w u v a b
-        (found_below p window below t (take n array)) (found_below p window below t (drop k (take n array)))
-        (opened_below p window below t (take n array)) (opened_below p window below t (drop k (take n array)))
+        Underway w u v a b (found_below p window below t places) (found_below p window below t (drop k places))
+        (opened_below p window below t places) (opened_below p window below t (drop k places))
 
-    pub children_begin : {u : List ℤ} {a : Walked} → ItemRoom u a (found_below p window below t (take n array)) (opened_below p window below t (take n array)) → ChildWalk u u a a 0
+    pub children_begin : {u : List ℤ} {a : Walked} → ItemRoom u a (found_below p window below t places) (opened_below p window below t places)
+        → ChildWalk u u a a 0
     children_begin r = sets_out refl refl r
 
-    module _ (few : n ≤ length array) (k : ℕ) where
-      pub children_end : n ≤ k → {u v : List ℤ} {a b : Walked} → ChildWalk u v a b k
-          → Went w u v a b (found_below p window below t (take n array)) (opened_below p window below t (take n array))
-      children_end h g =
-          arrives g (found_end p window below t (take n array) k (omega (arith, length-take-le n array few)))
-          (opened_end p window below t (take n array) k (omega (arith, length-take-le n array few)))
+    module _ (k : ℕ) where
+      pub children_end : length places ≤ k → {u v : List ℤ} {a b : Walked} → ChildWalk u v a b k
+          → Went w u v a b (found_below p window below t places) (opened_below p window below t places)
+      children_end h g = arrives g (found_end p window below t places k h) (opened_end p window below t places k h)
 
-      module _ (there : k < n) where
-        inside : k < length (take n array)
-        inside = omega (arith, length-take-le n array few)
-
-        pub child_there : take n array ≡ meeting_places p window t → get_or array k 0 < length (entries_at p t)
+      module _ (there : k < length places) where
+        pub child_there : places ≡ meeting_places p window t → get_or places k 0 < length (entries_at p t)
         child_there are =
-            subst (λ (i : ℕ). i < length (entries_at p t)) (ap (λ (is : List ℕ). get_or is k 0) (sym are) ∙ get_or-take n array k 0 there)
-            (meeting_inside p window t k (omega (arith, inside, ap length are)))
+            subst (λ (i : ℕ). i < length (entries_at p t)) (ap (λ (is : List ℕ). get_or is k 0) (sym are))
+            (meeting_inside p window t k (omega (arith, there, ap length are)))
 
-        module _ (c : SlotNumber) (child : c ≡ child_of (entry_at p t (get_or array k 0))) where
-          is_child : child_of (entry_at p t (get_or (take n array) k 0)) ≡ c
-          is_child = ap (λ (i : ℕ). child_of (entry_at p t i)) (get_or-take n array k 0 there) ∙ sym child
-
-          found_child : found_below p window below t (drop k (take n array)) ≡ found_in p Meeting window below c ++ found_below p window below t (drop (k + 1) (take n array))
+        module _ (c : SlotNumber) (child : c ≡ child_of (entry_at p t (get_or places k 0))) where
+          found_child : found_below p window below t (drop k places) ≡ found_in p Meeting window below c ++ found_below p window below t (drop (k + 1) places)
           found_child =
-              found_next p window below t (take n array) k inside
-              ∙ ap (λ (x : SlotNumber). found_in p Meeting window below x ++ found_below p window below t (drop (k + 1) (take n array))) is_child
+              found_next p window below t places k there
+              ∙ ap (λ (x : SlotNumber). found_in p Meeting window below x ++ found_below p window below t (drop (k + 1) places)) (sym child)
 
-          opened_child : opened_below p window below t (drop k (take n array)) ≡ opened_in p window below c + opened_below p window below t (drop (k + 1) (take n array))
+          opened_child : opened_below p window below t (drop k places) ≡ opened_in p window below c + opened_below p window below t (drop (k + 1) places)
           opened_child =
-              opened_next p window below t (take n array) k inside
-              ∙ ap (λ (x : SlotNumber). opened_in p window below x + opened_below p window below t (drop (k + 1) (take n array))) is_child
+              opened_next p window below t places k there
+              ∙ ap (λ (x : SlotNumber). opened_in p window below x + opened_below p window below t (drop (k + 1) places)) (sym child)
 
           pub child_room : {u v : List ℤ} {a b : Walked} → ChildWalk u v a b k → ItemRoom v b (found_in p Meeting window below c) (opened_in p window below c)
           child_room g =
-              next_room g (found_in p Meeting window below c) (found_below p window below t (drop (k + 1) (take n array)))
-              (opened_in p window below c) (opened_below p window below t (drop (k + 1) (take n array))) found_child opened_child
+              next_room g (found_in p Meeting window below c) (found_below p window below t (drop (k + 1) places))
+              (opened_in p window below c) (opened_below p window below t (drop (k + 1) places)) found_child opened_child
 
-          pub child_turn : {u v x : List ℤ} {a b z : Walked} → ChildWalk u v a b k → Went w v x b z (found_in p Meeting window below c) (opened_in p window below c) → ChildWalk u x a z (k + 1)
+          pub child_turn : {u v x : List ℤ} {a b z : Walked} → ChildWalk u v a b k → Went w v x b z (found_in p Meeting window below c) (opened_in p window below c)
+              → ChildWalk u x a z (k + 1)
           child_turn g h =
-              goes_on g (found_in p Meeting window below c) (found_below p window below t (drop (k + 1) (take n array)))
-              (opened_in p window below c) (opened_below p window below t (drop (k + 1) (take n array))) found_child opened_child h
+              goes_on g (found_in p Meeting window below c) (found_below p window below t (drop (k + 1) places))
+              (opened_in p window below c) (opened_below p window below t (drop (k + 1) places)) found_child opened_child h

@@ -1,13 +1,13 @@
 -- What a walk that finds some records and opens some nodes needs, and what it does: the records become the next items, the nodes are
 -- counted, and the items before stay. Of what comes after the last item nothing is said: an item is written there before it is known to be kept.
-use Rattle.std.specs.Prelude.{◌≡◌, ◌⊎◌, Bool, cond, List, ℕ, ◌+◌, ◌*◌, ◌≤◌, ◌<◌, length, ℤ}
+use Rattle.std.specs.Prelude.{◌≡◌, Bool, List, ℕ, ◌+◌, ◌*◌, ◌≤◌, ◌<◌, length, ℤ}
 use Rattle.rules.specs.declared.Rect.{Rect}
 use Rattle.rules.specs.declared.Owner.{Owner}
 use Rattle.rules.specs.declared.Record.{Record}
 use Rattle.rules.specs.declared.Mode.{Mode}
 use Rattle.rules.specs.Lists.{those}
 use Rattle.rules.specs.Owners.{owned_by}
-use Rattle.rules.specs.Layout.{entry_size, word_at, edition_of, read}
+use Rattle.rules.specs.Layout.{word_at, read}
 use Rattle.rules.specs.Search.{found_from_root, opened_from_root}
 use Rattle.found_items.specs.Items.{spot_at, item_at, items_from, Pointing}
 use Rattle.search.specs.declared.Walked.{Walked}
@@ -31,26 +31,19 @@ pub record Went (pool u v : List ℤ) (a b : Walked) (rs : List Record) (n : ℕ
 
 -- ---- of what is listed, the records that a test holds for
 
--- the item at place k can go to the place `count`: both are there, and its record's entry is
-pub record Movable (pool items : List ℤ) (k count : ℕ) : Type 0 where
-  pub few : count ≤ k
-  pub room : 2 * k + 2 ≤ length items
-  pub inside : spot_at items k + entry_size (edition_of pool) ≤ length pool
-
--- the item at place k of u has gone to the place `count`, and the next place is one further where the test holds for its record; the items before
--- that place, and those after place k, stay
-pub record KeptOne (pool : List ℤ) (test : Record → Bool) (u v : List ℤ) (k count next : ℕ) : Type 0 where
-  pub place : next ≡ count + cond (test (item_at pool u k)) 1 0
-  pub item : item_at pool v count ≡ item_at pool u k
-  pub spot : spot_at v count ≡ spot_at u k
-  pub stay : (i : ℕ) → (i < 2 * count) ⊎ (2 * k + 2 ≤ i) → word_at v i ≡ word_at u i
-  pub long : length v ≡ length u
-
 -- of the first n items of u, those whose records the test holds for are the first `count` items of v, in their order
 pub record KeptAll (pool : List ℤ) (test : Record → Bool) (u v : List ℤ) (n count : ℕ) : Type 0 where
   pub kept : items_from pool v 0 count ≡ those test (items_from pool u 0 n)
   pub pointing : Pointing pool v 0 count
   pub long : length v ≡ length u
+
+-- .. that, for whatever pool the items point into, and whatever test of a record it is that `said`
+-- tells by the place of the record's entry
+abbrev pub KeptBy : (ℕ → Bool → Type 0) → List ℤ → List ℤ → ℕ → ℕ → Type 0
+KeptBy said u v n count =
+    (pool : List ℤ) (test : Record → Bool) → Pointing pool u 0 n
+    → ((k : ℕ) (b : Bool) → k < n → said (spot_at u k) b → b ≡ test (item_at pool u k))
+    → KeptAll pool test u v n count
 
 -- ---- a search
 

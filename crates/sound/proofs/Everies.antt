@@ -1,17 +1,19 @@
 -- `every`, one after the other, as a loop or a recursion goes through a list.
 use mathlib.Core.Path.{◌≡◌, refl, sym, ap, ap₂, ◌∙◌}
-use mathlib.Core.Bool.{Bool, true, false, ◌&&◌, and_assoc, and-true}
+use mathlib.Core.Bool.{Bool, true, ◌&&◌, and_assoc, and-true}
 use mathlib.Core.List.Memᴰ
-use mathlib.Core.List.{List, [], ◌∷◌}
-use Prim.Native.Nat.{ℕ, suc, ◌+◌, ◌≤◌, ◌<◌}
+use mathlib.Core.List.{List, [], ◌∷◌, map}
+use Prim.Native.Nat.{ℕ, zero, suc, ◌+◌, ◌≤◌, ◌<◌}
 use native.Mathlib.Numerals.{add-one}
 use native.Mathlib.Omega.{arith}
-use lib.ListN.{length, get_or, drop, drop_of_length-le, get_or-map}
+use lib.ListN.{length, get_or, drop, drop_of_length-le}
 use lib.Seq.{drop-cons}
+use Rattle.std.specs.List.{list_all, range_with_len}
+use Rattle.rules.specs.declared.SlotNumber.{SlotNumber}
 use Rattle.rules.specs.Lists.{every, up_from}
 use Rattle.rules.specs.Pool.{Pool, slot, slot_numbers}
 use Rattle.rules_laws.proofs.Everies.{every_nil, every_cons}
-use Rattle.rules_laws.proofs.Places.{Among, get_d_up_from}
+use Rattle.rules_laws.proofs.Places.{Among}
 
 module _ {A : Type 0} (p : A → Bool) where
   module _ (xs : List A) (i : ℕ) where
@@ -20,13 +22,6 @@ module _ {A : Type 0} (p : A → Bool) where
 
     pub every_none : length xs ≤ i → every p (drop i xs) ≡ true
     every_none h = rw (drop_of_length-le xs h) (every_nil p)
-
-    -- one that fails, and one that holds
-    pub every_fails : (d : A) → i < length xs → p (get_or xs i d) ≡ false → every p (drop i xs) ≡ false
-    every_fails d h e = rw (every_more d h, e)
-
-    pub every_goes : (d : A) → i < length xs → p (get_or xs i d) ≡ true → every p (drop i xs) ≡ every p (drop (i + 1) xs)
-    every_goes d h e = rw (every_more d h, e)
 
   pub every_same : (q : A → Bool) (xs : List A) → ((x : A) → Among x xs → p x ≡ q x) → every p xs ≡ every q xs
   unfolding every
@@ -47,7 +42,15 @@ module _ {A : Type 0} (p : A → Bool) where
     pub asked_end : length xs ≤ i → (so_far && every p (drop i xs)) ≡ every p xs → so_far ≡ every p xs
     asked_end h rest = sym (and-true so_far) ∙ ap (λ (b : Bool). so_far && b) (sym (every_none xs i h)) ∙ rest
 
--- the i-th slot
-pub slots_at_lem : (p : Pool) (i : ℕ) → i < length p.slots → get_or (slot_numbers p) i (slot 0) ≡ slot (i + 1)
-unfolding slot_numbers
-slots_at_lem p i h = get_or-map slot (up_from 1 (length p.slots)) i 0 ∙ ap slot (get_d_up_from 1 (length p.slots) i 0 h ∙ omega arith)
+-- asked of each slot by its place, as `all` goes through them
+module _ (p : SlotNumber → Bool) where
+  all_from : (a n : ℕ) → list_all (λ (i : ℕ). p (slot (i + 1))) (range_with_len a n) ≡ every p (map slot (up_from (a + 1) n))
+  unfolding every up_from
+  all_from a zero = refl
+  all_from a (suc n) =
+      let e : a + 1 + 1 ≡ suc (a + 1) = omega arith in
+      ap (λ (b : Bool). p (slot (a + 1)) && b) (all_from (a + 1) n ∙ ap (λ (k : ℕ). every p (map slot (up_from k n))) e)
+
+  pub all_slots : (q : Pool) (n : ℕ) → n ≡ length q.slots → list_all (λ (i : ℕ). p (slot (i + 1))) (range_with_len 0 n) ≡ every p (slot_numbers q)
+  unfolding slot_numbers
+  all_slots q n e = all_from 0 n ∙ ap (λ (k : ℕ). every p (map slot (up_from 1 k))) e

@@ -240,9 +240,6 @@ module _ {w : List ℤ} {s : SlotNumber} (k : InPool w s) where
 -- ---- .. below an entry: as many entries as it needs, and the cover that is wanted
 
 module _ {w : List ℤ} {l : ℕ} {s : SlotNumber} {want : Rect} {a b : List ℕ} where
-  pub too_few : length (entries_at (read w) s) < least → NodeAnswer w l s want a b false
-  too_few h = refused (λ n u. omega (arith, n.enough))
-
   pub not_plain : every plain_entry (entries_at (read w) s) ≡ false → NodeAnswer w l s want a b false
   not_plain e = refused (λ n u. never_both ((every_is plain_entry (entries_at (read w) s)).1 (tree_plain (read w) l s n.below.tree)) e)
 

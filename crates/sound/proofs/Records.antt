@@ -2,12 +2,14 @@
 use mathlib.Core.Path.{◌≡◌, refl, sym, ap, ◌∙◌}
 use mathlib.Core.Bool.{Bool, true, false}
 use mathlib.Core.List.{List, [], ◌∷◌, map}
-use Prim.Native.Nat.{ℕ, suc, ◌+◌, ◌-◌, ◌≤◌, ◌<◌}
+use Prim.Native.Nat.{ℕ, zero, suc, ◌+◌, ◌-◌, ◌≤◌}
 use native.Mathlib.Omega.{arith}
 use lib.Dec.{eqb}
 use lib.ListN.{length, get_or, drop, drop_of_length-le, length-append, length-map}
 use lib.Seq.{drop-cons}
 use borrow.Author.Tests.{eq-eqb, ne_eqb}
+use Rattle.std.specs.List.{sum_by, range_with_len}
+use Rattle.std.proofs.lemmas.List.Sums.{sum_by-cons}
 use Rattle.rules.specs.Lists.{those, joined}
 use Rattle.rules.specs.Pool.{Node, Pool, slot, free_node, node_at, record_of, is_leaf, stored}
 use Rattle.rules.specs.Sound.{records_sound}
@@ -43,8 +45,22 @@ module _ (p : Pool) (s : ℕ) where
       ∙ ap (λ (k : ℕ). get_or p.slots (s - 1) free_node ∷ drop k p.slots) e)
       ∙ records_cons (get_or p.slots (s - 1) free_node) (drop (s + 1 - 1) p.slots)
 
-  pub records_end : length p.slots < s → record_counts (drop (s - 1) p.slots) ≡ 0
-  records_end h = ap record_counts (drop_of_length-le p.slots {i = s - 1} (omega arith)) ∙ records_none
+-- each slot by its place, as `map` goes through them
+module _ (p : Pool) where
+  abbrev counts : ℕ → ℕ
+  counts i = record_count (node_at p (slot (i + 1)))
+
+  sums_from : (a n : ℕ) → a + n ≡ length p.slots → sum_by counts (range_with_len a n) ≡ record_counts (drop a p.slots)
+  sums_from a zero e = sym (ap record_counts (drop_of_length-le p.slots {i = a} (omega arith)) ∙ records_none)
+  sums_from a (suc n) e =
+      let one : a + 1 - 1 ≡ a = omega arith in
+      let two : a + 1 + 1 - 1 ≡ a + 1 = omega arith in
+      let more = records_more p (a + 1) (omega arith) (omega arith) in
+      let here = rw (one, two) at more in
+      sum_by-cons counts a (range_with_len (a + 1) n) ∙ ap (λ (k : ℕ). counts a + k) (sums_from (a + 1) n (omega arith)) ∙ sym here
+
+  pub all_sums : (n : ℕ) → n ≡ length p.slots → sum_by counts (range_with_len 0 n) ≡ record_counts p.slots
+  all_sums n e = sums_from 0 n (omega arith)
 
 pub records_stored : (p : Pool) → record_counts p.slots ≡ length (stored p)
 unfolding record_counts stored

@@ -35,8 +35,7 @@ use Rattle.sound_laws.proofs.Walk.{tree_node, within, within_used}
 use Rattle.sound_laws.proofs.Whole.{height_positive, reached_used, all_once}
 use Rattle.sound_laws.proofs.Sound.{sound_is_whole}
 use Rattle.sound_laws.proofs.Heights.{height_eight}
-use Rattle.sound.specs.Walked.{plain_entry, mark_of, Unmet, Marked, SoundRoot, RootAnswer, met_or_zero, head_sound, inner_unowned}
-use Rattle.sound.proofs.Everies.{slots_at_lem}
+use Rattle.sound.specs.Walked.{plain_entry, mark_of, Unmet, Marked, SoundRoot, RootAnswer, met_or_zero, head_sound, inner_unowned, rest_sound}
 use Rattle.sound.proofs.Looks.{plain_is, tree_plain}
 use Rattle.sound.proofs.Owners.{unowned_at, at_unowned}
 
@@ -83,15 +82,12 @@ is_met w seen s f = go (eqb (mark_of seen s) 0) refl
     go false e = refl
 
 -- .. of the i-th slot
-pub met_at : (w : List ℤ) (seen : List ℕ) (i : ℕ) → i < length (read w).slots → (r : Bool)
-    → r ≡ (not (eqb (get_or seen i 0) 0) || stand (node_words (edition_of w) free_node) w (slot_start (edition_of w) (slot (i + 1))))
-    → met_or_zero w seen (get_or (slot_numbers (read w)) i (slot 0)) ≡ r
+pub met_at : (w : List ℤ) (seen : List ℕ) (i : ℕ)
+    → (not (eqb (get_or seen i 0) 0) || stand (node_words (edition_of w) free_node) w (slot_start (edition_of w) (slot (i + 1)))) ≡ met_or_zero w seen (slot (i + 1))
 unfolding met_or_zero
-met_at w seen i h r e =
-    let k : i + 1 - 1 ≡ i = omega arith in
-    ap (met_or_zero w seen) (slots_at_lem (read w) i h)
-    ∙ ap (λ (j : ℕ). not (eqb (get_or seen j 0) 0) || stand (node_words (edition_of w) free_node) w (slot_start (edition_of w) (slot (i + 1)))) k
-    ∙ sym e
+met_at w seen i =
+    let k : i ≡ i + 1 - 1 = omega arith in
+    ap (λ (j : ℕ). not (eqb (get_or seen j 0) 0) || stand (node_words (edition_of w) free_node) w (slot_start (edition_of w) (slot (i + 1)))) k
 
 records_are : (w : List ℤ) → (records_sound (read w) ≡ true → (read w).records ≡ length (stored (read w)))
     × ((read w).records ≡ length (stored (read w)) → records_sound (read w) ≡ true)
@@ -270,17 +266,18 @@ module _ (w : List ℤ) (right : valid_length w ≡ true) where
   pub root_refused : {after : List ℕ} {r : Bool} → TopAnswer w after r → r ≡ false → false ≡ sound w
   root_refused walk e = unsound (λ h. never_both (walk.all (sound_root h) (sound_unmet h)) e)
 
-  pub rest_refused : {after : List ℕ} {r : Bool} → TopAnswer w after r → r ≡ true
-      → every (met_or_zero w after) (slot_numbers (read w)) ≡ false → false ≡ sound w
-  rest_refused walk t e = unsound (λ h. never_both (sound_rest h (walk.marked t)) e)
-
-  pub records_refused : records_sound (read w) ≡ false → false ≡ sound w
-  records_refused e = unsound (λ h. never_both (sound_records h) e)
-
-  pub owners_last : {after : List ℕ} {r : Bool} → head_sound w ≡ true → TopAnswer w after r → r ≡ true
-      → every (met_or_zero w after) (slot_numbers (read w)) ≡ true → records_sound (read w) ≡ true
-      → (owners_sound (read w) && every (inner_unowned w) (slot_numbers (read w))) ≡ sound w
-  owners_last {after} head walk t rest records =
-      same_test (owners_sound (read w) && every (inner_unowned w) (slot_numbers (read w))) (sound w)
-      (yes_sound head (subst (TopAnswer w after) t walk) rest records)
-      (λ h. both_and _ _ (parts h).2 (sound_unowned h))
+  pub rest_last : {after : List ℕ} {r : Bool} → head_sound w ≡ true → TopAnswer w after r → r ≡ true → rest_sound w after ≡ sound w
+  unfolding rest_sound
+  rest_last {after} head walk t =
+      let p = read w in
+      let zero = every (met_or_zero w after) (slot_numbers p) in
+      let owners = owners_sound p && every (inner_unowned w) (slot_numbers p) in
+      same_test (rest_sound w after) (sound w)
+      (λ h.
+      let a = and_both (zero && records_sound p) owners h in
+      let b = and_both zero (records_sound p) a.0 in
+      yes_sound head (subst (TopAnswer w after) t walk) b.0 b.1 a.1)
+      (λ h.
+      both_and (zero && records_sound p) owners
+      (both_and zero (records_sound p) (sound_rest h (walk.marked t)) (sound_records h))
+      (both_and (owners_sound p) (every (inner_unowned w) (slot_numbers p)) (parts h).2 (sound_unowned h)))

@@ -7,10 +7,10 @@ use Rattle.rules.specs.declared.Entry.{Entry}
 use Rattle.rules.specs.Lists.{those, every, joined, up_from, same}
 use Rattle.rules.specs.Numbers.{least, good_owner}
 use Rattle.rules.specs.Geometry.{valid}
-use Rattle.rules.specs.Pool.{Node, Pool, free_node, node_at, entries_at, child_of, owner_of, cover_of, is_leaf}
+use Rattle.rules.specs.Pool.{Node, Pool, free_node, slot_numbers, node_at, entries_at, child_of, owner_of, cover_of, is_leaf}
 use Rattle.rules.specs.Owners.{owner}
 use Rattle.rules.specs.Layout.{slot_start, entry_place, edition_of, pointer_word, owner_at, node_words, head_words, read}
-use Rattle.rules.specs.Sound.{is_slot}
+use Rattle.rules.specs.Sound.{is_slot, records_sound, owners_sound}
 use Rattle.rules_laws.proofs.Places.{Among}
 use Rattle.pool.specs.Standing.{stand, tidy_around}
 use Rattle.sound_laws.specs.Tree.{slots_in, times, Tree}
@@ -129,3 +129,9 @@ owners_fit w s = owned_node (node_at (read w) s) && inner_unowned w s
 
 unfoldable pub owner_fits : Bool → ℤ → Bool
 owner_fits leaf o = cond leaf (good_owner (owner o)) (same (pos 0) o)
+
+-- what is asked beside the walk: of the slots that it did not meet, the records, and the owners
+unfoldable pub rest_sound : List ℤ → List ℕ → Bool
+rest_sound w seen =
+    let p = read w in
+    every (met_or_zero w seen) (slot_numbers p) && records_sound p && (owners_sound p && every (inner_unowned w) (slot_numbers p))

@@ -1,7 +1,7 @@
 use mathlib.Core.Path.{◌≡◌}
-use Prim.Native.Nat.{ℕ, ◌+◌, ◌-◌, ◌≤◌, ◌<◌}
+use Prim.Native.Nat.{ℕ, ◌+◌, ◌≤◌, ◌<◌}
 use Rattle.rules.specs.Pool.{Pool, free_count}
-use Rattle.rules.specs.Layout.{read}
+use Rattle.pool.specs.Reading.{read}
 use Rattle.free_slots.proofs.Frees.{count_from}
 use Rattle.free_slots.proofs.free_count.Given as goal
 
@@ -13,6 +13,3 @@ pub record Turn (p : Pool) (free at : ℕ) : Type 0 where
 
 abbrev pub invariant-loop-at : goal.invariant-loop-at
 invariant-loop-at l = Turn (read l.pool) l.free l.at
-
-abbrev pub decreases-loop-at : goal.decreases-loop-at
-decreases-loop-at l = l.n + 1 - l.at

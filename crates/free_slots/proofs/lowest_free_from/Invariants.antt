@@ -1,7 +1,7 @@
 use mathlib.Core.Path.{◌≡◌}
-use Prim.Native.Nat.{ℕ, ◌+◌, ◌-◌, ◌≤◌}
+use Prim.Native.Nat.{ℕ, ◌≤◌}
 use Rattle.rules.specs.Pool.{Pool}
-use Rattle.rules.specs.Layout.{read}
+use Rattle.pool.specs.Reading.{read}
 use Rattle.free_slots.proofs.Frees.{lowest_from}
 use Rattle.free_slots.proofs.lowest_free_from.Given as goal
 
@@ -12,6 +12,3 @@ pub record Turn (p : Pool) (from s : ℕ) : Type 0 where
 
 abbrev pub invariant-loop-s : goal.invariant-loop-s
 invariant-loop-s l = Turn (read l.pool) l.initial.s l.s
-
-abbrev pub decreases-loop-s : goal.decreases-loop-s
-decreases-loop-s l = l.n + 1 - l.s

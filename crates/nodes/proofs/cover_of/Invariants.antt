@@ -1,19 +1,13 @@
 use mathlib.Core.Path.{◌≡◌}
 use mathlib.Core.List.{List}
-use Prim.Native.Nat.{ℕ, ◌-◌}
+use Prim.Native.Nat.{ℕ}
 use lib.ListN.{length}
-use lib.IntN.{ℤ}
 use Rattle.rules.specs.declared.Rect.{Rect}
-use Rattle.rules.specs.declared.SlotNumber.{SlotNumber}
 use Rattle.rules.specs.declared.Entry.{Entry}
-use Rattle.rules.specs.Pool.{entries_at, cover_of}
-use Rattle.rules.specs.Layout.{read}
+use Rattle.rules.specs.Pool.{cover_of}
+use Rattle.pool.specs.Reading.{entries_of}
 use Rattle.nodes.proofs.Covers.{ahead}
 use Rattle.nodes.proofs.cover_of.Given as goal
-
--- the node's entries
-abbrev pub entriesOf : List ℤ → SlotNumber → List Entry
-entriesOf w s = entries_at (read w) s
 
 -- the cover so far, with the entries from place i on, gives the cover of all
 pub record Turn (es : List Entry) (n : ℕ) (all : Rect) (i : ℕ) : Type 0 where
@@ -21,7 +15,4 @@ pub record Turn (es : List Entry) (n : ℕ) (all : Rect) (i : ℕ) : Type 0 wher
   pub rest : ahead es all i ≡ cover_of es
 
 abbrev pub invariant-loop-i : goal.invariant-loop-i
-invariant-loop-i l = Turn (entriesOf l.pool l.s) l.n l.all l.i
-
-abbrev pub decreases-loop-i : goal.decreases-loop-i
-decreases-loop-i l = l.n - l.i
+invariant-loop-i l = Turn (entries_of l.node) l.n l.all l.i

@@ -1,47 +1,38 @@
--- `pool::move_down` meets its contract: a turn stores one word more, and what it reads lies ahead of what is stored, so it is as it was.
-use mathlib.Core.Path.{◌≡◌, sym, ap, ◌∙◌}
-use Prim.Native.Nat.{ℕ, ◌+◌, ◌-◌}
-use native.Mathlib.Omega.{arith}
-use lib.ListN.{get_or, length-drop}
+-- `pool::move_down` meets its contract: a turn stores one word more, of those that are not stored over yet.
+use Rattle.std.proofs.Common.{◌≡◌, ◌+◌, ◌-◌, rules, arith, set, take, drop, pos, w32, get_or, ap, ap₂, sym, ◌∙◌, length-drop, length-take}
+use Rattle.std.proofs.lemmas.List.Edits.{sets}
 use lib.Seq.{get_or-drop}
-use lib.IntN.{pos}
-use borrow.Author.Rules.{sfits_of}
-use Rattle.pool.proofs.Naturals.{word_read}
-use Rattle.pool.proofs.Stores.{storing_first, storing_size, storing_ahead, storing_next, storing_last}
+use mir.Facts.{to_z-of_z}
+use mir.Val.{SFits}
+use Prim.Native.Nat.{suc}
+use Rattle.layout_laws.proofs.Runs.{sets_taken, after_sets}
 use Rattle.pool.proofs.move_down.Goals as goal
-
-pub loop-k-init : goal.loop-k-init
-loop-k-init c = storing_first c.requires.from_le_to
-
-pub overflow_add-pool : goal.overflow_add-pool
-overflow_add-pool c = omega (arith, c.requires.by_in_bounds, c.loop-k-test.true)
-
-pub offset_bounds-pool-k : goal.offset_bounds-pool-k
-offset_bounds-pool-k c = record { fits = omega (arith, c.requires.by_in_bounds, c.loop-k-test.true, storing_size c.loop-k.invariant) }
-
-pub slice_copy_out-pool : goal.slice_copy_out-pool
-slice_copy_out-pool c = omega (arith, c.requires.by_in_bounds, c.loop-k-test.true, storing_size c.loop-k.invariant)
-
-pub bounds-pool-k : goal.bounds-pool-k
-bounds-pool-k c = omega (arith, c.requires.by_in_bounds, c.loop-k-test.true, storing_size c.loop-k.invariant)
-
-pub overflow_add-k : goal.overflow_add-k
-overflow_add-k c = omega (arith, c.loop-k-test.true)
-
-pub loop-k-smaller : goal.loop-k-smaller
-loop-k-smaller c = omega (arith, c.loop-k-test.true)
 
 pub loop-k-preserved : goal.loop-k-preserved
 loop-k-preserved c =
     let w = c.args.pool.now in
     let from = c.args.from in
     let by = c.args.by in
-    let place : c.loop-k.k + by ≡ from + by + (c.loop-k.k - from) = omega (arith, c.loop-k.invariant.low) in
-    storing_next c.loop-k.invariant (omega (arith, c.requires.by_in_bounds, length-drop (from + by) w)) c.loop-k-test.true _
-    (word_read (sfits_of c.pool-1.given)
-    (storing_ahead c.loop-k.invariant (c.loop-k.k + by) (omega arith)
-    ∙ ap (λ (j : ℕ). get_or w j (pos 0)) place
-    ∙ sym (get_or-drop (from + by) w (c.loop-k.k - from) (pos 0))))
+    let k = c.loop-k.k in
+    let vs = drop (from + by) w in
+    let done = take (k - from) vs in
+    let z = get_or c.loop-k.pool (k + by) (pos 0) in
+    let fits : SFits w32 z = search rules in
+    let place : k + by ≡ from + by + (k - from) = omega arith in
+    let here : k ≡ from + (k - from) = omega arith in
+    let next : suc (k - from) ≡ k + 1 - from = omega arith in
+    let read : z ≡ get_or vs (k - from) (pos 0) =
+    ap (λ v. get_or v (k + by) (pos 0)) c.loop-k.invariant
+    ∙ after_sets done w from (k + by) (pos 0) (omega (arith, length-take (k - from) vs))
+    ∙ ap (λ j. get_or w j (pos 0)) place
+    ∙ sym (get_or-drop (from + by) w (k - from) (pos 0)) in
+    rw (to_z-of_z fits, read)
+    (ap₂ (λ v j. set v j (get_or vs (k - from) (pos 0))) c.loop-k.invariant here
+    ∙ sets_taken w vs from (k - from) (pos 0) (omega (arith, length-drop (from + by) w))
+    ∙ ap (λ n. sets w from (take n vs)) next)
 
 pub returns : goal.returns
-returns c = storing_last c.loop-k.invariant c.loop-k-test.false
+returns c =
+    let w = c.args.pool.now in
+    let all : c.loop-k.k ≡ c.args.to = omega arith in
+    c.loop-k.invariant ∙ ap (λ n. sets w c.args.from (take (n - c.args.from) (drop (c.args.from + c.args.by) w))) all

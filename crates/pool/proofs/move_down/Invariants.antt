@@ -1,10 +1,7 @@
-use Prim.Native.Nat.{◌+◌, ◌-◌}
-use lib.ListN.{drop}
-use Rattle.pool.proofs.Stores.{Storing}
+use Rattle.std.proofs.Common.{◌≡◌, ◌+◌, ◌-◌, take, drop}
+use Rattle.std.proofs.lemmas.List.Edits.{sets}
 use Rattle.pool.proofs.move_down.Given as goal
 
+-- the words before place k are those that stood after them
 abbrev pub invariant-loop-k : goal.invariant-loop-k
-invariant-loop-k l = Storing l.initial.pool (drop (l.from + l.by) l.initial.pool) l.from l.to l.pool l.k
-
-abbrev pub decreases-loop-k : goal.decreases-loop-k
-decreases-loop-k l = l.to - l.k
+invariant-loop-k l = l.pool ≡ sets l.initial.pool l.from (take (l.k - l.from) (drop (l.from + l.by) l.initial.pool))

@@ -34,11 +34,6 @@ put_pair-requires c =
       small = c.requires.small;
     }
 
-pub overflow_add-owner : goal.overflow_add-owner
-overflow_add-owner c =
-    let k = there c.args.edition c.args.at _ c.in-Two.is c.requires.edition_in_bounds in
-    search rules
-
 pub offset_bounds-pool-at : goal.offset_bounds-pool-at
 offset_bounds-pool-at c =
     let k = there c.args.edition c.args.at _ c.in-Two.is c.requires.edition_in_bounds in
@@ -57,6 +52,6 @@ returns-in-One c =
 pub returns-in-Two : goal.returns-in-Two
 returns-in-Two c =
     ap₂ (λ (w : List ℤ) (z : ℤ). set w (c.args.at + 5) z) c.put_pair.ensures
-    (word_read (sfits_of c.owner_word-owner.type_inv) c.owner_word-owner.ensures)
+    (word_read (sfits_of c.owner_word.type_inv) c.owner_word.ensures)
     ∙ sixth c.args.pool.now c.args.at c.args.e
     ∙ ap (λ (e : Edition). sets c.args.pool.now c.args.at (entry_words e c.args.e)) (sym c.in-Two.is)

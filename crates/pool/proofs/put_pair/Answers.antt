@@ -17,5 +17,5 @@ returns c =
     let at = c.args.at in
     let e = c.args.e in
     ap₂ (λ (x : List ℤ) (z : ℤ). set x (at + rect_size) z) c.put_rect.ensures
-    (word_read (sfits_of c.pointer_word-k.type_inv) c.pointer_word-k.ensures)
+    (word_read (sfits_of c.pointer_word.type_inv) c.pointer_word.ensures)
     ∙ sets_more (rect_words e.rect) (pointer_word e.pointer ∷ []) c.args.pool.now at

@@ -4,19 +4,20 @@ use Rattle.layout_laws.proofs.Parts.{slot_few}
 use Rattle.pool.proofs.Stores.{rect_inside, rect_stored}
 use Rattle.pool.proofs.put_rect_of.Goals as goal
 
+pub at-requires : goal.at-requires
+at-requires c = c.requires.in_pool
+
 pub spot-at-requires : goal.spot-at-requires
-spot-at-requires c =
-    record {
-      in_pool = c.requires.in_pool;
-      i_lt_most = omega (arith, slot_few c.requires.in_pool, c.requires.i_in_bounds);
-    }
+spot-at-requires c = omega (arith, slot_few c.requires.in_pool, c.requires.i_in_bounds)
 
 pub put_rect-requires : goal.put_rect-requires
 put_rect-requires c =
-    rw c.spot-at.ensures (rect_inside c.requires.in_pool _ (omega (arith, slot_few c.requires.in_pool, c.requires.i_in_bounds)))
+    let at = rw (c.at.ensures.words, c.at.ensures.slot) at c.spot-at.ensures in
+    rw at (rect_inside c.requires.in_pool _ (omega (arith, slot_few c.requires.in_pool, c.requires.i_in_bounds)))
 
 pub returns : goal.returns
 returns c =
+    let at = rw (c.at.ensures.words, c.at.ensures.slot) at c.spot-at.ensures in
     let both = rect_stored c.requires.fit_2 c.requires.in_pool c.args.i c.args.r c.requires.i_in_bounds c.put_rect.new.pool
-    (rw (← c.spot-at.ensures) c.put_rect.ensures) in
+    (rw (← at) c.put_rect.ensures) in
     record { is = both.0; fit = both.1 }

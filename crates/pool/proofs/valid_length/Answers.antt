@@ -1,18 +1,12 @@
-use mathlib.Core.Path.{sym, ap, ◌∙◌}
-use native.Mathlib.Omega.{arith}
+-- Fewer words than a head has are no pool.
+use mathlib.Core.Path.{sym}
 use lib.ListN.{length}
-use Rattle.rules.specs.declared.Edition.{Edition}
-use Rattle.rules.specs.Layout.{valid_size, valid_length}
+use borrow.Author.Tests.{lt-leb}
+use Rattle.rules.specs.Layout.{head_size}
 use Rattle.pool.proofs.Lengths.{short_wrong}
 use Rattle.pool.proofs.valid_length.Goals as goal
 
-pub returns-then-n-lt-HEAD_SIZE : goal.returns-then-n-lt-HEAD_SIZE
-returns-then-n-lt-HEAD_SIZE c = sym (short_wrong c.args.pool.now c.if-n-lt-HEAD_SIZE.true)
-
-pub edition_of-requires : goal.edition_of-requires
-edition_of-requires c = omega (arith, c.if-n-lt-HEAD_SIZE.false)
-
-pub returns : goal.returns
-unfolding valid_length
-returns c =
-    c.valid_size.ensures ∙ ap (λ (e : Edition). valid_size e (length c.args.pool.now)) c.edition_of.ensures
+pub returns-else-n-ge-HEAD_SIZE : goal.returns-else-n-ge-HEAD_SIZE
+returns-else-n-ge-HEAD_SIZE c =
+    let short = c.if-n-ge-HEAD_SIZE.false in
+    rw (lt-leb head_size (length c.args.pool.now) short) (sym (short_wrong c.args.pool.now short))

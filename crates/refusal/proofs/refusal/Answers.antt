@@ -28,8 +28,8 @@ returns-then-not-lengths c =
     (sym (rw (to_z-of_z c.ranges.owner) at c.good_owner-known.ensures) ∙ not_false _ c.if-not-known.false-raw)
     (sym c.lengths_fit-lengths.ensures ∙ c.if-not-lengths.true-raw))
 
-pub sound-requires : goal.sound-requires
-sound-requires c =
+pub over-requires : goal.over-requires
+over-requires c =
     right_first (valid_length c.args.pool.now) (eqb c.args.workspace (length c.args.pool.now))
     (sym c.lengths_fit-lengths.ensures ∙ c.if-not-lengths.false-raw)
 
@@ -39,7 +39,7 @@ returns-then-not-sound c =
     sym (not_sound c.args.pool.now c.args.owner c.args.workspace c.args.requests c.args.answers c.args.asked
     (sym c.lists_fit-lists.ensures ∙ c.if-not-lists.false-raw)
     (sym (rw (to_z-of_z c.ranges.owner) at c.good_owner-known.ensures) ∙ not_false _ c.if-not-known.false-raw)
-    (sym c.lengths_fit-lengths.ensures ∙ c.if-not-lengths.false-raw) (sym c.sound.ensures ∙ not_true _ c.if-not-sound.true-raw))
+    (sym c.lengths_fit-lengths.ensures ∙ c.if-not-lengths.false-raw) (sym (rw c.over.ensures at c.sound.ensures) ∙ not_true _ c.if-not-sound.true-raw))
 
 -- something that is asked is no request
 pub returns-then-not-asked : goal.returns-then-not-asked
@@ -47,7 +47,7 @@ returns-then-not-asked c =
     sym (no_request c.args.pool.now c.args.owner c.args.workspace c.args.requests c.args.answers c.args.asked
     (sym c.lists_fit-lists.ensures ∙ c.if-not-lists.false-raw)
     (sym (rw (to_z-of_z c.ranges.owner) at c.good_owner-known.ensures) ∙ not_false _ c.if-not-known.false-raw)
-    (sym c.lengths_fit-lengths.ensures ∙ c.if-not-lengths.false-raw) (sym c.sound.ensures ∙ not_false _ c.if-not-sound.false-raw)
+    (sym c.lengths_fit-lengths.ensures ∙ c.if-not-lengths.false-raw) (sym (rw c.over.ensures at c.sound.ensures) ∙ not_false _ c.if-not-sound.false-raw)
     (not_true _ c.if-not-asked.true-raw))
 
 -- nothing refuses
@@ -56,5 +56,5 @@ returns c =
     sym (none_refuses c.args.pool.now c.args.owner c.args.workspace c.args.requests c.args.answers c.args.asked
     (sym c.lists_fit-lists.ensures ∙ c.if-not-lists.false-raw)
     (sym (rw (to_z-of_z c.ranges.owner) at c.good_owner-known.ensures) ∙ not_false _ c.if-not-known.false-raw)
-    (sym c.lengths_fit-lengths.ensures ∙ c.if-not-lengths.false-raw) (sym c.sound.ensures ∙ not_false _ c.if-not-sound.false-raw)
+    (sym c.lengths_fit-lengths.ensures ∙ c.if-not-lengths.false-raw) (sym (rw c.over.ensures at c.sound.ensures) ∙ not_false _ c.if-not-sound.false-raw)
     (not_false _ c.if-not-asked.false-raw))

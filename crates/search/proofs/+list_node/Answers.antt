@@ -1,86 +1,91 @@
--- The walk: a node, and the children gathered, one level lower. Each turn of the loop is a walk of its own, and the room for the rest stays.
-use Rattle.std.proofs.Common.{arith, sym, subst, ◌-◌, ◌≤◌, ◌<◌, length}
+-- The walk: a node, and the children gathered, one level lower. Each turn of the loop is a walk of
+-- its own, and the room for the rest stays.
+use Rattle.std.proofs.Common.{arith, sym, subst, ◌-◌}
 use Rattle.rules.specs.declared.SlotNumber.{SlotNumber}
 use Rattle.rules.specs.Layout.{read}
 use Rattle.sound_laws.specs.Tree.{Tree}
 use Rattle.search.proofs.Trees.{tree_in, leaf_level, above_leaf, no_leaf, child_tree}
-use Rattle.search.proofs.Turns.{leaf_room, leaf_went, node_room, node_went, children_begin, children_end, child_there, child_room, child_turn}
+use Rattle.search.proofs.Turns.{leaf_room, leaf_went, node_room, node_went}
+use Rattle.search.proofs.Turns.{children_begin, children_end, child_there, child_room, child_turn}
 use Rattle.search.proofs.+list_node.Goals as goal
 
-pub list_leaf-requires-clause-in_pool : goal.list_leaf-requires-clause-in_pool
-list_leaf-requires-clause-in_pool t c = tree_in c.args.pool.now c.args.level c.args.s c.requires.pool_value c.requires.tree
+pub node-node-requires : goal.node-node-requires
+node-node-requires t c = tree_in c.args.pool.words.now c.args.level c.args.s c.args.pool.right c.requires.tree
 
-pub list_leaf-requires-clause-s_value : goal.list_leaf-requires-clause-s_value
-list_leaf-requires-clause-s_value t c = leaf_level (read c.args.pool.now) c.args.level c.args.s c.requires.tree c.if-level-eq1.true
+pub list_leaf-requires-clause-leaf : goal.list_leaf-requires-clause-leaf
+list_leaf-requires-clause-leaf t c =
+    rw (c.node-node.ensures.words, c.node-node.ensures.slot)
+    (leaf_level (read c.args.pool.words.now) c.args.level c.args.s c.requires.tree c.if-level-eq1.true)
 
 pub list_leaf-requires-clause-item_room : goal.list_leaf-requires-clause-item_room
 list_leaf-requires-clause-item_room t c =
-    leaf_room c.args.pool.now c.args.window c.args.level c.args.s c.if-level-eq1.true c.requires.item_room
+    rw (c.node-node.ensures.words, c.node-node.ensures.slot)
+    (leaf_room c.args.pool.words.now c.args.window c.args.level c.args.s c.if-level-eq1.true c.requires.item_room)
 
 pub returns-then-level-eq1 : goal.returns-then-level-eq1
 returns-then-level-eq1 t c =
-    leaf_went c.args.pool.now c.args.window c.args.level c.args.s c.if-level-eq1.true c.list_leaf.ensures
+    leaf_went c.args.pool.words.now c.args.window c.args.level c.args.s c.if-level-eq1.true
+    (rw (c.node-node.ensures.words, c.node-node.ensures.slot) at c.list_leaf.ensures)
 
-pub gather-n-requires-clause-in_pool : goal.gather-n-requires-clause-in_pool
-gather-n-requires-clause-in_pool t c = tree_in c.args.pool.now c.args.level c.args.s c.requires.pool_value c.requires.tree
-
-pub loop-k-init : goal.loop-k-init
-loop-k-init t c =
-    let pool = c.args.pool.now in
+pub loop-i-init : goal.loop-i-init
+loop-i-init t c =
+    let pool = c.args.pool.words.now in
+    let places = c.gather-meeting.result.now in
     let two = above_leaf (read pool) c.args.level c.args.s c.requires.tree c.if-level-eq1.false in
-    children_begin pool c.args.window (c.args.level - 1) c.args.s c.gather-n.new.places c.gather-n.result
-    (node_room pool c.args.window c.args.level c.args.s two c.gather-n.new.places c.gather-n.result
-    c.gather-n.ensures.is c.requires.item_room)
+    children_begin pool c.args.window (c.args.level - 1) c.args.s places
+    (node_room pool c.args.window c.args.level c.args.s two places
+    (rw (c.node-node.ensures.words, c.node-node.ensures.slot) at c.gather-meeting.ensures) c.requires.item_room)
 
-pub child_of-c-requires-clause-in_pool : goal.child_of-c-requires-clause-in_pool
-child_of-c-requires-clause-in_pool t c = tree_in c.args.pool.now c.args.level c.args.s c.requires.pool_value c.requires.tree
+pub child-requires-clause-i_in_bounds : goal.child-requires-clause-i_in_bounds
+child-requires-clause-i_in_bounds t c =
+    let places = c.gather-meeting.result.now in
+    rw (c.node-node.ensures.words, c.node-node.ensures.slot)
+    (child_there c.args.pool.words.now c.args.window (c.args.level - 1) c.args.s places
+    c.loop-i.i-index c.loop-i-test.true (rw (c.node-node.ensures.words, c.node-node.ensures.slot) at c.gather-meeting.ensures))
 
-pub child_of-c-requires-clause-i_in_bounds : goal.child_of-c-requires-clause-i_in_bounds
-child_of-c-requires-clause-i_in_bounds t c =
-    child_there c.args.pool.now c.args.window (c.args.level - 1) c.args.s c.gather-n.new.places c.gather-n.result
-    (omega (arith, c.gather-n.ensures.most, c.gather-n.ensures.long)) c.loop-k.k (omega (arith, c.loop-k-test.true)) c.gather-n.ensures.is
-
-pub child_of-c-requires-clause-s_value : goal.child_of-c-requires-clause-s_value
-child_of-c-requires-clause-s_value t c =
-    no_leaf (read c.args.pool.now) c.args.level c.args.s c.requires.tree c.if-level-eq1.false
+pub child-requires-clause-inner : goal.child-requires-clause-inner
+child-requires-clause-inner t c =
+    rw (c.node-node.ensures.words, c.node-node.ensures.slot)
+    (no_leaf (read c.args.pool.words.now) c.args.level c.args.s c.requires.tree c.if-level-eq1.false)
 
 pub overflow_sub-level : goal.overflow_sub-level
 overflow_sub-level t c =
-    omega (arith, above_leaf (read c.args.pool.now) c.args.level c.args.s c.requires.tree c.if-level-eq1.false)
+    omega (arith, above_leaf (read c.args.pool.words.now) c.args.level c.args.s c.requires.tree c.if-level-eq1.false)
 
 pub list_node-w-requires : goal.list_node-w-requires
 list_node-w-requires t c =
-    let pool = c.args.pool.now in
+    let pool = c.args.pool.words.now in
     let level = c.args.level in
     let s = c.args.s in
-    let array = c.gather-n.new.places in
-    let few : c.gather-n.result ≤ length array = omega (arith, c.gather-n.ensures.most, c.gather-n.ensures.long) in
-    let more : c.loop-k.k < c.gather-n.result = omega (arith, c.loop-k-test.true) in
+    let places = c.gather-meeting.result.now in
     let two = above_leaf (read pool) level s c.requires.tree c.if-level-eq1.false in
-    let there = child_there pool c.args.window (level - 1) s array c.gather-n.result few c.loop-k.k more c.gather-n.ensures.is in (
+    let is = rw (c.node-node.ensures.words, c.node-node.ensures.slot) at c.child.ensures in
+    let there =
+    child_there pool c.args.window (level - 1) s places c.loop-i.i-index c.loop-i-test.true
+    (rw (c.node-node.ensures.words, c.node-node.ensures.slot) at c.gather-meeting.ensures) in (
       omega (arith, c.decreases, two),
       (
-        c.requires.pool_value,
-        (
-          subst (λ (x : SlotNumber). Tree (read pool) (level - 1) x) (sym c.child_of-c.ensures)
-              (child_tree (read pool) level s two c.requires.tree _ there),
-          child_room pool c.args.window (level - 1) s array c.gather-n.result few c.loop-k.k more c.child_of-c.result c.child_of-c.ensures
-              c.loop-k.invariant,
-        ),
+        subst (λ (x : SlotNumber). Tree (read pool) (level - 1) x) (sym is)
+            (child_tree (read pool) level s two c.requires.tree _ there),
+        child_room pool c.args.window (level - 1) s places c.loop-i.i-index
+            c.loop-i-test.true c.child.result is c.loop-i.invariant,
       ),
     )
 
-pub loop-k-preserved : goal.loop-k-preserved
-loop-k-preserved t c =
-    child_turn c.args.pool.now c.args.window (c.args.level - 1) c.args.s c.gather-n.new.places
-    c.gather-n.result (omega (arith, c.gather-n.ensures.most, c.gather-n.ensures.long)) c.loop-k.k (omega (arith, c.loop-k-test.true))
-    c.child_of-c.result c.child_of-c.ensures c.loop-k.invariant c.list_node-w.ensures
+pub loop-i-preserved : goal.loop-i-preserved
+loop-i-preserved t c =
+    let places = c.gather-meeting.result.now in
+    child_turn c.args.pool.words.now c.args.window (c.args.level - 1) c.args.s places c.loop-i.i-index
+    c.loop-i-test.true c.child.result (rw (c.node-node.ensures.words, c.node-node.ensures.slot) at c.child.ensures)
+    c.loop-i.invariant c.list_node-w.ensures
 
 pub returns : goal.returns
 returns t c =
-    let pool = c.args.pool.now in
-    let two = above_leaf (read pool) c.args.level c.args.s c.requires.tree c.if-level-eq1.false in
-    node_went pool c.args.window c.args.level c.args.s two c.gather-n.new.places c.gather-n.result
-    c.gather-n.ensures.is
-    (children_end pool c.args.window (c.args.level - 1) c.args.s c.gather-n.new.places c.gather-n.result
-    (omega (arith, c.gather-n.ensures.most, c.gather-n.ensures.long)) c.loop-k.k (omega (arith, c.loop-k-test.false)) c.loop-k.invariant)
+    let pool = c.args.pool.words.now in
+    let level = c.args.level in
+    let places = c.gather-meeting.result.now in
+    let two = above_leaf (read pool) level c.args.s c.requires.tree c.if-level-eq1.false in
+    node_went pool c.args.window level c.args.s two places
+    (rw (c.node-node.ensures.words, c.node-node.ensures.slot) at c.gather-meeting.ensures)
+    (children_end pool c.args.window (level - 1) c.args.s places c.loop-i.i-index
+    c.loop-i-test.false c.loop-i.invariant)

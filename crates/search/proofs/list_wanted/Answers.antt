@@ -1,23 +1,22 @@
 -- The walk in mode meeting, and of what it lists the records that the mode wants.
-use mathlib.Core.Path.{sym, subst}
-use Rattle.rules.specs.declared.Mode.{Mode}
-use Rattle.search.specs.Walk.{FindsAll}
-use Rattle.search.proofs.Listing.{listed_room, finds_wanted}
+use Rattle.std.proofs.Common.{◌≡◌, ◌∙◌, drop, refl, rules}
+use Rattle.rules.specs.Compare.{compared, wanted}
+use Rattle.rules.specs.Layout.{rect_of}
+use Rattle.found_items.specs.Items.{spot_at}
+use Rattle.search.proofs.Keeping.{wanted_item}
+use Rattle.search_laws.specs.Window.{record_wanted}
+use Rattle.search.proofs.Listing.{finds_wanted}
 use Rattle.search.proofs.list_wanted.Goals as goal
-
-pub keep_wanted-next-requires : goal.keep_wanted-next-requires
-keep_wanted-next-requires c =
-    record {
-      pool_value = c.requires.pool_value;
-      n_in_bounds = listed_room c.list_meeting-w.ensures c.requires.window_in_bounds;
-      pointing = c.list_meeting-w.ensures.pointing;
-    }
-
-pub returns-in-Meeting : goal.returns-in-Meeting
-returns-in-Meeting c =
-    subst (λ (m : Mode). FindsAll c.args.pool.now m c.args.window c.args.items.now c.list_meeting-w.new.items c.list_meeting-w.result)
-    (sym c.in-Meeting.is) c.list_meeting-w.ensures
 
 pub returns-in-OnlyInside : goal.returns-in-OnlyInside
 returns-in-OnlyInside c =
-    finds_wanted c.args.mode c.list_meeting-w.ensures c.keep_wanted-next.ensures
+    let pool = c.args.pool.words.now in
+    let mode = c.args.mode in
+    let window = c.args.window in
+    let items = c.list_meeting-w.new.items in
+    let listed = c.list_meeting-w.ensures in
+    finds_wanted mode listed
+    (c.keep-next.ensures pool (record_wanted mode window) listed.pointing (λ k b h q.
+    let r = rect_of (drop (spot_at items k) pool) in
+    let is : b ≡ wanted mode (compared r window) = search rules in
+    is ∙ wanted_item pool items k mode window (spot_at items k) r refl refl))

@@ -1,7 +1,7 @@
 use mathlib.Core.Path.{◌≡◌}
 use mathlib.Core.Bool.{Bool, ◌&&◌}
 use mathlib.Core.List.{List}
-use Prim.Native.Nat.{ℕ, ◌-◌}
+use Prim.Native.Nat.{ℕ}
 use lib.ListN.{length, drop}
 use Rattle.rules.specs.declared.Rect.{Rect}
 use Rattle.rules.specs.declared.Entry.{Entry}
@@ -19,7 +19,4 @@ pub record Turn (es : List Entry) (n : ℕ) (cover : Rect) (plain : Bool) (i : �
   pub asked : (plain && every upright_entry (drop i es)) ≡ every upright_entry es
 
 abbrev pub invariant-loop-i : goal.invariant-loop-i
-invariant-loop-i l = Turn (entries_at (read l.pool) l.s) l.n l.cover l.plain l.i
-
-abbrev pub decreases-loop-i : goal.decreases-loop-i
-decreases-loop-i l = l.n - l.i
+invariant-loop-i l = Turn (entries_at (read l.node.words.now) l.node.slot) l.n l.cover l.plain l.i

@@ -28,7 +28,7 @@ returns-then-height-eq1 c =
 
 pub returns-then-n-lt2 : goal.returns-then-n-lt2
 returns-then-n-lt2 c =
-    too_few_root (omega (arith, c.if-height-eq1.false, c.requires.le_height)) (omega (arith, c.count_in-n.ensures.is, c.if-n-lt2.true))
+    too_few_root (omega (arith, c.if-height-eq1.false, c.requires.le_height)) (omega (arith, c.count-n.ensures.is, c.if-n-lt2.true))
 
 pub entries_sound-requires : goal.entries_sound-requires
 entries_sound-requires c =
@@ -37,11 +37,11 @@ entries_sound-requires c =
     let two : 2 ≤ c.args.height = omega (arith, c.if-height-eq1.false, c.requires.le_height) in record {
       in_pool = c.requires.in_pool;
       edition_value = c.requires.edition_value;
-      slots_value = c.requires.slots_value;
+      slots_value = c.slots.ensures;
       seen_len = (met.marked (not_false _ c.if-not-node_fits.false-raw)).size ∙ c.requires.seen_len;
       le_below = omega arith;
       s_value = no_leaf _ c.args.height (met.yes (not_false _ c.if-not-node_fits.false-raw)).level two;
-      n_value = c.count_in-n.ensures.is;
+      n_value = c.count-n.ensures.is;
     }
 
 pub returns : goal.returns
@@ -49,5 +49,5 @@ returns c =
     let met = met_now c.requires.in_pool c.args.height c.args.seen.now c.node_fits.result c.requires.seen_len
     c.requires.s_value c.node_fits.ensures in
     let two : 2 ≤ c.args.height = omega (arith, c.if-height-eq1.false, c.requires.le_height) in
-    as_root (λ h. omega (arith, c.count_in-n.ensures.is, c.if-n-lt2.false))
+    as_root (λ h. omega (arith, c.count-n.ensures.is, c.if-n-lt2.false))
     (inner_answers c.requires.in_pool c.args.height two (not_false _ c.if-not-node_fits.false-raw) met c.entries_sound.ensures)

@@ -1,7 +1,7 @@
 use mathlib.Core.Path.{◌≡◌}
 use mathlib.Core.Bool.{Bool, ◌&&◌}
 use mathlib.Core.List.{List}
-use Prim.Native.Nat.{ℕ, ◌-◌}
+use Prim.Native.Nat.{ℕ}
 use lib.Dec.{eqb}
 use lib.ListN.{length, drop}
 use lib.IntN.{ℤ}
@@ -20,7 +20,4 @@ pub record Turn (w : List ℤ) (s : SlotNumber) (leaf : Bool) (n : ℕ) (all : B
   pub asked : (all && every (fits_at w s) (drop i (places_of w s))) ≡ every (fits_at w s) (places_of w s)
 
 abbrev pub invariant-loop-i : goal.invariant-loop-i
-invariant-loop-i l = Turn l.pool l.s l.leaf l.n l.all l.i
-
-abbrev pub decreases-loop-i : goal.decreases-loop-i
-decreases-loop-i l = l.n - l.i
+invariant-loop-i l = Turn l.node.words.now l.node.slot l.leaf l.n l.all l.i

@@ -1,68 +1,16 @@
--- Each turn asks the next slot: one that fails answers for all, and one that holds leaves the rest to answer.
-use mathlib.Core.Path.{refl, sym, ap, ◌∙◌}
-use Prim.Native.Nat.{◌<◌}
-use native.Mathlib.Omega.{arith}
-use lib.ListN.{length}
-use Rattle.rules.specs.Pool.{slot, slot_numbers}
+use Rattle.std.proofs.Common.{rules, tests, arith, ◌∙◌, ◌+◌, refl, sym}
+use Rattle.std.proofs.lemmas.Iterator.{YieldsList-from_range}
+use Rattle.std.proofs.lemmas.Iterator.Search.{all_from_yields_List}
+use Rattle.rules.specs.Pool.{slot}
 use Rattle.rules.specs.Layout.{read}
-use Rattle.rules_laws.proofs.Bools.{not_true, not_false}
-use Rattle.layout_laws.proofs.Parts.{few_slots}
 use Rattle.layout_laws.proofs.Written.{read_slots}
-use Rattle.sound_laws.proofs.Flat.{slots_size}
 use Rattle.sound.specs.Walked.{owners_fit}
-use Rattle.sound.proofs.Everies.{every_fails, every_goes, every_none, slots_at_lem}
+use Rattle.sound.proofs.Everies.{all_slots}
 use Rattle.sound.proofs.slots_owners_sound.Goals as goal
-
-pub slot_count-n-requires : goal.slot_count-n-requires
-slot_count-n-requires c = tt
-
-pub loop-i-init : goal.loop-i-init
-loop-i-init c = record { size = c.slot_count-n.ensures; rest = refl }
-
-pub overflow_add-i : goal.overflow_add-i
-overflow_add-i c =
-    omega (arith, c.loop-i-test.true, c.loop-i.invariant.size, few_slots c.args.pool.now c.requires.pool_value)
-
-pub slot_owners_sound-requires : goal.slot_owners_sound-requires
-slot_owners_sound-requires c =
-    record {
-      in_pool = record { right = c.requires.pool_value; low = omega arith; high = omega (arith, c.loop-i-test.true, c.loop-i.invariant.size) };
-      edition_value = c.requires.edition_value;
-    }
-
-pub returns-then-not-slot_owners_sound : goal.returns-then-not-slot_owners_sound
-returns-then-not-slot_owners_sound c =
-    let w = c.args.pool.now in
-    let p = read w in
-    let there : c.loop-i.i < length p.slots = omega (arith, c.loop-i-test.true, c.loop-i.invariant.size, read_slots w) in
-    let in_list : c.loop-i.i < length (slot_numbers p) = omega (arith, there, slots_size p) in
-    sym (every_fails (owners_fit w) (slot_numbers p) c.loop-i.i (slot 0) in_list
-    (ap (owners_fit w) (slots_at_lem p c.loop-i.i there) ∙ sym c.slot_owners_sound.ensures ∙ not_true _ c.if-not-slot_owners_sound.true-raw))
-    ∙ c.loop-i.invariant.rest
-
-pub overflow_add-i-in-loop-i : goal.overflow_add-i-in-loop-i
-overflow_add-i-in-loop-i c =
-    omega (arith, c.loop-i-test.true, c.loop-i.invariant.size, few_slots c.args.pool.now c.requires.pool_value)
-
-pub loop-i-smaller : goal.loop-i-smaller
-loop-i-smaller c = omega (arith, c.loop-i-test.true)
-
-pub loop-i-preserved : goal.loop-i-preserved
-loop-i-preserved c =
-    let w = c.args.pool.now in
-    let p = read w in
-    let there : c.loop-i.i < length p.slots = omega (arith, c.loop-i-test.true, c.loop-i.invariant.size, read_slots w) in
-    let in_list : c.loop-i.i < length (slot_numbers p) = omega (arith, there, slots_size p) in
-    record {
-      size = c.loop-i.invariant.size;
-      rest = sym (every_goes (owners_fit w) (slot_numbers p) c.loop-i.i (slot 0) in_list
-          (ap (owners_fit w) (slots_at_lem p c.loop-i.i there) ∙ sym c.slot_owners_sound.ensures ∙ not_false _ c.if-not-slot_owners_sound.false-raw))
-          ∙ c.loop-i.invariant.rest;
-    }
 
 pub returns : goal.returns
 returns c =
-    let w = c.args.pool.now in
-    sym (every_none (owners_fit w) (slot_numbers (read w)) c.loop-i.i
-    (omega (arith, c.loop-i-test.false, c.loop-i.invariant.size, slots_size (read w), read_slots w)))
-    ∙ c.loop-i.invariant.rest
+    let w = c.args.pool.words.now in
+    all_from_yields_List (λ i. owners_fit w (slot (i + 1))) _ _ c.all.result c.all.ensures.ran (YieldsList-from_range 0 c.slots.result c.slots.result refl (omega arith))
+    (λ x b q k. search (rules, tests))
+    ∙ all_slots (owners_fit w) (read w) c.slots.result (c.slots.ensures ∙ sym (read_slots w))
