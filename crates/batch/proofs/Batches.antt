@@ -1,29 +1,29 @@
 -- The loop of `serve`, with no machine: what holds at its test, that a turn keeps it, and what is left when every request is done.
-use mathlib.Core.Path.{◌≡◌, refl, sym, ap, ◌∙◌}
+use mathlib.Core.Path.{◌≡◌, refl, sym, ap, subst, ◌∙◌}
 use mathlib.Core.Bool.{true, not, ◌||◌}
 use mathlib.Core.List.{List, [], ◌∷◌}
-use mathlib.Core.Option.{none, some}
-use mathlib.Core.WellFounded.InvImage
-use mathlib.Core.WellFounded.{WellFounded}
+use Rattle.std.specs.Prelude.{None}
 use Prim.Native.Nat.{ℕ, suc, ◌+◌, ◌-◌, ◌*◌, ◌≤◌, ◌<◌}
 use native.Mathlib.Omega.{arith}
 use native.Mathlib.Numerals.{add-one}
 use lib.ListN.{length, get_or, set, drop, length-set}
 use lib.Seq.{sets, length-sets, drop-cons, drop-length}
-use lib.WfN.{lt-wf_rel}
 use lib.Dec.{ltb, eqb}
 use lib.IntN.{ℤ}
 use borrow.Author.Tests.{ltb-false, eqb-true}
+use mir.Syntax.{w32}
+use mir.Val.{SFits, to_z, of_z}
+use mir.Facts.{to_z-of_z}
 use Rattle.rules.specs.declared.Edition.{Edition}
 use Rattle.rules.specs.declared.Owner.{Owner}
 use Rattle.rules.specs.declared.FoundRecord.{FoundRecord}
 use Rattle.rules.specs.declared.Request.{Request}
 use Rattle.rules.specs.declared.Asked.{Asked}
 use Rattle.rules.specs.declared.Answer.{Answer}
-use Rattle.rules.specs.declared.Verdict.TheVariants.{BadLists, BadOwner, BadLength, NotSound, NoRequest}
+use Rattle.rules.specs.declared.CallFault.TheVariants.{BadLists, BadOwner, BadLength, NotSound, NoRequest}
 use Rattle.rules.specs.Lists.{every}
 use Rattle.rules.specs.Numbers.{most_requests, good_owner}
-use Rattle.rules.specs.Owners.{owner_in}
+use Rattle.rules.specs.Owners.{owner, owner_in}
 use Rattle.rules.specs.Pool.{Pool}
 use Rattle.rules.specs.Layout.{edition_of, valid_length, words, read}
 use Rattle.rules.specs.Sound.{sound}
@@ -34,15 +34,16 @@ use Rattle.rules_laws.proofs.Bools.{not_false, or_neither}
 use Rattle.rules_laws.proofs.Places.{at_place}
 use Rattle.rules_laws.proofs.Everies.{every_is}
 use Rattle.in_force_laws.proofs.Faults.{no_row}
+use Rattle.free_slots.specs.declared.FreeSlots.{FreeSlots}
+use Rattle.free_slots.specs.Known.{Known}
+use Rattle.promises.specs.Calls.{lent}
 use Rattle.found_items.specs.Items.{shown_from, Pointing}
 use Rattle.request.specs.declared.Served.{Served}
-use Rattle.request.specs.Serving.{Ready, Serves}
+use Rattle.request.specs.Serving.{Ready, Serves, ServesTo}
 use Rattle.in_force_laws.proofs.Sounds.{sound_fit}
 use Rattle.in_force_laws.proofs.Many.{request_edition}
 use Rattle.in_force_laws.proofs.Asks.{asks_something}
-use Rattle.batch.specs.declared.Progress.{Progress}
-use Rattle.batch.specs.declared.Stepped.{Stepped}
-use Rattle.batch.specs.Batching.{Begun, step_of, batch_of, Batched}
+use Rattle.batch.specs.Batching.{batch_of, Batched}
 use Rattle.batch.proofs.Asks.{none as nothing-asked}
 use Rattle.batch.proofs.Listed.{Placed, request_placed}
 
@@ -57,7 +58,7 @@ pub record Fine (l : Lent) : Type 0 where
   pub sound : sound l.pool ≡ true
   pub asked : every is_request l.requests ≡ true
 
-pub fine : (l : Lent) → call_fault l ≡ none → Fine l
+pub fine : (l : Lent) → call_fault l ≡ None → Fine l
 unfolding call_fault
 fine l h =
     let a = no_row (ltb most_requests (length l.requests) || not (eqb (length l.answers) (length l.requests))) BadLists _ h in
@@ -77,271 +78,210 @@ fine l h =
       asked = not_false _ d.0;
     }
 
+-- .. by the owner's number as the machine holds it
+module _ {o : ℤ} {p w : List ℤ} {qs : List Request} {answers : List Answer}
+    {fs : List FoundRecord} where
+  pub fine_told : SFits w32 o → call_fault (lent (owner o) p w qs answers fs) ≡ None
+      → Fine (lent (owner (to_z w32 (of_z w32 o))) p w qs answers fs)
+  fine_told fits h =
+      subst (λ (z : ℤ). Fine (lent (owner z) p w qs answers fs)) (sym (to_z-of_z {w = w32} fits))
+      (fine (lent (owner o) p w qs answers fs) h)
+
 -- ---- a request of the list
 
 every_at : (qs : List Request) (i : ℕ) → i < length qs → every is_request qs ≡ true → is_request (get_or qs i nothing-asked) ≡ true
 every_at qs i lt h = (every_is is_request qs).0 h (get_or qs i nothing-asked) (at_place qs i nothing-asked lt)
 
--- what `step` gives
-abbrev pub gives : Progress → Served → Stepped
-gives p r = record {
-  answer = r.answer;
-  place = p.done;
-  listed = r.listed;
-  start = p.filled;
-  next = record { done = p.done + 1; filled = p.filled + r.listed; free = r.free };
-}
+-- ---- so far: how many requests are done and places of the found list filled, what is known of
+-- the free slots, and what the lists lent hold
 
-pub step_gives : (p : Progress) (r : Served) → step_of p r ≡ gives p r
-unfolding step_of
-step_gives p r = refl
+module _ (l : Lent) where
+  -- the batch, read off the lists lent
+  abbrev pub batch_at : ℕ → List ℤ → List Answer → List FoundRecord → Batch
+  batch_at filled pool answers found = record {
+    owner = batch_owner l;
+    pool = read pool;
+    answers = answers;
+    found = found;
+    filled = filled;
+  }
 
-module _ (l : Lent) (f : Fine l) where
+  pub record Going (done filled : ℕ) (free : FreeSlots) (pool work : List ℤ)
+      (answers : List Answer) (found : List FoundRecord) : Type 0 where
+    pub within : done ≤ length l.requests
+    pub ready : Ready pool free
+    pub edition : edition_of pool ≡ edition_of l.pool
+    pub pool_long : length pool ≡ length l.pool
+    pub work_long : length work ≡ length l.workspace
+    pub answers_long : length answers ≡ length l.answers
+    pub found_long : length found ≡ length l.found
+    pub space : filled ≤ length l.found
+    pub few : filled ≤ 32768 * done
+    pub batch :
+        do_requests ours done (drop done l.requests) (batch_at filled pool answers found)
+        ≡ batch_of l
+
+module _ {l : Lent} (f : Fine l) where
   abbrev qs : List Request
   qs = l.requests
 
-  -- how far the batch has come, read off the lists lent
-  abbrev pub batch_at : Progress → List ℤ → List Answer → List FoundRecord → Batch
-  batch_at p pool answers found = record { owner = batch_owner l; pool = read pool; answers = answers; found = found; filled = p.filled }
-
-  pub record St : Type 0 where
-    pub prog : Progress
-    pub pool : List ℤ
-    pub work : List ℤ
-    pub answers : List Answer
-    pub found : List FoundRecord
-    pub within : prog.done ≤ length qs
-    pub ready : Ready pool prog.free
-    pub edition : edition_of pool ≡ edition_of l.pool
-    pub pool_long : length pool ≡ length l.pool
-    pub work_long : length work ≡ length l.workspace
-    pub answers_long : length answers ≡ length l.answers
-    pub found_long : length found ≡ length l.found
-    pub space : prog.filled ≤ length l.found
-    pub few : prog.filled ≤ 32768 * prog.done
-    pub batch : do_requests ours prog.done (drop prog.done qs) (batch_at prog pool answers found) ≡ batch_of l
-
-  -- the same of values that stand in a loop's variables
-  pub record Going (p : Progress) (pool work : List ℤ) (answers : List Answer) (found : List FoundRecord) : Type 0 where
-    pub within : p.done ≤ length qs
-    pub ready : Ready pool p.free
-    pub edition : edition_of pool ≡ edition_of l.pool
-    pub pool_long : length pool ≡ length l.pool
-    pub work_long : length work ≡ length l.workspace
-    pub answers_long : length answers ≡ length l.answers
-    pub found_long : length found ≡ length l.found
-    pub space : p.filled ≤ length l.found
-    pub few : p.filled ≤ 32768 * p.done
-    pub batch : do_requests ours p.done (drop p.done qs) (batch_at p pool answers found) ≡ batch_of l
-
-  abbrev pub st_of : (p : Progress) (pool work : List ℤ) (answers : List Answer) (found : List FoundRecord) → Going p pool work answers found → St
-  st_of p pool work answers found g = record {
-    prog = p;
-    pool = pool;
-    work = work;
-    answers = answers;
-    found = found;
-    within = g.within;
-    ready = g.ready;
-    edition = g.edition;
-    pool_long = g.pool_long;
-    work_long = g.work_long;
-    answers_long = g.answers_long;
-    found_long = g.found_long;
-    space = g.space;
-    few = g.few;
-    batch = g.batch;
-  }
-
-  abbrev pub going : (s : St) → Going s.prog s.pool s.work s.answers s.found
-  going s = record {
-    within = s.within;
-    ready = s.ready;
-    edition = s.edition;
-    pool_long = s.pool_long;
-    work_long = s.work_long;
-    answers_long = s.answers_long;
-    found_long = s.found_long;
-    space = s.space;
-    few = s.few;
-    batch = s.batch;
-  }
-
-  abbrev pub ≺ : St → St → Type 0
-  ≺ s t = length qs - s.prog.done < length qs - t.prog.done
-
-  pub wf : WellFounded ≺
-  wf = InvImage.wf (λ (s : St). length qs - s.prog.done) lt-wf_rel.wf
-
   -- no request is done
-  module _ (p : Progress) (b : Begun l.pool p) where
-    pub start_batch : do_requests ours p.done (drop p.done qs) (batch_at p l.pool l.answers l.found) ≡ batch_of l
-    unfolding batch_of starting
-    start_batch = λ i. do_requests ours (b.done i) (drop (b.done i) qs) (record {
-      owner = batch_owner l;
-      pool = read l.pool;
-      answers = l.answers;
-      found = l.found;
-      filled = b.filled i;
-    })
+  start_batch : do_requests ours 0 qs (batch_at l 0 l.pool l.answers l.found) ≡ batch_of l
+  unfolding batch_of starting
+  start_batch = refl
 
-    abbrev pub started : St
-    started = record {
-      prog = p;
-      pool = l.pool;
-      work = l.workspace;
-      answers = l.answers;
-      found = l.found;
-      within = omega (arith, b.done);
-      ready = record { right = f.right; sound = f.sound; known = b.known };
-      edition = refl;
-      pool_long = refl;
-      work_long = refl;
-      answers_long = refl;
-      found_long = refl;
-      space = omega (arith, b.filled);
-      few = omega (arith, b.filled);
-      batch = start_batch;
-    }
+  pub started : (free : FreeSlots) → Known (read l.pool) free
+      → Going l 0 0 free l.pool l.workspace l.answers l.found
+  started free known = record {
+    within = omega arith;
+    ready = record { right = f.right; sound = f.sound; known = known };
+    edition = refl;
+    pool_long = refl;
+    work_long = refl;
+    answers_long = refl;
+    found_long = refl;
+    space = omega arith;
+    few = omega arith;
+    batch = start_batch;
+  }
 
-  -- ---- a turn
-  module _ (s : St) (more : s.prog.done < length qs) where
-    abbrev pub q : Request
-    q = get_or qs s.prog.done nothing-asked
+  module _ {done filled : ℕ} {free : FreeSlots} {pool work : List ℤ} {answers : List Answer}
+      {found : List FoundRecord} (s : Going l done filled free pool work answers found) where
+    -- ---- a turn
+    module _ (more : done < length qs) where
+      abbrev q : Request
+      q = get_or qs done nothing-asked
 
-    abbrev pub room : ℕ
-    room = length s.found - s.prog.filled
+      abbrev room : ℕ
+      room = length found - filled
 
-    pub q_asked : is_request q ≡ true
-    q_asked = every_at qs s.prog.done more f.asked
+      pub q_asked : is_request q ≡ true
+      q_asked = every_at qs done more f.asked
 
-    pub many : s.prog.filled ≤ 33554432
-    many = omega (arith, s.few, more, f.many)
+      pub many : filled ≤ 33554432
+      many = omega (arith, s.few, more, f.many)
 
-    pub done_few : s.prog.done ≤ 1024
-    done_few = omega (arith, more, f.many)
+      pub same_long : length work ≡ length pool
+      same_long = s.work_long ∙ f.workspace ∙ sym s.pool_long
 
-    pub same_long : length s.work ≡ length s.pool
-    same_long = s.work_long ∙ f.workspace ∙ sym s.pool_long
+      -- whose request it is: the edition is that of the pool lent
+      abbrev who : Owner
+      who = owner_in (edition_of pool) l.owner
 
-    -- whose request it is: the edition is that of the pool lent
-    abbrev pub who : Owner
-    who = owner_in (edition_of s.pool) l.owner
+      who_is : batch_owner l ≡ who
+      unfolding batch_owner read
+      who_is = ap (λ (e : Edition). owner_in e l.owner) (sym s.edition)
 
-    who_is : batch_owner l ≡ who
-    unfolding batch_owner read
-    who_is = ap (λ (e : Edition). owner_in e l.owner) (sym s.edition)
+      -- .. and what `one_request` promises
+      module _ {r : Served} {p w : List ℤ} (does : ServesTo pool who q filled room r p w) where
+        abbrev a : Asked
+        a = (asks_something who q q_asked).0
 
-    -- what `one_request` promises
-    abbrev pub Does : Served → List ℤ → List ℤ → Type 0
-    Does r p w = (a : Asked) → asked who q ≡ some a → Serves (length s.pool) (request ours (read s.pool) s.prog.filled room a) r p w
+        abbrev t : Turn
+        t = request ours (read pool) filled room a
 
-    module _ (r : Served) (p w : List ℤ) (does : Does r p w) where
-      abbrev a : Asked
-      a = (asks_something who q q_asked).0
+        serves : Serves (length pool) t r p w
+        serves = does a (asks_something who q q_asked).1
 
-      abbrev t : Turn
-      t = request ours (read s.pool) s.prog.filled room a
+        placed : Placed room (length pool) t
+        placed = request_placed pool s.ready.right s.ready.sound ours filled room a
 
-      pub serves : Serves (length s.pool) t r p w
-      serves = does a (asks_something who q q_asked).1
+        -- its records have room
+        pub listed : (2 * r.listed ≤ length w) × Pointing p w 0 r.listed
+            × (filled + r.listed ≤ length found)
+        listed = (
+          omega (arith, serves.listed, placed.words, serves.work),
+          serves.pointing,
+          omega (arith, serves.listed, placed.places, s.space, s.found_long),
+        )
 
-      placed : Placed room (length s.pool) t
-      placed = request_placed s.pool s.ready.right s.ready.sound ours s.prog.filled room a
+        pub listed_few : filled + r.listed ≤ 33587200
+        listed_few = omega (arith, many, serves.few)
 
-      pub listed_few : r.listed ≤ 32768
-      listed_few = serves.few
+        -- .. and what `carry` leaves
+        module _ {fs : List FoundRecord} (carried : fs ≡ sets found filled (shown_from p w 0 r.listed)) where
+          abbrev next_answers : List Answer
+          next_answers = set answers done r.answer
 
-      pub listed_words : 2 * r.listed ≤ length w
-      listed_words = omega (arith, serves.listed, placed.words, serves.work)
+          abbrev before : Batch
+          before = batch_at l filled pool answers found
 
-      pub listed_there : Pointing p w 0 r.listed
-      listed_there = serves.pointing
+          abbrev after : Batch
+          after = batch_at l (filled + r.listed) p next_answers fs
 
-      pub listed_room : s.prog.filled + r.listed ≤ length s.found
-      listed_room = omega (arith, serves.listed, placed.places, s.space, s.found_long)
+          is_turn : after ≡ after_turn done before t
+          unfolding after_turn
+          is_turn = λ i. record {
+            owner = batch_owner l;
+            pool = serves.pool i;
+            answers = set answers done (serves.answer i);
+            found = (carried ∙ ap (sets found filled) serves.items) i;
+            filled = filled + serves.listed i;
+          }
 
-      -- .. and what `carry` leaves
-      module _ (fs : List FoundRecord) (carried : fs ≡ sets s.found s.prog.filled (shown_from p w 0 r.listed)) where
-        abbrev pub next_prog : Progress
-        next_prog = record { done = s.prog.done + 1; filled = s.prog.filled + r.listed; free = r.free }
+          does_request : do_request ours done before (asked (batch_owner l) q) ≡ after
+          unfolding do_request
+          does_request =
+              ap (do_request ours done before)
+              (ap (λ (o : Owner). asked o q) who_is ∙ (asks_something who q q_asked).1)
+              ∙ sym is_turn
 
-        abbrev pub next_answers : List Answer
-        next_answers = set s.answers s.prog.done r.answer
+          one_more : (i : ℕ) (x : Request) (xs : List Request) (b : Batch)
+              → do_requests ours i (x ∷ xs) b ≡ do_requests ours (suc i) xs (do_request ours i b (asked b.owner x))
+          unfolding do_requests
+          one_more i x xs b = refl
 
-        is_turn : batch_at next_prog p next_answers fs ≡ after_turn s.prog.done (batch_at s.prog s.pool s.answers s.found) t
-        unfolding after_turn
-        is_turn = λ i. record {
-          owner = batch_owner l;
-          pool = serves.pool i;
-          answers = set s.answers s.prog.done (serves.answer i);
-          found = (carried ∙ ap (sets s.found s.prog.filled) serves.items) i;
-          filled = s.prog.filled + serves.listed i;
+          next_batch : do_requests ours (done + 1) (drop (done + 1) qs) after ≡ batch_of l
+          next_batch =
+              ap (λ (n : ℕ). do_requests ours n (drop n qs) after) (add-one done)
+              ∙ ap (do_requests ours (suc done) (drop (suc done) qs)) (sym does_request)
+              ∙ sym (one_more done q (drop (suc done) qs) before)
+              ∙ ap (λ (xs : List Request). do_requests ours done xs before)
+              (sym (drop-cons qs done nothing-asked more))
+              ∙ s.batch
+
+          next_edition : edition_of p ≡ edition_of l.pool
+          unfolding read
+          next_edition =
+              ap (λ (x : Pool). x.edition) serves.pool
+              ∙ request_edition ours (read pool) filled room a ∙ s.edition
+
+          pub next : Going l (done + 1) (filled + r.listed) r.free p w next_answers fs
+          next = record {
+            within = omega (arith, more);
+            ready = serves.ready;
+            edition = next_edition;
+            pool_long = serves.same ∙ s.pool_long;
+            work_long = serves.work ∙ s.pool_long ∙ sym f.workspace;
+            answers_long = length-set answers done r.answer ∙ s.answers_long;
+            found_long =
+                ap length carried ∙ length-sets found filled (shown_from p w 0 r.listed)
+                ∙ s.found_long;
+            space = omega (arith, listed.2, s.found_long);
+            few = omega (arith, s.few, serves.few);
+            batch = next_batch;
+          }
+
+    -- ---- every request is done
+    pub finished : length qs ≤ done → Batched (batch_of l) pool answers found
+    finished out =
+        record {
+          pool_is =
+              sym (sound_fit pool s.ready.right s.ready.sound).same
+              ∙ ap (λ (b : Batch). words b.pool) whole;
+          answers_are = ap (λ (b : Batch). b.answers) whole;
+          found_is = ap (λ (b : Batch). b.found) whole;
         }
+      where
+        all : done ≡ length qs
+        all = omega (arith, s.within, out)
 
-        does_request : do_request ours s.prog.done (batch_at s.prog s.pool s.answers s.found) (asked (batch_owner l) q) ≡ batch_at next_prog p next_answers fs
-        unfolding do_request
-        does_request =
-            ap (do_request ours s.prog.done (batch_at s.prog s.pool s.answers s.found))
-            (ap (λ (o : Owner). asked o q) who_is ∙ (asks_something who q q_asked).1)
-            ∙ sym is_turn
+        no_more : (i : ℕ) (b : Batch) → b ≡ do_requests ours i [] b
+        no_more i b = unfold do_requests in refl
 
-        one_more : (i : ℕ) (x : Request) (xs : List Request) (b : Batch) → do_requests ours i (x ∷ xs) b ≡ do_requests ours (suc i) xs (do_request ours i b (asked b.owner x))
-        unfolding do_requests
-        one_more i x xs b = refl
-
-        pub next_batch : do_requests ours next_prog.done (drop next_prog.done qs) (batch_at next_prog p next_answers fs) ≡ batch_of l
-        next_batch =
-            ap (λ (n : ℕ). do_requests ours n (drop n qs) (batch_at next_prog p next_answers fs)) (add-one s.prog.done)
-            ∙ ap (do_requests ours (suc s.prog.done) (drop (suc s.prog.done) qs)) (sym does_request)
-            ∙ sym (one_more s.prog.done q (drop (suc s.prog.done) qs) (batch_at s.prog s.pool s.answers s.found))
-            ∙ ap (λ (xs : List Request). do_requests ours s.prog.done xs (batch_at s.prog s.pool s.answers s.found))
-            (sym (drop-cons qs s.prog.done nothing-asked more)) ∙ s.batch
-
-        pub next_edition : edition_of p ≡ edition_of l.pool
-        unfolding read
-        next_edition =
-            ap (λ (x : Pool). x.edition) serves.pool ∙ request_edition ours (read s.pool) s.prog.filled room a ∙ s.edition
-
-        abbrev pub next : St
-        next = record {
-          prog = next_prog;
-          pool = p;
-          work = w;
-          answers = next_answers;
-          found = fs;
-          within = omega (arith, more);
-          ready = serves.ready;
-          edition = next_edition;
-          pool_long = serves.same ∙ s.pool_long;
-          work_long = serves.work ∙ s.pool_long ∙ sym f.workspace;
-          answers_long = length-set s.answers s.prog.done r.answer ∙ s.answers_long;
-          found_long = ap length carried ∙ length-sets s.found s.prog.filled (shown_from p w 0 r.listed) ∙ s.found_long;
-          space = omega (arith, listed_room, s.found_long);
-          few = omega (arith, s.few, listed_few);
-          batch = next_batch;
-        }
-
-        pub less : ≺ next s
-        less = omega (arith, more)
-
-  -- ---- every request is done
-  pub finished : (s : St) → length qs ≤ s.prog.done → Batched (batch_of l) s.pool s.answers s.found
-  finished s out =
-      record {
-        pool_is = sym (sound_fit s.pool s.ready.right s.ready.sound).same ∙ ap (λ (b : Batch). words b.pool) whole;
-        answers_are = ap (λ (b : Batch). b.answers) whole;
-        found_is = ap (λ (b : Batch). b.found) whole;
-      }
-    where
-      all : s.prog.done ≡ length qs
-      all = omega (arith, s.within, out)
-
-      no_more : (i : ℕ) (b : Batch) → b ≡ do_requests ours i [] b
-      no_more i b = unfold do_requests in refl
-
-      whole : batch_at s.prog s.pool s.answers s.found ≡ batch_of l
-      whole =
-          no_more s.prog.done (batch_at s.prog s.pool s.answers s.found)
-          ∙ ap (λ (xs : List Request). do_requests ours s.prog.done xs (batch_at s.prog s.pool s.answers s.found))
-          (sym (ap (λ (n : ℕ). drop n qs) all ∙ drop-length qs)) ∙ s.batch
+        whole : batch_at l filled pool answers found ≡ batch_of l
+        whole =
+            no_more done (batch_at l filled pool answers found)
+            ∙ ap
+            (λ (xs : List Request). do_requests ours done xs (batch_at l filled pool answers found))
+            (sym (ap (λ (n : ℕ). drop n qs) all ∙ drop-length qs)) ∙ s.batch

@@ -1,91 +1,56 @@
--- A call as its walk sees it: the number that tells whether it is refused, and what it leaves either way.
+-- A call by what its check answers, and what it leaves either way.
 use mathlib.Core.Path.{◌≡◌, refl, sym, ap, subst, ◌∙◌}
-use mathlib.Core.Bool.{Bool, true, false, not}
+use mathlib.Core.Bool.{Bool}
 use mathlib.Core.List.{List}
-use mathlib.Core.Option.{Option, none, some}
-use borrow.Author.Tests.{eqb-true, eq-eqb}
-use Rattle.rules_laws.proofs.Bools.{not_true, not_false}
-use Rattle.rules_laws.proofs.Orders.{never_both}
+use Rattle.std.specs.Prelude.{Option, None, Some, Result, Ok, Err, MatchResult}
 use lib.ListN.{length}
-use lib.Dec.{eqb}
-use lib.IntN.{ℤ, pos}
-use mir.Val.{of_z}
-use mir.Syntax.{w32}
+use lib.IntN.{ℤ}
 use Rattle.rules.specs.declared.FoundRecord.{FoundRecord}
 use Rattle.rules.specs.declared.Answer.{Answer}
-use Rattle.rules.specs.declared.Verdict.{Verdict}
-use Rattle.rules.specs.declared.Verdict.TheVariants.{BadLists, BadOwner, BadLength, NotSound, NoRequest}
+use Rattle.rules.specs.declared.CallFault.{CallFault}
 use Rattle.rules.specs.Lists.{every}
-use Rattle.rules.specs.Answers.{verdict_number}
+use Rattle.rules.specs.Answers.{checked, call_number}
 use Rattle.rules.specs.Call.{Lent, Left, is_request, call_fault, refused, served}
-use Rattle.in_force_laws.proofs.Faults.{EachGiven, given_none, given_row}
 use Rattle.promises.specs.Calls.{left, Allowed}
-use Rattle.refusal.specs.Refusing.{fault_number, refusal_of}
+use Rattle.refusal.specs.Refusing.{refusal_of}
 use Rattle.refusal.proofs.Refusals.{refusal_is}
 use Rattle.batch.specs.Batching.{batch_of, Batched}
-use Rattle.batch.proofs.Verdicts.{call_number, call_refused, call_served}
+use Rattle.batch.proofs.Verdicts.{call_refused, call_served}
 
--- ---- the number
+-- a check that answers a fault was refused by it, and one that answers none was not refused
+fault_is : (o : Option CallFault) (v : CallFault) → checked o ≡ Err v → o ≡ Some v
+fault_is None v e = absurd (subst (λ (r : Result (Unit {0}) CallFault). MatchResult r (λ x. Unit {0}) (λ x. ⊥)) e tt)
+fault_is (Some x) v e = ap (λ (r : Result (Unit {0}) CallFault). elim r [ Ok y ↦ None | Err y ↦ Some y ]) e
 
--- the bits of the number are not zero
-abbrev FaultTold : Verdict → Type 0
-FaultTold v = not (eqb (of_z w32 (verdict_number v)) 0) ≡ true
+none_is : (o : Option CallFault) (u : Unit {0}) → checked o ≡ Ok u → o ≡ None
+none_is None u e = refl
+none_is (Some x) u e = absurd (subst (λ (r : Result (Unit {0}) CallFault). MatchResult r (λ y. ⊥) (λ y. Unit {0})) e tt)
 
-told : (l : Lent) → EachGiven FaultTold (call_fault l)
-unfolding call_fault verdict_number
-told l =
-    given_row FaultTold _ BadLists _ refl
-    (given_row FaultTold _ BadOwner _ refl
-    (given_row FaultTold _ BadLength _ refl
-    (given_row FaultTold _ NotSound _ refl (given_row FaultTold _ NoRequest _ refl (given_none FaultTold)))))
-
-module _ (l : Lent) (all : Bool) (asked : all ≡ every is_request l.requests) (z : ℤ)
-    (is : z ≡ refusal_of l.pool l.owner.0 (length l.workspace) (length l.requests) (length l.answers) all) where
-  same : z ≡ refusal_of l.pool l.owner.0 (length l.workspace) (length l.requests) (length l.answers) (every is_request l.requests)
-  same = is ∙ ap (refusal_of l.pool l.owner.0 (length l.workspace) (length l.requests) (length l.answers)) asked
-
-  number_is : z ≡ fault_number (call_fault l)
-  number_is = same ∙ refusal_is l
-
-  pub not_refused : call_fault l ≡ none → not (eqb (of_z w32 z) 0) ≡ false
-  unfolding fault_number
-  not_refused h = ap (λ (x : ℤ). not (eqb (of_z w32 x) 0)) (number_is ∙ ap fault_number h)
-
-  pub is_refused : (v : Verdict) → call_fault l ≡ some v → not (eqb (of_z w32 z) 0) ≡ true
-  unfolding fault_number
-  is_refused v h = ap (λ (x : ℤ). not (eqb (of_z w32 x) 0)) (number_is ∙ ap fault_number h) ∙ subst (EachGiven FaultTold) h (told l)
+module _ (l : Lent) (all : Bool) (asked : all ≡ every is_request l.requests) (r : Result (Unit {0}) CallFault)
+    (is : r ≡ refusal_of l.pool l.owner.0 (length l.workspace) (length l.requests) (length l.answers) all) where
+  answer : r ≡ checked (call_fault l)
+  answer = is ∙ ap (refusal_of l.pool l.owner.0 (length l.workspace) (length l.requests) (length l.answers)) asked ∙ refusal_is l
 
   -- "A refused call returns its number and writes nothing at all."
-  pub left_alone : (v : Verdict) → call_fault l ≡ some v → Allowed l (left z l.pool l.workspace l.answers l.found)
-  unfolding refused
-  left_alone v h =
+  pub when_refused : (v : CallFault) → r ≡ Err v → Allowed l (left (call_number (Err v)) l.pool l.workspace l.answers l.found)
+  unfolding refused call_number
+  when_refused v e =
+      let left_is = call_refused l v (fault_is (call_fault l) v (sym answer ∙ e)) in
       record {
-        number = same ∙ call_number l;
-        pool = ap (λ (x : Left). x.pool) (sym (call_refused l v h));
-        workspace = ap (λ (x : Left). x.workspace) (sym (call_refused l v h));
-        answers = ap (λ (x : Left). x.answers) (sym (call_refused l v h));
-        found = ap (λ (x : Left). x.found) (sym (call_refused l v h));
+        number = ap (λ (x : Left). x.number) (sym left_is);
+        pool = ap (λ (x : Left). x.pool) (sym left_is);
+        workspace = ap (λ (x : Left). x.workspace) (sym left_is);
+        answers = ap (λ (x : Left). x.answers) (sym left_is);
+        found = ap (λ (x : Left). x.found) (sym left_is);
       }
 
-  -- the two ways on from the number
-  pub when_refused : (of_z w32 z ≡ 0 → ⊥) → Allowed l (left z l.pool l.workspace l.answers l.found)
-  when_refused n = go (call_fault l) refl
-    where
-      go : (o : Option Verdict) → call_fault l ≡ o → Allowed l (left z l.pool l.workspace l.answers l.found)
-      go none h = absurd (n (eqb-true (of_z w32 z) 0 (not_false _ (not_refused h))))
-      go (some v) h = left_alone v h
-
-  pub when_served : of_z w32 z ≡ 0 → call_fault l ≡ none
-  when_served e = go (call_fault l) refl
-    where
-      go : (o : Option Verdict) → call_fault l ≡ o → call_fault l ≡ none
-      go none h = h
-      go (some v) h = never_both (eq-eqb (of_z w32 z) 0 e) (not_true _ (is_refused v h))
+  pub when_served : (u : Unit {0}) → r ≡ Ok u → call_fault l ≡ None
+  when_served u e = none_is (call_fault l) u (sym answer ∙ e)
 
 -- "On return 0 the workspace equals the pool."
-pub left_served : (l : Lent) → call_fault l ≡ none → (pool work : List ℤ) (answers : List Answer) (found : List FoundRecord)
-    → Batched (batch_of l) pool answers found → work ≡ pool → Allowed l (left (pos 0) pool work answers found)
-unfolding served verdict_number
+pub left_served : (l : Lent) → call_fault l ≡ None → (pool work : List ℤ) (answers : List Answer) (found : List FoundRecord)
+    → Batched (batch_of l) pool answers found → work ≡ pool → Allowed l (left (call_number (Ok tt)) pool work answers found)
+unfolding served call_number
 left_served l h pool work answers found b e =
     record {
       number = ap (λ (x : Left). x.number) (sym (call_served l h));

@@ -1,40 +1,16 @@
--- The loop of `carry`, with no machine: k items stand in the found list, and a turn stores one more.
+-- The loop of `carry`: k items stand in the found list, and a turn stores one more.
 use mathlib.Core.Path.{◌≡◌, sym, ◌∙◌, ap}
-use Prim.Native.Nat.{ℕ, suc, ◌<◌, ◌≤◌, ◌+◌, ◌-◌}
+use Prim.Native.Nat.{ℕ, suc, ◌+◌}
 use native.Mathlib.Omega.{arith}
 use native.Mathlib.Numerals.{add-one}
 use mathlib.Core.List.{List, [], ◌∷◌, ◌++◌}
-use mathlib.Core.WellFounded.InvImage
-use mathlib.Core.WellFounded.{WellFounded}
 use lib.ListN.{length, set}
 use lib.Seq.{sets, length-sets}
-use lib.WfN.{lt-wf_rel}
 use lib.IntN.{ℤ}
 use Rattle.rules.specs.declared.FoundRecord.{FoundRecord}
 use Rattle.found_items.specs.Items.{shown_at, shown_from}
 use Rattle.found_items.proofs.Words.{items_none, items_one, items_length, items_append}
 use Rattle.layout_laws.proofs.Runs.{sets_more}
-
--- k of n items are stored
-module _ (n : ℕ) where
-  pub record Upto : Type 0 where
-    pub k : ℕ
-    pub ok : k ≤ n
-
-  abbrev pub ≺ : Upto → Upto → Type 0
-  ≺ s t = n - s.k < n - t.k
-
-  pub wf : WellFounded ≺
-  wf = InvImage.wf (λ (s : Upto). n - s.k) lt-wf_rel.wf
-
-  abbrev pub start : Upto
-  start = record { k = 0; ok = omega arith }
-
-  abbrev pub next : (s : Upto) → s.k < n → Upto
-  next s lt = record { k = suc s.k; ok = lt }
-
-  pub less : (s : Upto) (lt : s.k < n) → ≺ (next s lt) s
-  less s lt = omega arith
 
 module _ (p w : List ℤ) (fs : List FoundRecord) (at : ℕ) where
   abbrev pub stored : ℕ → List FoundRecord

@@ -2,19 +2,20 @@
 use mathlib.Core.Path.{◌≡◌}
 use mathlib.Core.Bool.{true, not}
 use mathlib.Core.List.{List, [], map}
-use mathlib.Core.Option.{none}
+use Rattle.std.specs.Prelude.{None, Ok, Err}
 use Prim.Native.Nat.{ℕ, ◌*◌, ◌≤◌}
 use native.Mathlib.Omega.{arith}
 use lib.ListN.{length, length-map}
 use lib.Dec.{ltb}
 use lib.IntN.{ℤ}
 use borrow.Author.Tests.{ltb-false}
+use Rattle.rules.specs.declared.RequestFault.{RequestFault}
 use Rattle.rules.specs.declared.Owner.{Owner}
 use Rattle.rules.specs.declared.Rect.{Rect}
 use Rattle.rules.specs.declared.Mode.{Mode}
 use Rattle.rules.specs.declared.Asked.{Asked}
-use Rattle.rules.specs.declared.Reply.{Reply}
-use Rattle.rules.specs.declared.Reply.TheVariants.{Listed, BadRectangle, NoRoom}
+use Rattle.rules.specs.declared.Accepted.TheVariants.{Listed}
+use Rattle.rules.specs.declared.RequestFault.TheVariants.{BadRectangle, NoRoom}
 use Rattle.rules.specs.Lists.{those}
 use Rattle.rules.specs.Owners.{owned_by, as_found}
 use Rattle.rules.specs.Geometry.{valid}
@@ -39,7 +40,7 @@ pub record Placed (room long : ℕ) (t : Turn) : Type 0 where
   pub words : 2 * length t.listed ≤ long
 
 module _ (room long : ℕ) where
-  none_listed : (p : Pool) (reply : Reply) → Placed room long (turn p reply [])
+  none_listed : (p : Pool) (fault : RequestFault) → Placed room long (turn p (Err fault) [])
   none_listed p reply = record { places = omega arith; words = omega arith }
 
   after_none : (p : Pool) (o : Change) → Placed room long (after_change p o)
@@ -66,8 +67,8 @@ module _ (w : List ℤ) (right : valid_length w ≡ true) (s : sound w ≡ true)
     abbrev P : Turn → Type 0
     P t = Placed room (length w) t
 
-    search_listed : (o : Owner) (mode : Mode) (window : Rect) → search_fault (read w) room o mode window ≡ none
-        → P (turn (read w) (Listed (length (found (read w) o mode window)) filled (opened (read w) window)) (found (read w) o mode window))
+    search_listed : (o : Owner) (mode : Mode) (window : Rect) → search_fault (read w) room o mode window ≡ None
+        → P (turn (read w) (Ok (Listed (length (found (read w) o mode window)) filled (opened (read w) window))) (found (read w) o mode window))
     unfolding search_fault
     search_listed o mode window h =
         let a = no_row (not (valid window)) BadRectangle _ h in
@@ -76,7 +77,7 @@ module _ (w : List ℤ) (right : valid_length w ≡ true) (s : sound w ≡ true)
 
     pub request_placed : (a : Asked) → P (request c (read w) filled room a)
     request_placed =
-        request_cases c (read w) filled room (λ a. P) (λ a reply g. none_listed room (length w) (read w) reply)
+        request_cases c (read w) filled room (λ a. P) (λ a fault g. none_listed room (length w) (read w) fault)
         (λ r h. after_none room (length w) (read w) (insert_record c (read w) r))
         (λ r h. after_none room (length w) (read w) (delete_record c (read w) r))
         (λ old new h. after_none room (length w) (read w) (update_record c (read w) old new)) search_listed

@@ -10,7 +10,7 @@ use Rattle.rules.specs.declared.SlotNumber.{SlotNumber}
 use Rattle.rules.specs.declared.Record.{Record}
 use Rattle.rules.specs.declared.Entry.{Entry}
 use Rattle.rules.specs.Numbers.{most_slots}
-use Rattle.rules.specs.Pool.{Node, Pool, slot, node_at, entries_at, entry_from, entry_at, child_of}
+use Rattle.rules.specs.Pool.{Node, Pool, node_at, entries_at, entry_from, entry_at, child_of}
 use Rattle.rules.specs.Layout.{read}
 use Rattle.rules.specs.Delete.{Place, place, Path, Condensed, take_out, relieve, condense}
 use Rattle.layout_laws.specs.Slots.{Fit, SmallAll}
@@ -25,34 +25,35 @@ use Rattle.insert_laws.proofs.Beside.{among_here, child_entry}
 use Rattle.delete_laws.specs.Way.{Leads}
 use Rattle.delete_laws.specs.Shrunk.{Shrunk, condensed}
 use Rattle.delete_laws.proofs.Condense.{leads_from, condense_shrunk}
+use Rattle.find_leaf.specs.declared.Step.{Step}
 use Rattle.find_leaf.specs.declared.Way.{Way}
-use Rattle.find_leaf.specs.Ways.{path_of}
-use Rattle.delete.specs.declared.Asides.{Asides}
-use Rattle.delete.specs.Aside.{asides_of, Roomy, Has, Rewritable, ChildAt, ComesDown}
+use Rattle.find_leaf.specs.Ways.{no_step, path_of}
+use Rattle.delete.specs.declared.asides.Asides.{Asides}
+use Rattle.delete.specs.Aside.{asides_of, Has, Rewritable, ChildAt, ComesDown}
 use Rattle.delete.proofs.Nodes.{tree_rewritable}
-use Rattle.delete.proofs.Listed.{listed_length}
+use Rattle.delete.proofs.Listed.{asides_length}
 use Rattle.delete.proofs.Relieved.{out_known}
 
 -- ---- the way's node and place of a level, counted from 0
 
-abbrev pub node_on : List SlotNumber → ℕ → SlotNumber
-node_on ns l = get_or ns l (slot 0)
+abbrev pub node_on : List Step → ℕ → SlotNumber
+node_on ss l = (get_or ss l no_step).node
 
-abbrev pub place_on : List ℕ → ℕ → ℕ
-place_on is l = get_or is l 0
+abbrev pub place_on : List Step → ℕ → ℕ
+place_on ss l = (get_or ss l no_step).place
 
 -- .. and up from what the leaf left, m levels
-pub climb : Condensed → List SlotNumber → List ℕ → ℕ → Condensed
-climb x ns is zero = x
-climb x ns is (suc m) = relieve (place (node_on ns (suc m)) (place_on is (suc m))) (node_on ns m) (climb x ns is m)
+pub climb : Condensed → List Step → ℕ → Condensed
+climb x ss zero = x
+climb x ss (suc m) = relieve (place (node_on ss (suc m)) (place_on ss (suc m))) (node_on ss m) (climb x ss m)
 
-climb_is : (p : Pool) (way : Way) (m : ℕ) → condense p (path_of (suc m) way) ≡ climb (condense p (path_of 1 way)) way.nodes way.places m
+climb_is : (p : Pool) (way : Way) (m : ℕ) → condense p (path_of (suc m) way) ≡ climb (condense p (path_of 1 way)) way.steps m
 unfolding condense path_of climb
 climb_is p way zero = refl
 climb_is p way (suc m) =
-    ap (relieve (place (node_on way.nodes (suc m)) (place_on way.places (suc m))) (node_on way.nodes m)) (climb_is p way m)
+    ap (relieve (place (node_on way.steps (suc m)) (place_on way.steps (suc m))) (node_on way.steps m)) (climb_is p way m)
 
-pub condense_leaf : (p : Pool) (way : Way) → condense p (path_of 1 way) ≡ condensed (take_out p (place (node_on way.nodes 0) (place_on way.places 0))) []
+pub condense_leaf : (p : Pool) (way : Way) → condense p (path_of 1 way) ≡ condensed (take_out p (place (node_on way.steps 0) (place_on way.steps 0))) []
 unfolding condense path_of
 condense_leaf p way = refl
 
@@ -69,10 +70,10 @@ tail_is e = cc
 
 module _ (p : Pool) (r : Record) (way : Way) where
   abbrev top : ℕ → SlotNumber
-  top l = node_on way.nodes l
+  top l = node_on way.steps l
 
   abbrev at : ℕ → ℕ
-  at l = place_on way.places l
+  at l = place_on way.steps l
 
   pub record OnWay (l : ℕ) : Type 0 where
     pub tree : Tree p (suc l) (top l)
@@ -169,7 +170,7 @@ module _ (p : Pool) (way : Way) (h : ℕ) (d : ComesDown p h way) where
   pub down_high : 1 ≤ h
   down_high = tree_positive p h p.root d.tree
 
-  top_is : (l : ℕ) → h ≡ suc l → p.root ≡ node_on way.nodes l
+  top_is : (l : ℕ) → h ≡ suc l → p.root ≡ node_on way.steps l
   top_is l e =
       let k : Leads p d.pair (suc l) p.root (path_of (suc l) way) = rw e at d.leads in
       let n = leads_from p d.pair (suc l) p.root (path_of (suc l) way) k in
@@ -191,42 +192,41 @@ module _ (p : Pool) (way : Way) (h : ℕ) (d : ComesDown p h way) where
           }
 
   -- the leaf's entry can go out
-  pub leaf_there : place_on way.places 0 < length (entries_at p (node_on way.nodes 0))
+  pub leaf_there : place_on way.steps 0 < length (entries_at p (node_on way.steps 0))
   leaf_there = on_there p d.pair way 0 (down_on 0 (omega (arith, down_high)))
 
-  pub leaf_rewritable : length p.slots ≤ most_slots → Rewritable p (node_on way.nodes 0)
-  leaf_rewritable few = tree_rewritable p few 1 (node_on way.nodes 0) (omega arith) (down_on 0 (omega (arith, down_high))).tree
+  pub leaf_rewritable : length p.slots ≤ most_slots → Rewritable p (node_on way.steps 0)
+  leaf_rewritable few = tree_rewritable p few 1 (node_on way.steps 0) (omega arith) (down_on 0 (omega (arith, down_high))).tree
 
-  pub leaf_known : (f : FreeSlots) → Known p f → Known (take_out p (place (node_on way.nodes 0) (place_on way.places 0))) f
+  pub leaf_known : (f : FreeSlots) → Known p f → Known (take_out p (place (node_on way.steps 0) (place_on way.steps 0))) f
   leaf_known f k =
-      let n = tree_node p 1 (node_on way.nodes 0) (down_on 0 (omega (arith, down_high))).tree in
-      out_known p f k (node_on way.nodes 0) n.slot (λ e. omega (arith, e, n.level)) (place_on way.places 0)
+      let n = tree_node p 1 (node_on way.steps 0) (down_on 0 (omega (arith, down_high))).tree in
+      out_known p f k (node_on way.steps 0) n.slot (λ e. omega (arith, e, n.level)) (place_on way.steps 0)
 
 -- ---- the turns
 
 -- what each level above the leaf asks
-pub record Climbable (x : Condensed) (ns : List SlotNumber) (is : List ℕ) (h : ℕ) : Type 0 where
-  pub child : (l : ℕ) → 1 ≤ l → l < h → ChildAt (climb x ns is (l - 1)).pool (node_on ns l) (place_on is l) (node_on ns (l - 1))
-  pub few : (l : ℕ) → 1 ≤ l → l < h → length (climb x ns is (l - 1)).set_aside ≤ 12
+pub record Climbable (x : Condensed) (ss : List Step) (h : ℕ) : Type 0 where
+  pub child : (l : ℕ) → 1 ≤ l → l < h → ChildAt (climb x ss (l - 1)).pool (node_on ss l) (place_on ss l) (node_on ss (l - 1))
+  pub few : (l : ℕ) → 1 ≤ l → l < h → length (climb x ss (l - 1)).set_aside ≤ 12
 
 -- the levels below l are done
-pub record Climbing (w₀ : List ℤ) (h : ℕ) (ns : List SlotNumber) (is : List ℕ) (w : List ℤ) (a : Asides) (l : ℕ) : Type 0 where
+pub record Climbing (w₀ : List ℤ) (h : ℕ) (ss : List Step) (w : List ℤ) (a : Asides) (l : ℕ) : Type 0 where
   pub low : 1 ≤ l
   pub high : l ≤ h
   pub levels : h ≤ 8
-  pub nodes : length ns ≡ 8
-  pub places : length is ≡ 8
+  pub steps : length ss ≡ 8
   pub long : length w ≡ length w₀
-  pub ready : Climbable (condensed (read w₀) []) ns is h
-  pub has : Has (climb (condensed (read w₀) []) ns is (l - 1)) a w
+  pub ready : Climbable (condensed (read w₀) []) ss h
+  pub has : Has (climb (condensed (read w₀) []) ss (l - 1)) a w
 
-module _ {w₀ : List ℤ} {h : ℕ} {ns : List SlotNumber} {is : List ℕ} {w : List ℤ} {a : Asides} {l : ℕ} (t : Climbing w₀ h ns is w a l) where
+module _ {w₀ : List ℤ} {h : ℕ} {ss : List Step} {w : List ℤ} {a : Asides} {l : ℕ} (t : Climbing w₀ h ss w a l) where
   abbrev start : Condensed
   start = condensed (read w₀) []
 
-  pub climbing_child : l < h → ChildAt (read w) (node_on ns l) (place_on is l) (node_on ns (l - 1))
+  pub climbing_child : l < h → ChildAt (read w) (node_on ss l) (place_on ss l) (node_on ss (l - 1))
   climbing_child k =
-      subst (λ (p : Pool). ChildAt p (node_on ns l) (place_on is l) (node_on ns (l - 1))) (sym t.has.pool.is) (t.ready.child l t.low k)
+      subst (λ (p : Pool). ChildAt p (node_on ss l) (place_on ss l) (node_on ss (l - 1))) (sym t.has.pool.is) (t.ready.child l t.low k)
 
   pub climbing_known : Known (read w) a.free
   climbing_known = subst (λ (p : Pool). Known p a.free) (sym t.has.pool.is) t.has.pool.known
@@ -235,32 +235,31 @@ module _ {w₀ : List ℤ} {h : ℕ} {ns : List SlotNumber} {is : List ℕ} {w :
   climbing_few k =
       omega (
         arith,
-        listed_length a.entries a.levels 0 a.count,
+        asides_length a,
         ap length t.has.list,
         t.ready.few l t.low k,
       )
 
-  climb_next : climb start ns is (l + 1 - 1) ≡ relieve (place (node_on ns l) (place_on is l)) (node_on ns (l - 1)) (climb start ns is (l - 1))
+  climb_next : climb start ss (l + 1 - 1) ≡ relieve (place (node_on ss l) (place_on ss l)) (node_on ss (l - 1)) (climb start ss (l - 1))
   unfolding climb
   climb_next =
       let e : l + 1 - 1 ≡ suc (l - 1) = omega (arith, t.low) in
       let f : suc (l - 1) ≡ l = omega (arith, t.low) in
-      ap (climb start ns is) e
-      ∙ ap (λ (k : ℕ). relieve (place (node_on ns k) (place_on is k)) (node_on ns (l - 1)) (climb start ns is (l - 1))) f
+      ap (climb start ss) e
+      ∙ ap (λ (k : ℕ). relieve (place (node_on ss k) (place_on ss k)) (node_on ss (l - 1)) (climb start ss (l - 1))) f
 
   -- one level up
   pub climbing_next : l < h → (v : List ℤ) → length v ≡ length w → (b : Asides)
-      → Has (relieve (place (node_on ns l) (place_on is l)) (node_on ns (l - 1)) (condensed (read w) (asides_of a))) b v
-      → Climbing w₀ h ns is v b (l + 1)
+      → Has (relieve (place (node_on ss l) (place_on ss l)) (node_on ss (l - 1)) (condensed (read w) (asides_of a))) b v
+      → Climbing w₀ h ss v b (l + 1)
   climbing_next k v e b g =
-      let now : condensed (read w) (asides_of a) ≡ climb start ns is (l - 1) = λ i. condensed (t.has.pool.is i) (t.has.list i) in
-      let up = ap (relieve (place (node_on ns l) (place_on is l)) (node_on ns (l - 1))) now ∙ sym climb_next in
+      let now : condensed (read w) (asides_of a) ≡ climb start ss (l - 1) = λ i. condensed (t.has.pool.is i) (t.has.list i) in
+      let up = ap (relieve (place (node_on ss l) (place_on ss l)) (node_on ss (l - 1))) now ∙ sym climb_next in
       record {
         low = omega arith;
         high = omega arith;
         levels = t.levels;
-        nodes = t.nodes;
-        places = t.places;
+        steps = t.steps;
         long = e ∙ t.long;
         ready = t.ready;
         has = subst (λ (d : Condensed). Has d b v) up g;
@@ -269,26 +268,26 @@ module _ {w₀ : List ℤ} {h : ℕ} {ns : List SlotNumber} {is : List ℕ} {w :
 -- ---- the first and the last
 
 module _ (p : Pool) (way : Way) (h : ℕ) (d : ComesDown p h way) (w : List ℤ)
-    (out : read w ≡ take_out p (place (node_on way.nodes 0) (place_on way.places 0))) where
+    (out : read w ≡ take_out p (place (node_on way.steps 0) (place_on way.steps 0))) where
   first_is : condense p (path_of 1 way) ≡ condensed (read w) []
   first_is = condense_leaf p way ∙ ap (λ (q : Pool). condensed q []) (sym out)
 
-  climb_at : (l : ℕ) → 1 ≤ l → condense p (path_of l way) ≡ climb (condensed (read w) []) way.nodes way.places (l - 1)
+  climb_at : (l : ℕ) → 1 ≤ l → condense p (path_of l way) ≡ climb (condensed (read w) []) way.steps (l - 1)
   climb_at zero k = absurd (omega arith)
   climb_at (suc l) k =
       let e : l ≡ suc l - 1 = omega arith in
-      climb_is p way l ∙ ap (λ (x : Condensed). climb x way.nodes way.places l) first_is
-      ∙ ap (climb (condensed (read w) []) way.nodes way.places) e
+      climb_is p way l ∙ ap (λ (x : Condensed). climb x way.steps l) first_is
+      ∙ ap (climb (condensed (read w) []) way.steps) e
 
   ready_at : length p.slots ≤ most_slots → (l : ℕ) → 1 ≤ l → l < h
-      → ChildAt (climb (condensed (read w) []) way.nodes way.places (l - 1)).pool (node_on way.nodes l) (place_on way.places l) (node_on way.nodes (l - 1))
+      → ChildAt (climb (condensed (read w) []) way.steps (l - 1)).pool (node_on way.steps l) (place_on way.steps l) (node_on way.steps (l - 1))
   ready_at few zero k m = absurd (omega arith)
   ready_at few (suc l) k m =
       let e : l ≡ suc l - 1 = omega arith in
-      subst₂ (λ (x : Condensed) (j : ℕ). ChildAt x.pool (node_on way.nodes (suc l)) (place_on way.places (suc l)) (node_on way.nodes j))
+      subst₂ (λ (x : Condensed) (j : ℕ). ChildAt x.pool (node_on way.steps (suc l)) (place_on way.steps (suc l)) (node_on way.steps j))
       (climb_at (suc l) k) e (on_next p d.pair way few l (omega (arith, d.high)) (down_on p way h d (suc l) m))
 
-  few_at : (l : ℕ) → 1 ≤ l → l < h → length (climb (condensed (read w) []) way.nodes way.places (l - 1)).set_aside ≤ 12
+  few_at : (l : ℕ) → 1 ≤ l → l < h → length (climb (condensed (read w) []) way.steps (l - 1)).set_aside ≤ 12
   few_at zero k m = absurd (omega arith)
   few_at (suc l) k m =
       omega (
@@ -298,26 +297,24 @@ module _ (p : Pool) (way : Way) (h : ℕ) (d : ComesDown p h way) (w : List ℤ)
         ap (λ (x : Condensed). length x.set_aside) (climb_at (suc l) k),
       )
 
-  pub climbing_first : length p.slots ≤ most_slots → Fit w → (f : FreeSlots) → Known p f → (a : Asides) → asides_of a ≡ [] → Roomy a → a.free ≡ f
-      → Climbing w h way.nodes way.places w a 1
+  pub climbing_first : length p.slots ≤ most_slots → Fit w → (f : FreeSlots) → Known p f → (a : Asides) → asides_of a ≡ [] → a.free ≡ f
+      → Climbing w h way.steps w a 1
   unfolding climb
-  climbing_first few fit f known a none roomy free = record {
+  climbing_first few fit f known a none free = record {
     low = omega arith;
     high = down_high p way h d;
     levels = d.high;
-    nodes = d.long.nodes;
-    places = d.long.places;
+    steps = d.long;
     long = refl;
     ready = record { child = ready_at few; few = few_at };
     has = record {
       pool = record { fit = fit; is = refl; known = subst₂ Known (sym out) (sym free) (leaf_known p way h d f known) };
       list = none;
-      roomy = roomy;
     };
   }
 
-  pub climbing_last : (v : List ℤ) (a : Asides) (l : ℕ) → Climbing w h way.nodes way.places v a l → h ≤ l → Has (condense p (path_of h way)) a v
+  pub climbing_last : (v : List ℤ) (a : Asides) (l : ℕ) → Climbing w h way.steps v a l → h ≤ l → Has (condense p (path_of h way)) a v
   climbing_last v a l t k =
       let e : l ≡ h = omega (arith, t.high) in
-      let is = ap (λ (j : ℕ). climb (condensed (read w) []) way.nodes way.places (j - 1)) e ∙ sym (climb_at h (down_high p way h d)) in
+      let is = ap (λ (j : ℕ). climb (condensed (read w) []) way.steps (j - 1)) e ∙ sym (climb_at h (down_high p way h d)) in
       subst (λ (x : Condensed). Has x a v) is t.has

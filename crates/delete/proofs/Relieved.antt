@@ -22,8 +22,8 @@ use Rattle.sound_laws.specs.Tree.{Slot}
 use Rattle.sound_laws.proofs.Frame.{put_length, put_other}
 use Rattle.delete_laws.specs.Shrunk.{condensed}
 use Rattle.delete_laws.proofs.Narrow.{relieve_few, relieve_enough}
-use Rattle.delete.specs.declared.Asides.{Asides}
-use Rattle.delete.specs.Aside.{asides_of, with_free, Roomy, Has, ChildAt}
+use Rattle.delete.specs.declared.asides.Asides.{Asides}
+use Rattle.delete.specs.Aside.{asides_of, Has, ChildAt}
 
 -- ---- the entry leads to its child
 
@@ -85,25 +85,25 @@ module _ (w : List ℤ) (s : SlotNumber) (i : ℕ) (t : SlotNumber) (a : Asides)
   before = condensed (read w) (asides_of a)
 
   -- it leaves its parent
-  pub has_gone : length (entries_at (read w) t) < least → (b : Asides) → asides_of b ≡ asides_of a ++ asides (read w) t → Roomy b → b.free ≡ a.free
-      → (q : Pool) → q ≡ take_out (read w) (place s i) → (v : List ℤ) → read v ≡ zero_slot q t → Fit v → (r : Asides) → r ≡ with_free b t
+  pub has_gone : length (entries_at (read w) t) < least → (r : Asides) → asides_of r ≡ asides_of a ++ asides (read w) t
+      → (f : FreeSlots) → f ≡ a.free → r.free ≡ more_slot f t
+      → (q : Pool) → q ≡ take_out (read w) (place s i) → (v : List ℤ) → read v ≡ zero_slot q t → Fit v
       → Has (relieve (place s i) t before) r v
-  has_gone few b list roomy free q out v zero fit r e =
-      let gone : Known (zero_slot (take_out (read w) (place s i)) t) (more_slot b.free t) =
-      rw free (gone_known (read w) a.free k s i t c) in
-      subst (λ (d : Condensed). Has d r v) (sym (relieve_few (place s i) t before few))
-      (subst (λ (x : Asides). Has (condensed (zero_slot (take_out (read w) (place s i)) t) (asides_of a ++ asides (read w) t)) x v) (sym e) (record {
-        pool = record { fit = fit; is = zero ∙ ap (λ (z : Pool). zero_slot z t) out; known = gone };
+  has_gone few r list f same free q out v zero fit =
+      subst (λ (d : Condensed). Has d r v) (sym (relieve_few (place s i) t before few)) (record {
+        pool = record {
+          fit = fit;
+          is = zero ∙ ap (λ (z : Pool). zero_slot z t) out;
+          known = rw (free, same) (gone_known (read w) a.free k s i t c);
+        };
         list = list;
-        roomy = record { entries = roomy.entries; levels = roomy.levels };
-      }))
+      })
 
   -- its entry is made tight
-  pub has_tight : least ≤ length (entries_at (read w) t) → Roomy a → (v : List ℤ) → read v ≡ tighten (read w) s i → Fit v
+  pub has_tight : least ≤ length (entries_at (read w) t) → (v : List ℤ) → read v ≡ tighten (read w) s i → Fit v
       → Has (relieve (place s i) t before) a v
-  has_tight enough roomy v tight fit =
+  has_tight enough v tight fit =
       subst (λ (d : Condensed). Has d a v) (sym (relieve_enough (place s i) t before enough)) (record {
         pool = record { fit = fit; is = tight; known = tight_known (read w) a.free k s i t c };
         list = λ j. asides_of a;
-        roomy = roomy;
       })

@@ -35,6 +35,7 @@ use Rattle.delete_laws.specs.Way.{leaf_of, KeepsEnough}
 use Rattle.delete_laws.specs.Shrunk.{condensed}
 use Rattle.delete_laws.proofs.Narrow.{relieve_enough}
 use Rattle.delete_laws.proofs.Keeps.{tighten_tight, Kept, enough_left, condense_kept, tight_still}
+use Rattle.find_leaf.specs.declared.Step.{Step}
 use Rattle.find_leaf.specs.declared.Way.{Way}
 use Rattle.find_leaf.specs.Ways.{path_of}
 use Rattle.delete.specs.Aside.{ChildAt, ComesDown, thin_at, wide_at, StillKnown}
@@ -88,35 +89,35 @@ not_wide {w} {s} {i} {t} f c h =
 
 -- ---- the covers, from level 1 up, m of them
 
-pub tights : Pool → List SlotNumber → List ℕ → ℕ → Pool
-tights x ns is zero = x
-tights x ns is (suc m) = tighten (tights x ns is m) (node_on ns (suc m)) (place_on is (suc m))
+pub tights : Pool → List Step → ℕ → Pool
+tights x ss zero = x
+tights x ss (suc m) = tighten (tights x ss m) (node_on ss (suc m)) (place_on ss (suc m))
 
-leaf_node : (way : Way) (l : ℕ) → leaf_of (path_of (suc l) way) ≡ node_on way.nodes 0
+leaf_node : (way : Way) (l : ℕ) → leaf_of (path_of (suc l) way) ≡ node_on way.steps 0
 unfolding leaf_of path_of
 leaf_node way zero = refl
 leaf_node way (suc l) = leaf_node way l
 
 -- the leaf of the way that the code has
-pub way_leaf : (way : Way) (l : ℕ) → 1 ≤ l → leaf_of (path_of l way) ≡ node_on way.nodes 0
+pub way_leaf : (way : Way) (l : ℕ) → 1 ≤ l → leaf_of (path_of l way) ≡ node_on way.steps 0
 way_leaf way zero h = absurd (omega arith)
 way_leaf way (suc l) h = leaf_node way l
 
 condense_next : (p : Pool) (way : Way) (l : ℕ) → condense p (path_of (suc (suc l)) way) ≡ relieve
-    (place (node_on way.nodes (suc l)) (place_on way.places (suc l))) (node_on way.nodes l) (condense p (path_of (suc l) way))
+    (place (node_on way.steps (suc l)) (place_on way.steps (suc l))) (node_on way.steps l) (condense p (path_of (suc l) way))
 unfolding condense path_of
 condense_next p way l = refl
 
 module _ (p : Pool) (way : Way) (h : ℕ) (d : ComesDown p h way) (keeps : KeepsEnough p h (leaf_of (path_of h way))) (x : Pool)
-    (out : x ≡ take_out p (place (node_on way.nodes 0) (place_on way.places 0))) where
+    (out : x ≡ take_out p (place (node_on way.steps 0) (place_on way.steps 0))) where
   abbrev top : ℕ → SlotNumber
-  top l = node_on way.nodes l
+  top l = node_on way.steps l
 
   abbrev at : ℕ → ℕ
-  at l = place_on way.places l
+  at l = place_on way.steps l
 
   abbrev tight : ℕ → Pool
-  tight l = tights x way.nodes way.places l
+  tight l = tights x way.steps l
 
   on : (l : ℕ) → l < h → OnWay p d.pair way l
   on l k = down_on p way h d l k
@@ -205,65 +206,63 @@ module _ (p : Pool) (way : Way) (h : ℕ) (d : ComesDown p h way) (keeps : Keeps
 -- ---- the turns
 
 -- what each level above the leaf asks, and what it gives where its cover stays
-pub record Rungs (x : Pool) (ns : List SlotNumber) (is : List ℕ) (h : ℕ) : Type 0 where
-  pub child : (l : ℕ) → 1 ≤ l → l < h → ChildAt (tights x ns is (l - 1)) (node_on ns l) (place_on is l) (node_on ns (l - 1))
-  pub stays : (l : ℕ) → 1 ≤ l → l < h → tights x ns is l ≡ tights x ns is (l - 1) → tights x ns is (h - 1) ≡ tights x ns is (l - 1)
+pub record Rungs (x : Pool) (ss : List Step) (h : ℕ) : Type 0 where
+  pub child : (l : ℕ) → 1 ≤ l → l < h → ChildAt (tights x ss (l - 1)) (node_on ss l) (place_on ss l) (node_on ss (l - 1))
+  pub stays : (l : ℕ) → 1 ≤ l → l < h → tights x ss l ≡ tights x ss (l - 1) → tights x ss (h - 1) ≡ tights x ss (l - 1)
 
 -- the covers below level l are tight
-pub record Tightening (w₀ : List ℤ) (h : ℕ) (ns : List SlotNumber) (is : List ℕ) (w : List ℤ) (l : ℕ) : Type 0 where
+pub record Tightening (w₀ : List ℤ) (h : ℕ) (ss : List Step) (w : List ℤ) (l : ℕ) : Type 0 where
   pub low : 1 ≤ l
   pub high : l ≤ h
   pub levels : h ≤ 8
-  pub nodes : length ns ≡ 8
-  pub places : length is ≡ 8
+  pub steps : length ss ≡ 8
   pub long : length w ≡ length w₀
   pub fit : Fit w
-  pub pool : read w ≡ tights (read w₀) ns is (l - 1)
+  pub pool : read w ≡ tights (read w₀) ss (l - 1)
   pub known : StillKnown (read w₀) (read w)
-  pub rungs : Rungs (read w₀) ns is h
+  pub rungs : Rungs (read w₀) ss h
 
-module _ {w₀ : List ℤ} {h : ℕ} {ns : List SlotNumber} {is : List ℕ} {w : List ℤ} {l : ℕ} (t : Tightening w₀ h ns is w l) where
-  pub tightening_last : h ≤ l → read w ≡ tights (read w₀) ns is (h - 1)
-  tightening_last k = let e : l ≡ h = omega (arith, t.high) in t.pool ∙ ap (λ (j : ℕ). tights (read w₀) ns is (j - 1)) e
+module _ {w₀ : List ℤ} {h : ℕ} {ss : List Step} {w : List ℤ} {l : ℕ} (t : Tightening w₀ h ss w l) where
+  pub tightening_last : h ≤ l → read w ≡ tights (read w₀) ss (h - 1)
+  tightening_last k = let e : l ≡ h = omega (arith, t.high) in t.pool ∙ ap (λ (j : ℕ). tights (read w₀) ss (j - 1)) e
 
   module _ (k : l < h) where
-    pub tightening_child : ChildAt (read w) (node_on ns l) (place_on is l) (node_on ns (l - 1))
+    pub tightening_child : ChildAt (read w) (node_on ss l) (place_on ss l) (node_on ss (l - 1))
     tightening_child =
-        subst (λ (p : Pool). ChildAt p (node_on ns l) (place_on is l) (node_on ns (l - 1))) (sym t.pool) (t.rungs.child l t.low k)
+        subst (λ (p : Pool). ChildAt p (node_on ss l) (place_on ss l) (node_on ss (l - 1))) (sym t.pool) (t.rungs.child l t.low k)
 
-    tights_next : tights (read w₀) ns is l ≡ tighten (read w) (node_on ns l) (place_on is l)
+    tights_next : tights (read w₀) ss l ≡ tighten (read w) (node_on ss l) (place_on ss l)
     unfolding tights
     tights_next =
         let e : l ≡ suc (l - 1) = omega (arith, t.low) in
-        ap (tights (read w₀) ns is) e ∙ ap (λ (j : ℕ). tighten (tights (read w₀) ns is (l - 1)) (node_on ns j) (place_on is j)) (sym e)
-        ∙ ap (λ (p : Pool). tighten p (node_on ns l) (place_on is l)) (sym t.pool)
+        ap (tights (read w₀) ss) e ∙ ap (λ (j : ℕ). tighten (tights (read w₀) ss (l - 1)) (node_on ss j) (place_on ss j)) (sym e)
+        ∙ ap (λ (p : Pool). tighten p (node_on ss l) (place_on ss l)) (sym t.pool)
 
-    module _ (v : List ℤ) (made : read v ≡ tighten (read w) (node_on ns l) (place_on is l)) where
+    module _ (v : List ℤ) (made : read v ≡ tighten (read w) (node_on ss l) (place_on ss l)) where
       now_known : StillKnown (read w₀) (read v)
       now_known f g =
           subst (λ (p : Pool). Known p f) (sym made)
-          (tight_known (read w) f (t.known f g) (node_on ns l) (place_on is l) (node_on ns (l - 1)) tightening_child)
+          (tight_known (read w) f (t.known f g) (node_on ss l) (place_on ss l) (node_on ss (l - 1)) tightening_child)
 
       -- one level up
-      pub tightening_next : length v ≡ length w → Fit v → Tightening w₀ h ns is v (l + 1)
+      pub tightening_next : length v ≡ length w → Fit v → Tightening w₀ h ss v (l + 1)
       tightening_next e fit =
           let j : l ≡ l + 1 - 1 = omega arith in
           record {
             low = omega arith;
             high = omega arith;
             levels = t.levels;
-            nodes = t.nodes;
-            places = t.places;
+            steps = t.steps;
             long = e ∙ t.long;
             fit = fit;
-            pool = made ∙ sym tights_next ∙ ap (tights (read w₀) ns is) j;
+            pool = made ∙ sym tights_next ∙ ap (tights (read w₀) ss) j;
             known = now_known;
             rungs = t.rungs;
           }
 
       -- the cover stays: all is done
-      pub tightening_stop : wide_at (read w) (node_on ns l) (place_on is l) ≡ false
-          → (read v ≡ tights (read w₀) ns is (h - 1)) × StillKnown (read w₀) (read v)
+      pub tightening_stop : wide_at (read w) (node_on ss l) (place_on ss l) ≡ false
+          → (read v ≡ tights (read w₀) ss (h - 1)) × StillKnown (read w₀) (read v)
       tightening_stop narrow =
           let still = not_wide t.fit tightening_child narrow in
           let same = tights_next ∙ still ∙ t.pool in
@@ -273,15 +272,14 @@ module _ {w₀ : List ℤ} {h : ℕ} {ns : List SlotNumber} {is : List ℕ} {w :
 
 module _ (w : List ℤ) (fit : Fit w) (few : length (read w).slots ≤ most_slots) (way : Way) (h : ℕ) (d : ComesDown (read w) h way)
     (keeps : KeepsEnough (read w) h (leaf_of (path_of h way))) (v : List ℤ)
-    (out : read v ≡ take_out (read w) (place (node_on way.nodes 0) (place_on way.places 0))) where
-  pub tightening_first : Fit v → Tightening v h way.nodes way.places v 1
+    (out : read v ≡ take_out (read w) (place (node_on way.steps 0) (place_on way.steps 0))) where
+  pub tightening_first : Fit v → Tightening v h way.steps v 1
   unfolding tights
   tightening_first f = record {
     low = omega arith;
     high = down_high (read w) way h d;
     levels = d.high;
-    nodes = d.long.nodes;
-    places = d.long.places;
+    steps = d.long;
     long = refl;
     fit = f;
     pool = refl;

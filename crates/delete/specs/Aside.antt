@@ -1,5 +1,5 @@
 -- The entries set aside as the code has them, and what the steps up the way ask of the pool.
-use Rattle.std.specs.Prelude.{◌≡◌, Bool, true, not, ◌&&◌, ◌≢◌, List, [], ◌∷◌, ℕ, zero, suc, ◌≤◌, ◌<◌, leb, ltb, length, get_or, ℤ}
+use Rattle.std.specs.Prelude.{◌≡◌, Bool, true, not, ◌&&◌, ◌≢◌, List, map, ℕ, ◌≤◌, ◌<◌, leb, ltb, length, take, ℤ}
 use Rattle.rules.specs.declared.Edition.{Edition}
 use Rattle.rules.specs.declared.SlotNumber.{SlotNumber}
 use Rattle.rules.specs.declared.Record.{Record}
@@ -7,36 +7,30 @@ use Rattle.rules.specs.declared.Entry.{Entry}
 use Rattle.rules.specs.Numbers.{least, most_slots}
 use Rattle.rules.specs.Owners.{owner_sound}
 use Rattle.rules.specs.Geometry.{same_rect}
-use Rattle.rules.specs.Pool.{Pool, no_entry, node_at, entries_at, entry_at, child_of, owner_of, cover_of}
+use Rattle.rules.specs.Pool.{Pool, node_at, entries_at, entry_at, child_of, owner_of, cover_of}
 use Rattle.rules.specs.Delete.{Aside, Condensed}
 use Rattle.rules_laws.proofs.Places.{Among}
 use Rattle.layout_laws.specs.Slots.{SmallAll}
 use Rattle.free_slots.specs.declared.FreeSlots.{FreeSlots}
-use Rattle.free_slots.specs.Known.{Known, more_slot}
+use Rattle.free_slots.specs.Known.{Known}
 use Rattle.sound_laws.specs.Tree.{slots_in, Once, Slot, Tree}
 use Rattle.delete_laws.specs.Way.{Leads}
 use Rattle.find_leaf.specs.declared.Way.{Way}
-use Rattle.find_leaf.specs.Ways.{path_of, Long}
+use Rattle.find_leaf.specs.Ways.{path_of}
 use Rattle.insert.specs.Left.{HoldsPool}
-use Rattle.delete.specs.declared.Asides.{Asides}
+use Rattle.delete.specs.declared.asides.SetAside.{SetAside}
+use Rattle.delete.specs.declared.asides.Asides.{Asides}
 
--- n of the entries set aside, from place k on, each with its level
-unfoldable pub asides_from : List Entry → List ℕ → ℕ → ℕ → List Aside
-asides_from es ls k zero = []
-asides_from es ls k (suc n) = record { level = get_or ls k 0; entry = get_or es k no_entry } ∷ asides_from es ls (suc k) n
+-- an entry set aside, with its level
+abbrev pub aside : ℕ → Entry → Aside
+aside l e = record { level = l; entry = e }
+
+abbrev pub held : SetAside → Aside
+held a = aside a.level a.entry
 
 -- all of them
 abbrev pub asides_of : Asides → List Aside
-asides_of a = asides_from a.entries a.levels 0 a.count
-
--- .. with the slot t also known to be free
-abbrev pub with_free : Asides → SlotNumber → Asides
-with_free a t = record { entries = a.entries; levels = a.levels; count = a.count; free = more_slot a.free t }
-
--- there is room for 14
-pub record Roomy (a : Asides) : Type 0 where
-  pub entries : length a.entries ≡ 14
-  pub levels : length a.levels ≡ 14
+asides_of a = map held (take a.count a.list)
 
 -- the leaf entries among those set aside are of owners that the edition has
 pub record OwnedAside (e : Edition) (xs : List Aside) : Type 0 where
@@ -46,7 +40,6 @@ pub record OwnedAside (e : Edition) (xs : List Aside) : Type 0 where
 pub record Has (d : Condensed) (a : Asides) (w : List ℤ) : Type 0 where
   pub pool : HoldsPool d.pool a.free w
   pub list : asides_of a ≡ d.set_aside
-  pub roomy : Roomy a
 
 -- a node whose entries can be written again: its level and its pointers are small
 pub record Rewritable (p : Pool) (s : SlotNumber) : Type 0 where
@@ -70,7 +63,7 @@ pub record ComesDown (p : Pool) (h : ℕ) (way : Way) : Type 0 where
   pub tree : Tree p h p.root
   pub once : Once (slots_in p h p.root)
   pub leads : Leads p pair h p.root (path_of h way)
-  pub long : Long way
+  pub long : length way.steps ≡ 8
   pub high : h ≤ 8
 
 -- ---- where nothing is set aside

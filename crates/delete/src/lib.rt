@@ -1,13 +1,15 @@
-// Delete: the pair is taken out of its leaf, CondenseTree goes up the way that FindLeaf came down, and what was set aside is put in again.
+// Delete: the pair is taken out of its leaf, CondenseTree goes up the way that FindLeaf came down,
+// and what was set aside is put in again.
 #![tactic(auto)]
 
-ghost use Rattle.std.specs.Prelude.{◌≡◌, true, [], ◌++◌, ◌+◌, ◌-◌, ◌≤◌, ◌<◌, length};
+ghost use Rattle.std.specs.Prelude.{◌≡◌, true, Some, [], ◌++◌, ◌+◌, ◌-◌, ◌≤◌, ◌<◌, length};
 ghost use Rattle.rules.specs.Pool as P;
 ghost use Rattle.rules.specs.Sound.{owners_sound};
 ghost use Rattle.rules.specs.Layout as L;
 ghost use Rattle.rules.specs.Insert as I;
 ghost use Rattle.rules.specs.Delete as D;
 ghost use Rattle.layout_laws.specs.Slots.{Fit, InPool};
+ghost use Rattle.pool.specs.Reading.{read, entries_of};
 ghost use Rattle.free_slots.specs.Known.{Known};
 ghost use Rattle.sound_laws.specs.Tree.{Whole};
 ghost use Rattle.insert_laws.specs.Standing.{Standing};
@@ -16,25 +18,16 @@ ghost use Rattle.delete_laws.specs.Shrunk.{Waiting, condensed};
 ghost use Rattle.find_leaf.specs.Ways.{Gives, path_of};
 ghost use Rattle.insert.specs.Left.{HoldsPool};
 ghost use Rattle.delete.specs.Removed.{Removes};
-ghost use Rattle.delete.specs.Aside.{asides_of, Roomy, OwnedAside, Has, Rewritable, ChildAt, ComesDown, with_free, thin_at, wide_at, StillKnown};
+ghost use Rattle.delete.specs.Aside.{asides_of, OwnedAside, Has, Rewritable, ChildAt, ComesDown};
+ghost use Rattle.delete.specs.Aside.{thin_at, wide_at, StillKnown};
 
+use asides::Asides;
 use find_leaf::Way;
 use free_slots::FreeSlots;
-use insert::Outcome;
-use rules::{Entry, LEAST, MOST_HEIGHT, NINE, Record, SlotNumber};
+use pool::node::{Node, Pool};
+use rules::{LEAST, Record, SlotNumber};
 
-// A node that leaves has fewer entries than the least, and there is at most one for each level below the root.
-const MOST_ASIDE: usize = (LEAST - 1) * (MOST_HEIGHT - 1);
-
-// What CondenseTree has in hand on its way up: the entries set aside, each with the level of the node that it was in, and what is known of
-// the free slots.
-#[derive(Clone, Copy)]
-struct Asides {
-    entries: [Entry; MOST_ASIDE],
-    levels: [usize; MOST_ASIDE],
-    count: usize,
-    free: FreeSlots,
-}
+mod asides;
 
 // ---- D2, and CT3 and CT4 at one node
 
@@ -56,91 +49,57 @@ fn zero_slot(pool: &mut [i32], s: SlotNumber)
     ensures is { L.read pool.new ≡ P.zero_slot (L.read pool.old) s }
     ensures fit { Fit pool.new }
 {
-    let none = [pool::no_entry(); NINE];
-    pool::put_node(pool, s, 0, none, 0);
+    pool::put_node(pool, s, 0, &[]);
 }
 
 // "its entries are set aside", after those of the levels below, each with its node's level.
-fn set_aside(pool: &[i32], t: SlotNumber, level: usize, asides: Asides) -> Asides
-    requires in_pool { InPool pool.now t }
-    requires level_value { level ≡ (P.node_at (L.read pool.now) t).level }
-    requires roomy_2 { Roomy asides }
-    requires t_bound { asides.count + length (P.entries_at (L.read pool.now) t) ≤ 14 }
-    ensures is { asides_of result ≡ asides_of asides ++ D.asides (L.read pool.now) t }
-    ensures roomy { Roomy result }
-    ensures free { result.free ≡ asides.free }
+fn set_aside(node: &Node<'_>, asides: &mut Asides)
+    requires { asides.old.count + length (entries_of node.now) ≤ 14 }
+    ensures is { asides_of asides.new
+        ≡ asides_of asides.old ++ D.asides (L.read node.now.words.now) node.now.slot }
+    ensures free { asides.new.free ≡ asides.old.free }
 {
-    let mut entries = asides.entries;
-    let mut levels = asides.levels;
-    let count = asides.count;
-    let free = asides.free;
-    let n = pool::count_of(pool, t);
-    let mut k: usize = 0;
-    while k < n {
-        entries[count + k] = pool::entry_of(pool, t, k);
-        levels[count + k] = level;
-        k += 1;
-    }
-    Asides {
-        entries,
-        levels,
-        count: count + n,
-        free,
+    let level = node.level();
+    for k in 0..node.count() {
+        asides.push(level, node.entry(k));
     }
 }
 
-// One more slot is known to be free.
-fn with_free(asides: Asides, t: SlotNumber) -> Asides
-    requires { asides.free.count ≤ 4096 }
-    ensures { result ≡ with_free asides t }
-{
-    let entries = asides.entries;
-    let levels = asides.levels;
-    let count = asides.count;
-    let free = asides.free;
-    let more = free_slots::more_slot(free, t);
-    Asides {
-        entries,
-        levels,
-        count,
-        free: more,
-    }
-}
-
-// CT3 and CT4 at place i of the node at s, whose child is t: "a non-root node with fewer than 3 entries leaves its parent, its entries are
-// set aside, and its slot is zeroed and free at once"; else its cover is made tight.
-fn relieve(pool: &mut [i32], s: SlotNumber, i: usize, t: SlotNumber, asides: Asides) -> Asides
+// CT3 and CT4 at place i of the node at s, whose child is t: "a non-root node with fewer than 3
+// entries leaves its parent, its entries are set aside, and its slot is zeroed and free at once";
+// else its cover is made tight.
+fn relieve(pool: &mut [i32], s: SlotNumber, i: usize, t: SlotNumber, asides: &mut Asides)
     requires fit { Fit pool.old }
     requires child_at { ChildAt (L.read pool.old) s i t }
-    requires known { Known (L.read pool.old) asides.free }
-    requires roomy { Roomy asides }
-    requires count_bound { asides.count ≤ 12 }
-    ensures { Has (D.relieve (D.place s i) t (condensed (L.read pool.old) (asides_of asides))) result pool.new }
+    requires known { Known (L.read pool.old) asides.old.free }
+    requires count_bound { asides.old.count ≤ 12 }
+    ensures { Has (D.relieve (D.place s i) t (condensed (L.read pool.old) (asides_of asides.old)))
+        asides.new pool.new }
 {
-    if pool::count_of(pool, t) < LEAST {
-        let level = pool::level_of(pool, t);
-        let more = set_aside(pool, t, level, asides);
+    let child = Node::at(pool, t);
+    if child.count() < LEAST {
+        set_aside(&child, asides);
         take_out(pool, s, i);
         zero_slot(pool, t);
-        return with_free(more, t);
+        asides.free = free_slots::more_slot(asides.free, t);
+    } else {
+        nodes::tighten(pool, s, i);
     }
-    nodes::tighten(pool, s, i);
-    asides
 }
 
 // ---- where nothing is set aside
 
-// Whether a leaf would be left with too few entries, and leave its parent: only then is anything set aside. A root that is a leaf may have
-// any number.
-fn thin(pool: &[i32], leaf: SlotNumber) -> bool
-    requires { InPool pool.now leaf }
-    ensures { result ≡ thin_at (L.read pool.now) leaf }
+// Whether a leaf would be left with too few entries, and leave its parent: only then is anything
+// set aside. A root that is a leaf may have any number.
+fn thin(pool: Pool<'_>, leaf: SlotNumber) -> bool
+    requires { InPool pool.words.now leaf }
+    ensures { result ≡ thin_at (read pool.entry) leaf }
 {
-    (pool::count_of(pool, leaf) <= LEAST) & (1 < pool::height_of(pool))
+    (pool.node(leaf).count() <= LEAST) & (1 < pool.height())
 }
 
-// CT4 at place i of the node at s, whose child is t: its cover is made tight. Whether that changed it: a cover that is tight is not written
-// again.
+// CT4 at place i of the node at s, whose child is t: its cover is made tight. Whether that changed
+// it: a cover that is tight is not written again.
 fn tightened(pool: &mut [i32], s: SlotNumber, i: usize, t: SlotNumber) -> bool
     requires fit_2 { Fit pool.old }
     requires child_at { ChildAt (L.read pool.old) s i t }
@@ -148,17 +107,18 @@ fn tightened(pool: &mut [i32], s: SlotNumber, i: usize, t: SlotNumber) -> bool
     ensures fit { Fit pool.new }
     ensures changed { result ≡ wide_at (L.read pool.old) s i }
 {
-    let rect = nodes::cover_of(pool, t);
-    let old = pool::rect_of(pool, s, i);
-    if geometry::same_rect(rect, old) {
+    let rect = nodes::cover_of(&Node::at(pool, t));
+    let old = Node::at(pool, s).rect(i);
+    if rect == old {
         return false;
     }
     pool::put_rect_of(pool, s, i, rect);
     true
 }
 
-// D2 and CT4 for a leaf that is not thin: the pair goes out, and covers are made tight up the way, as far as they change. Above a cover
-// that stays as it was the nodes are as they were, and their covers were tight.
+// D2 and CT4 for a leaf that is not thin: the pair goes out, and covers are made tight up the way,
+// as far as they change. Above a cover that stays as it was the nodes are as they were, and their
+// covers were tight.
 fn tighten_up(pool: &mut [i32], way: Way, height: usize)
     requires fit_2 { Fit pool.old }
     requires comes_down { ComesDown (L.read pool.old) height way }
@@ -167,79 +127,52 @@ fn tighten_up(pool: &mut [i32], way: Way, height: usize)
     ensures fit { Fit pool.new }
     ensures free { StillKnown (L.read pool.old) (L.read pool.new) }
 {
-    let nodes = way.nodes;
-    let places = way.places;
-    take_out(pool, nodes[0], places[0]);
-    let mut l: usize = 1;
-    while l < height {
-        if !tightened(pool, nodes[l], places[l], nodes[l - 1]) {
+    let steps = way.steps;
+    take_out(pool, steps[0].node, steps[0].place);
+    // By index, since a turn takes a step and the one below it; in `condense` too.
+    for l in 1..height {
+        let step = steps[l];
+        if !tightened(pool, step.node, step.place, steps[l - 1].node) {
             return;
         }
-        l += 1;
     }
 }
 
 // ---- CondenseTree
 
-// Nothing is set aside yet.
-fn none_aside(free: FreeSlots) -> Asides
-    ensures is { asides_of result ≡ [] }
-    ensures roomy { Roomy result }
-    ensures free { result.free ≡ free }
-{
-    let entries = [pool::no_entry(); MOST_ASIDE];
-    let levels = [0; MOST_ASIDE];
-    Asides {
-        entries,
-        levels,
-        count: 0,
-        free,
-    }
-}
-
 // D2, then CT1 to CT5 up the way that FindLeaf came down.
-fn condense(pool: &mut [i32], way: Way, height: usize, free: FreeSlots) -> Asides
+fn condense(pool: &mut [i32], way: Way, height: usize, asides: &mut Asides)
     requires fit { Fit pool.old }
     requires comes_down { ComesDown (L.read pool.old) height way }
-    requires known { Known (L.read pool.old) free }
-    ensures { Has (D.condense (L.read pool.old) (path_of height way)) result pool.new }
+    requires known { Known (L.read pool.old) asides.old.free }
+    requires none { asides_of asides.old ≡ [] }
+    ensures { Has (D.condense (L.read pool.old) (path_of height way)) asides.new pool.new }
 {
-    let nodes = way.nodes;
-    let places = way.places;
-    take_out(pool, nodes[0], places[0]);
-    let mut asides = none_aside(free);
-    let mut l: usize = 1;
-    while l < height {
-        asides = relieve(pool, nodes[l], places[l], nodes[l - 1], asides);
-        l += 1;
+    let steps = way.steps;
+    take_out(pool, steps[0].node, steps[0].place);
+    for l in 1..height {
+        let step = steps[l];
+        relieve(pool, step.node, step.place, steps[l - 1].node, asides);
     }
-    asides
 }
 
-// CT6: "entries set aside are inserted again, lowest level first, in stored order, each at its own level, by the insert rules".
-fn reinsert(pool: &mut [i32], asides: Asides) -> Outcome
+// CT6: "entries set aside are inserted again, lowest level first, in stored order, each at its own
+// level, by the insert rules".
+fn reinsert(pool: &mut [i32], asides: &Asides) -> Option<FreeSlots>
     requires fit { Fit pool.old }
-    requires waiting { Waiting (L.read pool.old) (asides_of asides) × OwnedAside (L.read pool.old).edition (asides_of asides) }
-    requires known { Known (L.read pool.old) asides.free }
-    requires roomy { Roomy asides }
-    requires count_bound { (asides.count ≤ 14) × ((L.read pool.old).height ≤ 8) }
-    ensures is { Removes pool.old (D.reinsert I.ours (L.read pool.old) (asides_of asides)) result pool.new }
+    requires waiting { Waiting (L.read pool.old) (asides_of asides.now)
+        × OwnedAside (L.read pool.old).edition (asides_of asides.now) }
+    requires known { Known (L.read pool.old) asides.now.free }
+    requires height_bound { (L.read pool.old).height ≤ 8 }
+    ensures is { Removes pool.old (D.reinsert I.ours (L.read pool.old) (asides_of asides.now))
+        result pool.new }
     ensures high { (L.read pool.new).height ≤ 22 }
 {
-    let entries = asides.entries;
-    let levels = asides.levels;
-    let n = asides.count;
     let mut free = asides.free;
-    let mut left = n;
-    while 0 < left {
-        let k = n - left;
-        let Outcome::Made(after) = insert::insert_at(pool, levels[k], entries[k], free) else {
-            return Outcome::Refused;
-        };
-        free = after;
-        left -= 1;
+    for a in &asides.list[..asides.count] {
+        free = insert::insert_at(pool, a.level, a.entry, free)?;
     }
-    Outcome::Made(free)
+    Some(free)
 }
 
 // ---- Delete
@@ -252,13 +185,15 @@ fn shorten(pool: &mut [i32], free: FreeSlots) -> FreeSlots
     requires known { Known (L.read pool.old) free }
     ensures { HoldsPool (D.shorten (L.read pool.old)) result pool.new }
 {
-    let s = pool::root_of(pool);
-    let height = pool::height_of(pool);
+    let tree = Pool::over(pool);
+    let s = tree.root();
+    let height = tree.height();
     if height == 1 {
         return free;
     }
-    if pool::count_of(pool, s) == 1 {
-        let t = pool::child_of(pool, s, 0);
+    let root = tree.node(s);
+    if root.count() == 1 {
+        let t = root.child(0);
         zero_slot(pool, s);
         pool::put_root(pool, t, height - 1);
         return free_slots::more_slot(free, s);
@@ -267,18 +202,17 @@ fn shorten(pool: &mut [i32], free: FreeSlots) -> FreeSlots
 }
 
 // CT6, then D4.
-fn put_back(pool: &mut [i32], asides: Asides) -> Outcome
+fn put_back(pool: &mut [i32], asides: &Asides) -> Option<FreeSlots>
     requires fit { Fit pool.old }
-    requires waiting { Waiting (L.read pool.old) (asides_of asides) × OwnedAside (L.read pool.old).edition (asides_of asides) }
-    requires known { Known (L.read pool.old) asides.free }
-    requires roomy { Roomy asides }
-    requires count_bound { (asides.count ≤ 14) × ((L.read pool.old).height ≤ 8) }
-    ensures { Removes pool.old (D.put_back I.ours (condensed (L.read pool.old) (asides_of asides))) result pool.new }
+    requires waiting { Waiting (L.read pool.old) (asides_of asides.now)
+        × OwnedAside (L.read pool.old).edition (asides_of asides.now) }
+    requires known { Known (L.read pool.old) asides.now.free }
+    requires height_bound { (L.read pool.old).height ≤ 8 }
+    ensures { Removes pool.old
+        (D.put_back I.ours (condensed (L.read pool.old) (asides_of asides.now))) result pool.new }
 {
-    let Outcome::Made(after) = reinsert(pool, asides) else {
-        return Outcome::Refused;
-    };
-    Outcome::Made(shorten(pool, after))
+    let after = reinsert(pool, asides)?;
+    Some(shorten(pool, after))
 }
 
 // The count goes down by one.
@@ -288,28 +222,29 @@ fn count_off(pool: &mut [i32])
     ensures is { L.read pool.new ≡ P.put_records (L.read pool.old) ((L.read pool.old).records - 1) }
     ensures fit { Fit pool.new }
 {
-    let n = pool::records_of(pool);
+    let n = Pool::over(pool).records();
     pool::put_records(pool, n - 1);
 }
 
-// D1 to D4 for a pair that is held, by the way that FindLeaf found to it. From a leaf that is not thin nothing is set aside: no slot is
-// taken or freed, and the root stays. Where this is refused, the pool is left half done, and the caller writes over it: a caller that
-// cannot know that there are enough slots keeps a copy.
-pub fn delete_record(pool: &mut [i32], r: Record, way: Way, free: FreeSlots) -> Outcome
+// D1 to D4 for a pair that is held, by the way that FindLeaf found to it. From a leaf that is not
+// thin nothing is set aside: no slot is taken or freed, and the root stays. Where this is refused,
+// the pool is left half done, and the caller writes over it: a caller that cannot know that there
+// are enough slots keeps a copy.
+pub fn delete_record(pool: &mut [i32], r: Record, way: Way, free: FreeSlots) -> Option<FreeSlots>
     requires fit { Fit pool.old }
     requires whole { Whole (L.read pool.old) × (owners_sound (L.read pool.old) ≡ true) }
     requires known { Known (L.read pool.old) free }
-    requires found_value { way.found ≡ true }
-    requires gives { Gives (D.path_to (L.read pool.old) r) (L.read pool.old).height way }
+    requires gives { Gives (D.path_to (L.read pool.old) r) (L.read pool.old).height (Some way) }
     ensures { Removes pool.old (D.delete_record I.ours (L.read pool.old) r) result pool.new }
 {
-    let height = pool::height_of(pool);
+    let height = Pool::over(pool).height();
     count_off(pool);
-    let nodes = way.nodes;
-    if !thin(pool, nodes[0]) {
+    let steps = way.steps;
+    if !thin(Pool::over(pool), steps[0].node) {
         tighten_up(pool, way, height);
-        return Outcome::Made(free);
+        return Some(free);
     }
-    let asides = condense(pool, way, height, free);
-    put_back(pool, asides)
+    let mut asides = Asides::none(free);
+    condense(pool, way, height, &mut asides);
+    put_back(pool, &asides)
 }

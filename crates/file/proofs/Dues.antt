@@ -2,19 +2,20 @@
 use mathlib.Core.Path.{◌≡◌, refl, sym, ap, ap₂, subst, ◌∙◌}
 use mathlib.Core.Bool.{Bool, true, false, cond}
 use mathlib.Core.List.{List}
-use mathlib.Core.Option.{Option, none, some}
+use Rattle.std.specs.Prelude.{Option, None, Some}
 use Prim.Native.Nat.{ℕ, zero, suc, ◌+◌, ◌*◌, ◌-◌, ◌≤◌, ◌<◌}
 use native.Mathlib.Omega.{arith}
 use lib.ListN.{length, take, drop}
 use lib.Seq.{drop-drop}
 use lib.Dec.{eqb}
-use lib.IntN.{ℤ, pos}
+use lib.IntN.{ℤ}
 use borrow.Author.Tests.{le-leb, eq-eqb}
 use Rattle.rules.specs.declared.Edition.{Edition}
 use Rattle.rules.specs.declared.Edition.TheVariants.{One, Two}
 use Rattle.rules.specs.declared.Rect.{Rect}
 use Rattle.rules.specs.declared.Owner.{Owner}
 use Rattle.rules.specs.declared.Record.{Record}
+use Rattle.rules.specs.declared.FileFault.TheVariants.{BadRectangle, BadNumber, BadOwner, BadFrame, NotAfter}
 use Rattle.rules.specs.Numbers.{good_number}
 use Rattle.rules.specs.Owners.{owner, nobody, owner_sound}
 use Rattle.rules.specs.Geometry.{valid}
@@ -22,37 +23,37 @@ use Rattle.rules.specs.Pool.{number}
 use Rattle.rules.specs.Layout.{word_at}
 use Rattle.rules.specs.Answers.{first_row}
 use Rattle.rules.specs.Frames.{pair_value, word_values, rect_in}
-use Rattle.rules.specs.File.{file_number, Due, frame_due, record_kind, record_size, record_in, before_in_file, follows, record_fault}
+use Rattle.rules.specs.File.{Due, frame_due, record_kind, record_size, record_in, before_in_file, follows, record_fault}
 use Rattle.rules_laws.proofs.Orders.{never_both}
 use Rattle.frames.specs.Places.{word_from, rect_of_bytes}
 use Rattle.frames.proofs.Words.{words_at}
 use Rattle.file_laws.proofs.Due.{due_in, due_places, due_short, due_length, due_stands}
-use Rattle.file.specs.Loading.{is_due, record_bytes, place_of, record_at, last_at, pair_from, number_of, is_record, frame_fault, fault_at}
+use Rattle.file.specs.Loading.{is_due, record_bytes, place_of, record_at, last_at, pair_from, is_record, frame_fault}
 
 -- ---- is it there
 
-pub not_due : (k n : ℕ) (bs : List ℕ) → frame_due k n bs ≡ none → false ≡ is_due k n bs
+pub not_due : (k n : ℕ) (bs : List ℕ) → frame_due k n bs ≡ None → false ≡ is_due k n bs
 unfolding is_due
 not_due k n bs e = rw (is_due, e)
 
-pub is_due_lem : (k n : ℕ) (bs : List ℕ) (d : Due) → frame_due k n bs ≡ some d → is_due k n bs ≡ true
+pub is_due_lem : (k n : ℕ) (bs : List ℕ) (d : Due) → frame_due k n bs ≡ Some d → is_due k n bs ≡ true
 unfolding is_due
 is_due_lem k n bs d e = rw (is_due, e)
 
 -- one that is there, with its words and what comes after
-pub due_here : (k n : ℕ) (bs : List ℕ) → is_due k n bs ≡ true → frame_due k n bs ≡ some (due_in n bs)
+pub due_here : (k n : ℕ) (bs : List ℕ) → is_due k n bs ≡ true → frame_due k n bs ≡ Some (due_in n bs)
 due_here k n bs h = go (frame_due k n bs) refl
   where
-    go : (o : Option Due) → frame_due k n bs ≡ o → frame_due k n bs ≡ some (due_in n bs)
-    go none e = never_both h (sym (not_due k n bs e))
-    go (some d) e = e ∙ ap some (sym (due_stands k n bs d e).1)
+    go : (o : Option Due) → frame_due k n bs ≡ o → frame_due k n bs ≡ Some (due_in n bs)
+    go None e = never_both h (sym (not_due k n bs e))
+    go (Some d) e = e ∙ ap Some (sym (due_stands k n bs d e).1)
 
-pub none_due : (k n : ℕ) (bs : List ℕ) → is_due k n bs ≡ false → frame_due k n bs ≡ none
+pub none_due : (k n : ℕ) (bs : List ℕ) → is_due k n bs ≡ false → frame_due k n bs ≡ None
 none_due k n bs h = go (frame_due k n bs) refl
   where
-    go : (o : Option Due) → frame_due k n bs ≡ o → frame_due k n bs ≡ none
-    go none e = e
-    go (some d) e = never_both (is_due_lem k n bs d e) h
+    go : (o : Option Due) → frame_due k n bs ≡ o → frame_due k n bs ≡ None
+    go None e = e
+    go (Some d) e = never_both (is_due_lem k n bs d e) h
 
 -- the frame of record j, as the code asks for it
 pub due_told : (e : Edition) (bs : List ℕ) (j : ℕ) {k n p : ℕ} {t : Bool} → k ≡ record_kind e → n ≡ record_size e → p ≡ place_of e j
@@ -74,7 +75,7 @@ module _ (k n : ℕ) (bs : List ℕ) where
   pub due_kinds : 4 + 4 * n ≤ length bs → pair_value (take 2 bs) ≡ 2 + 4 * n → {j : ℕ} → j ≡ pair_value (take 2 (drop 2 bs)) → eqb j k ≡ is_due k n bs
   due_kinds h s {j} e = rw e (go (eqb (pair_value (take 2 (drop 2 bs))) k) refl)
     where
-      places : (b : Bool) → eqb (pair_value (take 2 (drop 2 bs))) k ≡ b → frame_due k n bs ≡ cond b (some (due_in n bs)) none
+      places : (b : Bool) → eqb (pair_value (take 2 (drop 2 bs))) k ≡ b → frame_due k n bs ≡ cond b (Some (due_in n bs)) None
       places b f = due_places k n bs ∙ rw (le-leb (4 + 4 * n) (length bs) h, eq-eqb (pair_value (take 2 bs)) (2 + 4 * n) s, f)
 
       go : (b : Bool) → eqb (pair_value (take 2 (drop 2 bs))) k ≡ b → eqb (pair_value (take 2 (drop 2 bs))) k ≡ is_due k n bs
@@ -167,33 +168,36 @@ module _ (ed : Edition) (bs : List ℕ) where
 -- ---- what refuses it
 
 module _ (e : Edition) (bs : List ℕ) (k : ℕ) where
-  pub fault_10 : is_record e bs k ≡ false → pos 10 ≡ fault_at e bs k
-  unfolding frame_fault number_of file_number
-  fault_10 h = rw (frame_fault, h)
+  pub not_there : is_record e bs k ≡ false → frame_fault e bs k ≡ Some BadFrame
+  unfolding frame_fault
+  not_there h = rw (frame_fault, h)
 
   module _ (h : is_record e bs k ≡ true) where
     here : frame_fault e bs k ≡ record_fault e (last_at e bs k) (record_at e bs k)
     unfolding frame_fault
     here = rw (frame_fault, h)
 
-    pub fault_3 : valid (record_at e bs k).rect ≡ false → pos 3 ≡ fault_at e bs k
-    unfolding record_fault first_row number_of file_number
-    fault_3 a = rw (here, a)
+    -- .. by the tests that the code makes of the record there
+    module _ {r : Record} (is : r ≡ record_at e bs k) where
+      pub bad_rectangle : valid r.rect ≡ false → frame_fault e bs k ≡ Some BadRectangle
+      unfolding record_fault first_row
+      bad_rectangle a = rw (here, sym is, a)
 
-    pub fault_4 : valid (record_at e bs k).rect ≡ true → good_number (record_at e bs k).number ≡ false → pos 4 ≡ fault_at e bs k
-    unfolding record_fault first_row number_of file_number
-    fault_4 a b = rw (here, a, b)
+      module _ (a : valid r.rect ≡ true) where
+        pub bad_number : good_number r.number ≡ false → frame_fault e bs k ≡ Some BadNumber
+        unfolding record_fault first_row
+        bad_number b = rw (here, sym is, a, b)
 
-    module _ (a : valid (record_at e bs k).rect ≡ true) (b : good_number (record_at e bs k).number ≡ true) where
-      pub fault_13 : owner_sound e (record_at e bs k).owner ≡ false → pos 13 ≡ fault_at e bs k
-      unfolding record_fault first_row number_of file_number
-      fault_13 c = rw (here, a, b, c)
+        module _ (b : good_number r.number ≡ true) where
+          pub bad_owner : owner_sound e r.owner ≡ false → frame_fault e bs k ≡ Some BadOwner
+          unfolding record_fault first_row
+          bad_owner c = rw (here, sym is, a, b, c)
 
-      module _ (c : owner_sound e (record_at e bs k).owner ≡ true) where
-        pub fault_11 : follows (last_at e bs k) (record_at e bs k) ≡ false → pos 11 ≡ fault_at e bs k
-        unfolding record_fault first_row number_of file_number
-        fault_11 d = rw (here, a, b, c, d)
+          module _ (c : owner_sound e r.owner ≡ true) where
+            pub not_after : follows (last_at e bs k) (record_at e bs k) ≡ false → frame_fault e bs k ≡ Some NotAfter
+            unfolding record_fault first_row
+            not_after d = let f = subst (λ (x : Record). follows (last_at e bs k) x ≡ false) (sym is) d in rw (here, sym is, a, b, c, f)
 
-        pub fault_0 : follows (last_at e bs k) (record_at e bs k) ≡ true → pos 0 ≡ fault_at e bs k
-        unfolding record_fault first_row number_of file_number
-        fault_0 d = rw (here, a, b, c, d)
+            pub no_fault : follows (last_at e bs k) (record_at e bs k) ≡ true → (frame_fault e bs k ≡ None) × (r ≡ record_at e bs k)
+            unfolding record_fault first_row
+            no_fault d = let f = subst (λ (x : Record). follows (last_at e bs k) x ≡ true) (sym is) d in (rw (here, sym is, a, b, c, f), is)

@@ -23,6 +23,7 @@ use Rattle.found_items.proofs.Words as I
 use Rattle.frames.specs.Writing.{Wrote}
 use Rattle.frames.proofs.Texts.{nothing_wrote, wrote_then, wrote_as, wrote_length}
 use Rattle.file_laws.proofs.Distinct.{distinct_none, distinct_new, distinct_next, distinct_ascending}
+use mir.Val.{bool_byte}
 use Rattle.file.specs.Items.{Listed, InOrder, is_new, new_from, first_owner, second_carried, CountsFile}
 use Rattle.file.specs.Filling.{own_frames}
 use Rattle.file.proofs.Listing.{count_two}
@@ -182,12 +183,16 @@ pub record Counted (pool items : List ℤ) (n k count : ℕ) : Type 0 where
 pub count_first : (pool items : List ℤ) (n : ℕ) → Counted pool items n 0 0
 count_first pool items n = record { to = record { rest = n; left = omega arith }; few = omega arith; all = omega arith }
 
-pub count_next : {pool items : List ℤ} {n k count r : ℕ} (b : Bool) → Counted pool items n k count → k < n → b ≡ is_new pool items k → r ≡ cond b 1 0
+pub bool_byte_most : (b : Bool) → bool_byte b ≤ 1
+bool_byte_most true = omega arith
+bool_byte_most false = omega arith
+
+pub count_next : {pool items : List ℤ} {n k count r : ℕ} (b : Bool) → Counted pool items n k count → k < n → b ≡ is_new pool items k → r ≡ bool_byte b
     → Counted pool items n (k + 1) (count + r)
 count_next {pool} {items} {n} {k} {count} {r} b c h e f = go c.to.rest c.to.left c.all b e f
   where
     go : (m : ℕ) → k + m ≡ n → count + length (new_from pool items k m) ≡ length (new_from pool items 0 n) → (b : Bool) → b ≡ is_new pool items k
-        → r ≡ cond b 1 0 → Counted pool items n (k + 1) (count + r)
+        → r ≡ bool_byte b → Counted pool items n (k + 1) (count + r)
     go zero l a b e f = absurd (omega arith)
     go (suc m) l a true e f =
         let j : k + 1 ≡ suc k = omega arith in

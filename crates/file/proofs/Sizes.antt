@@ -44,14 +44,15 @@ unfolding place_of
 place_next One k = omega arith
 place_next Two k = omega arith
 
--- .. by the edition that the code is told
-pub place_one : (e : Edition) (k : ℕ) → e ≡ One → (12 + 24 * k ≡ place_of e k) × (12 + 24 * k ≤ 12 + 28 * k)
-unfolding place_of
-place_one e k q = (ap (λ (x : Edition). place_of x k) (sym q), omega arith)
+-- .. by the words that a record's frame has
+pub place_most : (e : Edition) (k : ℕ) → record_bytes e * k ≤ 28 * k
+place_most One k = omega arith
+place_most Two k = omega arith
 
-pub place_two : (e : Edition) (k : ℕ) → e ≡ Two → (12 + 28 * k ≡ place_of e k) × (12 + 28 * k ≤ 12 + 28 * k)
+pub place_told : (e : Edition) (k : ℕ) {words : ℕ} → words ≡ record_size e
+    → (12 + (4 + 4 * words) * k ≡ place_of e k) × (12 + (4 + 4 * words) * k ≤ 12 + 28 * k)
 unfolding place_of
-place_two e k q = (ap (λ (x : Edition). place_of x k) (sym q), omega arith)
+place_told e k q = rw q (refl, omega (arith, place_most e k))
 
 -- the one before ends where it begins
 pub place_before : (e : Edition) (k : ℕ) → (k ≡ 0 → ⊥) → place_of e (k - 1) + record_bytes e ≡ place_of e k

@@ -1,78 +1,85 @@
-// Req 02, "Carry the map between offices": the records of a pool in one file, and a pool from such a file. The file is frames as in `dustmap`,
-// every frame of a kind having one size, so that record k of a file begins at byte 12 + 24k. Req 07, "the file .. gains edition 2": there each
-// record has its owner before it, and record k begins at byte 12 + 28k.
+// Req 02, "Carry the map between offices": the records of a pool in one file, and a pool from such
+// a file. The file is frames as in `dustmap`, every frame of a kind having one size, so that record
+// k of a file begins at byte 12 + 24k. Req 07, "the file .. gains edition 2": there each record has
+// its owner before it, and record k begins at byte 12 + 28k.
 #![tactic(auto)]
 
-ghost use Rattle.std.specs.Prelude.{◌≡◌, true, ◌++◌, map, ◌+◌, ◌*◌, ◌≤◌, ◌<◌, length, drop, pos};
-ghost use Rattle.std.proofs.Math.Option.{none};
+ghost use Rattle.std.specs.Prelude.{◌≡◌, true, ◌++◌, map, ◌+◌, ◌*◌, ◌≤◌, ◌<◌, length, drop, None};
+ghost use Rattle.std.specs.Result.{result_unwrap_or};
 ghost use Rattle.std.proofs.lemmas.List.Edits.{sets};
 ghost use Rattle.rules.specs.Lists.{joined};
-ghost use Rattle.rules.specs.Owners.{edition_number, owner_in, owner_sound, as_found};
+ghost use Rattle.rules.specs.Owners.{owner_in, owner_sound, as_found};
 ghost use Rattle.rules.specs.Layout as L;
 ghost use Rattle.rules.specs.Insert.{ours};
 ghost use Rattle.rules.specs.File as F;
 ghost use Rattle.layout_laws.specs.Slots.{Fit};
+ghost use Rattle.pool.specs.Reading.{read};
 ghost use Rattle.free_slots.specs.Known.{Known};
 ghost use Rattle.sound_laws.specs.Tree.{Whole};
 ghost use Rattle.search_laws.specs.Window.{whole_site};
 ghost use Rattle.frames.specs.Writing.{Wrote};
-ghost use Rattle.file.specs.Items.{Listed, InOrder, is_new, new_from, item_words, first_owner, second_carried, CountsFile};
+ghost use Rattle.file.specs.Items.{Listed, InOrder, is_new, new_from, item_words, first_owner};
+ghost use Rattle.file.specs.Items.{second_carried, CountsFile};
 ghost use Rattle.promises.specs.Files.{Writes, Reads};
-ghost use Rattle.file.specs.Filling.{owner_bytes, own_frames, Fills};
-ghost use Rattle.file.specs.Loading.{is_due, record_bytes, place_of, pair_from, record_at, last_at, fault_at, Took, took_at, Loads, end_fault, settled};
+ghost use Rattle.file.specs.Filling.{owner_bytes, new_frames, second_frames, Fills};
+ghost use Rattle.file.specs.Loading.{is_due, record_bytes, place_of, pair_from, record_at};
+ghost use Rattle.file.specs.Loading.{last_at, number_of, Gives, Took, took_at, Loads, end_told};
+ghost use Rattle.file.specs.Loading.{settled};
 
 use free_slots::FreeSlots;
-use geometry::{less_then, one_if};
-use insert::Outcome;
-use rules::{Edition, FoundRecord, MOST, MOST_SLOTS, Mode, Owner, Record, RecordNumber, Rect};
+use geometry::less_then;
+use pool::node::Pool;
+use rules::{
+    Edition, FileFault, FoundRecord, MOST, MOST_SLOTS, Mode, Owner, Record, RecordNumber, Rect,
+};
 
 // ---- sizes, in bytes: two for a frame's length, two for its kind, four for each word
 
 // "kind 16 first (edition 1, record count)"
 const HEAD_BYTES: usize = 12;
 
-// "kind 17 per record (number, rectangle)"
-const RECORD_BYTES: usize = 24;
-
-// Req 07: "kind 19 (owner, then as 17)"
-const OWNED_BYTES: usize = 28;
+// The length of a frame and its kind, which stand before its words.
+const START_BYTES: usize = 4;
 
 // "kind 18 last with no words"
 const END_BYTES: usize = 4;
 
-// Two words for the item of every record that a pool has room for, and as many again as scratch for the order.
+// Two words for the item of every record that a pool has room for, and as many again as scratch for
+// the order.
 const ITEM_WORDS: usize = 4 * MOST * MOST_SLOTS;
 
 // ---- what an edition has of its own
 
-// As the head of a file has it: "edition 1", and Req 07 "edition 2".
-fn edition_number(edition: Edition) -> i32
-    ensures { result ≡ pos (edition_number edition) }
-{
-    match edition {
-        Edition::One => 1,
-        Edition::Two => 2,
-    }
+// The kind of a record's frame, how many words it has, and whose records come first.
+#[derive(Clone, Copy)]
+struct FileForm {
+    kind: u16,
+    words: u16,
+    first: Owner,
 }
 
-// "kind 17 per record (number, rectangle)"; "kind 19 (owner, then as 17)".
-fn record_kind(edition: Edition) -> u64
-    ensures { result ≡ F.record_kind edition }
-{
-    match edition {
-        Edition::One => 17,
-        Edition::Two => 19,
-    }
-}
-
-// How many words those are: a rectangle has four.
-fn record_words(edition: Edition) -> usize
-    ensures is { result ≡ F.record_size edition }
-    ensures most { result ≤ 6 }
-{
-    match edition {
-        Edition::One => 5,
-        Edition::Two => 6,
+impl FileForm {
+    // "kind 17 per record (number, rectangle)", a rectangle being four words; "kind 19 (owner, then
+    // as 17)". "ordered by owner first": in edition 1 the records are nobody's, and no others come
+    // after them.
+    fn of(edition: Edition) -> FileForm
+        ensures kind { result.kind ≡ F.record_kind edition }
+        ensures words { result.words ≡ F.record_size edition }
+        ensures few { result.words ≤ 6 }
+        ensures first { result.first ≡ first_owner edition }
+    {
+        match edition {
+            Edition::One => FileForm {
+                kind: 17,
+                words: 5,
+                first: Owner(0),
+            },
+            Edition::Two => FileForm {
+                kind: 19,
+                words: 6,
+                first: Owner(1),
+            },
+        }
     }
 }
 
@@ -82,20 +89,8 @@ fn place_of(edition: Edition, k: usize) -> usize
     ensures is { result ≡ place_of edition k }
     ensures most { result ≤ 12 + 28 * k }
 {
-    match edition {
-        Edition::One => HEAD_BYTES + RECORD_BYTES * k,
-        Edition::Two => HEAD_BYTES + OWNED_BYTES * k,
-    }
-}
-
-// "ordered by owner first": whose records come first. In edition 1 they are nobody's, and no others come after them.
-fn first_owner(edition: Edition) -> Owner
-    ensures { result ≡ first_owner edition }
-{
-    match edition {
-        Edition::One => Owner(0),
-        Edition::Two => Owner(1),
-    }
+    let bytes = START_BYTES + 4 * usize::from(FileForm::of(edition).words);
+    HEAD_BYTES + bytes * k
 }
 
 // ---- the records of an owner, in found order
@@ -112,23 +107,24 @@ fn whole_site() -> Rect
     }
 }
 
-// All stored records of an owner, as items in found order: what the owner's search of the whole site finds. It says how many they are.
-fn list_all(pool: &[i32], owner: Owner, items: &mut [i32]) -> usize
-    requires pool_value { L.valid_length pool.now ≡ true }
-    requires whole { Whole (L.read pool.now) }
-    requires owner_value { owner_in (L.edition_of pool.now) owner ≡ owner }
+// All stored records of an owner, as items in found order: what the owner's search of the whole
+// site finds. It says how many they are.
+fn list_all(pool: Pool<'_>, owner: Owner, items: &mut [i32]) -> usize
+    requires whole { Whole (read pool) }
+    requires owner_value { owner_in (L.edition_of pool.words.now) owner ≡ owner }
     requires len { length items.old ≡ item_words }
-    ensures { InOrder pool.now owner items.new result }
+    ensures { InOrder pool.entry.words.now owner items.new result }
 {
     let site = whole_site();
     let w = search::list(pool, owner, Mode::Meeting, site, items);
     let n = w.next;
-    found_order::sort(pool, items, n);
+    found_order::sort(pool.words, items, n);
     n
 }
 
-// "drops a pair held twice": whether item k is another pair than the one before it. In found order a pair that is held twice stands beside
-// itself.
+// "drops a pair held twice": whether item k is another pair than the one before it. In found order
+// a pair that is held twice stands beside itself. (What goes by items takes the words: these they
+// point into, and nothing is read as a pool.)
 fn is_new(pool: &[i32], items: &[i32], n: usize, k: usize) -> bool
     requires listed { Listed pool.now items.now n }
     requires k_lt_n { k < n }
@@ -146,28 +142,27 @@ fn count_new(pool: &[i32], items: &[i32], n: usize) -> usize
     ensures is { result ≡ length (new_from pool.now items.now 0 n) }
     ensures most { result ≤ n }
 {
-    let mut count: usize = 0;
-    let mut k: usize = 0;
-    while k < n {
-        count += one_if(is_new(pool, items, n, k));
-        k += 1;
+    let mut count = 0;
+    for k in 0..n {
+        count += usize::from(is_new(pool, items, n, k));
     }
     count
 }
 
-// How many records a file has after those of the first owner. In edition 1 there are none, and nothing is listed.
-fn count_second(pool: &[i32], items: &mut [i32]) -> usize
-    requires pool_value { L.valid_length pool.now ≡ true }
-    requires whole { Whole (L.read pool.now) }
+// How many records a file has after those of the first owner. In edition 1 there are none, and
+// nothing is listed.
+fn count_second(pool: Pool<'_>, items: &mut [i32]) -> usize
+    requires whole { Whole (read pool) }
     requires len { length items.old ≡ item_words }
-    ensures is { result ≡ length (second_carried (L.edition_of pool.now) (L.read pool.now)) }
+    ensures is { result
+        ≡ length (second_carried (L.edition_of pool.entry.words.now) (read pool.entry)) }
     ensures most { result ≤ 32768 }
 {
-    match pool::edition_of(pool) {
+    match pool::edition_of(pool.words) {
         Edition::One => 0,
         Edition::Two => {
             let n = list_all(pool, Owner(2), items);
-            count_new(pool, items, n)
+            count_new(pool.words, items, n)
         }
     }
 }
@@ -175,14 +170,14 @@ fn count_second(pool: &[i32], items: &mut [i32]) -> usize
 // ---- the bytes of a file. Each of these gives the place after what it wrote
 
 // "two bytes length of what follows, two bytes kind"
-fn put_start(file: &mut [u8], at: usize, kind: u64, words: usize) -> usize
+fn put_start(file: &mut [u8], at: usize, kind: u16, words: u16) -> usize
     requires at_in_bounds { at + 4 ≤ length file.old }
     requires words_bound { words ≤ 6 }
-    ensures { Wrote file.old at (F.pair_bytes (2 + 4 * words) ++ F.pair_bytes kind) file.new result }
+    ensures { Wrote file.old at (F.pair_bytes (2 + 4 * words) ++ F.pair_bytes kind)
+        file.new result }
 {
-    let long = 2 + 4 * words;
-    let next = frames::put_pair(file, at, long as u64);
-    frames::put_pair(file, next, kind)
+    let next = frames::put_pair(file, at, u64::from(2 + 4 * words));
+    frames::put_pair(file, next, u64::from(kind))
 }
 
 // "kind 16 first (edition 1, record count)"; Req 07: edition 2
@@ -192,11 +187,12 @@ fn put_head(file: &mut [u8], edition: Edition, count: usize) -> usize
     ensures { Wrote file.old 0 (F.head_frame edition count) file.new result }
 {
     let start = put_start(file, 0, 16, 2);
-    let number = frames::put_word(file, start, edition_number(edition));
+    let number = frames::put_word(file, start, edition.number());
     frames::put_word(file, number, count as i32)
 }
 
 // The owner's word of a record, which edition 1 does not have.
+// Here and below what is done is another thing in each edition, so `FileForm` does not have it.
 fn put_owner(file: &mut [u8], at: usize, edition: Edition, o: Owner) -> usize
     requires { at + length (owner_bytes edition o) ≤ length file.old }
     ensures { Wrote file.old at (owner_bytes edition o) file.new result }
@@ -227,7 +223,8 @@ fn put_record(file: &mut [u8], at: usize, edition: Edition, r: Record) -> usize
     ensures { Wrote file.old at (F.record_frame edition r) file.new result }
 {
     let owner = r.owner;
-    let start = put_start(file, at, record_kind(edition), record_words(edition));
+    let form = FileForm::of(edition);
+    let start = put_start(file, at, form.kind, form.words);
     let pair = put_owner(file, start, edition, owner);
     put_pair_words(file, pair, r)
 }
@@ -244,8 +241,8 @@ fn put_new(
 ) -> usize
     requires listed { Listed pool.now items.now n }
     requires k_lt_n { k < n }
-    requires k_in_bounds { at + length (own_frames (L.edition_of pool.now) owner (new_from pool.now items.now k 1)) ≤ length file.old }
-    ensures { Wrote file.old at (own_frames (L.edition_of pool.now) owner (new_from pool.now items.now k 1)) file.new result }
+    requires k_in_bounds { at + length (new_frames pool.now owner items.now k 1) ≤ length file.old }
+    ensures { Wrote file.old at (new_frames pool.now owner items.now k 1) file.new result }
 {
     if !is_new(pool, items, n, k) {
         return at;
@@ -272,134 +269,126 @@ fn put_records(
     at: usize,
 ) -> usize
     requires listed { Listed pool.now items.now n }
-    requires n_in_bounds { at + length (own_frames (L.edition_of pool.now) owner (new_from pool.now items.now 0 n)) ≤ length file.old }
-    ensures { Wrote file.old at (own_frames (L.edition_of pool.now) owner (new_from pool.now items.now 0 n)) file.new result }
+    requires n_in_bounds { at + length (new_frames pool.now owner items.now 0 n) ≤ length file.old }
+    ensures { Wrote file.old at (new_frames pool.now owner items.now 0 n) file.new result }
 {
     let mut next = at;
-    let mut k: usize = 0;
-    while k < n {
+    for k in 0..n {
         next = put_new(pool, items, n, k, owner, file, next);
-        k += 1;
     }
     next
 }
 
 // The frames after those of the first owner, of which edition 1 has none.
-fn put_second(pool: &[i32], items: &mut [i32], file: &mut [u8], at: usize) -> usize
-    requires pool_value { L.valid_length pool.now ≡ true }
-    requires whole { Whole (L.read pool.now) }
+fn put_second(pool: Pool<'_>, items: &mut [i32], file: &mut [u8], at: usize) -> usize
+    requires whole { Whole (read pool) }
     requires len { length items.old ≡ item_words }
-    requires pool_in_bounds { at + length (joined (map (F.record_frame (L.edition_of pool.now)) (second_carried (L.edition_of pool.now) (L.read pool.now)))) ≤ length file.old }
-    ensures { Wrote file.old at (joined (map (F.record_frame (L.edition_of pool.now)) (second_carried (L.edition_of pool.now) (L.read pool.now)))) file.new result }
+    requires pool_in_bounds { at + length (second_frames pool.words.now) ≤ length file.old }
+    ensures { Wrote file.old at (second_frames pool.entry.words.now) file.new result }
 {
-    match pool::edition_of(pool) {
+    match pool::edition_of(pool.words) {
         Edition::One => at,
         Edition::Two => {
             let owner = Owner(2);
             let n = list_all(pool, owner, items);
-            put_records(pool, items, n, owner, file, at)
+            put_records(pool.words, items, n, owner, file, at)
         }
     }
 }
 
-// "A writer fills the front of a lent buffer". The items are those of the first owner: these are written, and then the others' are listed.
-fn put_file(pool: &[i32], items: &mut [i32], n: usize, count: usize, file: &mut [u8])
-    requires pool_value { L.valid_length pool.now ≡ true }
-    requires whole { Whole (L.read pool.now) }
-    requires counts_file { CountsFile pool.now items.old n count }
-    requires pool_in_bounds { length (F.pool_file (L.read pool.now)) ≤ length file.old }
-    ensures { file.new ≡ sets file.old 0 (F.pool_file (L.read pool.now)) }
+// "A writer fills the front of a lent buffer". The items are those of the first owner: these are
+// written, and then the others' are listed.
+fn put_file(pool: Pool<'_>, items: &mut [i32], n: usize, count: usize, file: &mut [u8])
+    requires whole { Whole (read pool) }
+    requires counts_file { CountsFile pool.words.now items.old n count }
+    requires pool_in_bounds { length (F.pool_file (read pool)) ≤ length file.old }
+    ensures { file.new ≡ sets file.old 0 (F.pool_file (read pool.entry)) }
 {
-    let edition = pool::edition_of(pool);
-    let owner = first_owner(edition);
+    let edition = pool::edition_of(pool.words);
+    let owner = FileForm::of(edition).first;
     let first = put_head(file, edition, count);
-    let second = put_records(pool, items, n, owner, file, first);
+    let second = put_records(pool.words, items, n, owner, file, first);
     let end = put_second(pool, items, file, second);
     put_start(file, end, 18, 0);
 }
 
 // ---- the writer
 
-// What is known before the first byte is written: n items of the first owner, and how many records the file has in all.
+// What is known before the first byte is written: n items of the first owner, and how many records
+// the file has in all.
 #[derive(Clone, Copy)]
 struct FileCount {
     n: usize,
     count: usize,
 }
 
-// Counts the records before the first is written. The first owner's are listed last, so that they are the items there when writing begins.
-fn count_file(pool: &[i32], items: &mut [i32]) -> FileCount
-    requires pool_value { L.valid_length pool.now ≡ true }
-    requires whole { Whole (L.read pool.now) }
+// Counts the records before the first is written. The first owner's are listed last, so that they
+// are the items there when writing begins.
+fn count_file(pool: Pool<'_>, items: &mut [i32]) -> FileCount
+    requires whole { Whole (read pool) }
     requires len { length items.old ≡ item_words }
-    ensures { CountsFile pool.now items.new result.n result.count }
+    ensures { CountsFile pool.entry.words.now items.new result.n result.count }
 {
     let others = count_second(pool, items);
-    let owner = first_owner(pool::edition_of(pool));
+    let owner = FileForm::of(pool::edition_of(pool.words)).first;
     let n = list_all(pool, owner, items);
-    let count = count_new(pool, items, n) + others;
+    let count = count_new(pool.words, items, n) + others;
     FileCount { n, count }
 }
 
 // "8 if its buffer is short": how many bytes there will be is known before the first is written.
-fn fill(pool: &[i32], items: &mut [i32], file: &mut [u8], size: &mut u64) -> i32
-    requires pool_value { L.valid_length pool.now ≡ true }
-    requires whole { Whole (L.read pool.now) }
+fn fill(pool: Pool<'_>, items: &mut [i32], file: &mut [u8]) -> Result<usize, FileFault>
+    requires whole { Whole (read pool) }
     requires len { length items.old ≡ item_words }
-    ensures { Fills pool.now file.old result file.new size.new }
+    ensures { Fills pool.entry.words.now file.old result file.new }
 {
     let c = count_file(pool, items);
-    let count = c.count;
-    let bytes = place_of(pool::edition_of(pool), count) + END_BYTES;
+    let bytes = place_of(pool::edition_of(pool.words), c.count) + END_BYTES;
     if file.len() < bytes {
-        *size = 0;
-        return 8;
+        return Err(FileFault::ShortBuffer);
     }
-    put_file(pool, items, c.n, count, file);
-    *size = bytes as u64;
-    0
+    put_file(pool, items, c.n, c.count, file);
+    Ok(bytes)
 }
 
-// Of a sound pool only 8 is left to refuse. The writer is lent no workspace, so the words of the items are its own.
-fn write_sound(pool: &[i32], file: &mut [u8], size: &mut u64) -> i32
-    requires pool_value { L.valid_length pool.now ≡ true }
-    requires whole { Whole (L.read pool.now) }
-    ensures { Fills pool.now file.old result file.new size.new }
+// Of a sound pool only 8 is left to refuse. The writer is lent no workspace, so the words of the
+// items are its own.
+fn write_sound(pool: Pool<'_>, file: &mut [u8]) -> Result<usize, FileFault>
+    requires { Whole (read pool) }
+    ensures { Fills pool.entry.words.now file.old result file.new }
 {
     let mut items = [0i32; ITEM_WORDS];
-    fill(pool, &mut items[..], file, size)
+    fill(pool, &mut items[..], file)
 }
 
-// Writes the file of a pool to the front of a buffer, and how many bytes that are; or refuses, and the buffer stays.
-pub fn write(pool: &[i32], file: &mut [u8], size: &mut u64) -> i32
-    ensures { Writes pool.now file.old result file.new size.new }
+// Writes the file of a pool to the front of a buffer, and tells how many bytes that are; or
+// refuses, and the buffer stays.
+pub fn write(pool: &[i32], file: &mut [u8]) -> Result<usize, FileFault>
+    ensures { Writes pool.now file.old (number_of result) file.new (result_unwrap_or result 0) }
 {
-    *size = 0;
     if !pool::valid_length(pool) {
-        return 1;
+        return Err(FileFault::BadLength);
     }
-    if !sound::sound(pool) {
-        return 2;
+    let right = Pool::over(pool);
+    if !sound::sound(right) {
+        return Err(FileFault::NotSound);
     }
-    write_sound(pool, file, size)
+    write_sound(right, file)
 }
 
 // ---- frames read
 
 // Whether the frame that is due begins at a place: whole, of the kind, and with so many words.
-fn is_due(file: &[u8], at: usize, kind: u64, words: usize) -> bool
+fn is_due(file: &[u8], at: usize, kind: u16, words: u16) -> bool
     requires at_in_bounds { at ≤ length file.now }
     requires words_bound { words ≤ 6 }
     ensures { result ≡ is_due kind words (drop at file.now) }
 {
-    let size = 4 + 4 * words;
-    if file.len() - at < size {
+    let long = 2 + 4 * words;
+    if file.len() - at < 2 + usize::from(long) {
         return false;
     }
-    if frames::pair_at(file, at) as usize != 2 + 4 * words {
-        return false;
-    }
-    frames::pair_at(file, at + 2) == kind
+    frames::pair_at(file, at) == long && frames::pair_at(file, at + 2) == kind
 }
 
 // "number, rectangle", from a place on.
@@ -463,159 +452,154 @@ fn is_after(file: &[u8], edition: Edition, k: usize) -> bool
 }
 
 // "an owner, 1 or 2"; nobody's in edition 1.
+#[tactic(auto, unfolding(rules::specs::Owners::owner_sound, rules::specs::Lists::same))]
 fn owner_sound(edition: Edition, o: Owner) -> bool
     ensures { result ≡ owner_sound edition o }
 {
     match edition {
-        Edition::One => geometry::same(o.0, 0),
+        Edition::One => o.0 == 0,
         Edition::Two => pool::good_owner(o),
     }
 }
 
-// 10, "then 3, 4, then 11", of record k; 0 where none of them applies. Req 07: "13 for another owner, .. in a file after 4".
-fn fault_at(file: &[u8], edition: Edition, k: usize) -> i32
+// Record k, or what refuses it: 10, "then 3, 4, then 11". Req 07: "13 for another owner, .. in a
+// file after 4".
+fn good_record(file: &[u8], edition: Edition, k: usize) -> Result<Record, FileFault>
     requires k_in_bounds { place_of edition k ≤ length file.now }
     requires k_bound { k ≤ 2147483647 }
-    ensures { result ≡ fault_at edition file.now k }
+    ensures { Gives edition file.now k result }
 {
     let at = place_of(edition, k);
-    if !is_due(file, at, record_kind(edition), record_words(edition)) {
-        return 10;
+    let form = FileForm::of(edition);
+    if !is_due(file, at, form.kind, form.words) {
+        return Err(FileFault::BadFrame);
     }
     let r = record_at(file, edition, k);
-    let rect = r.rect;
-    let number = r.number;
-    let owner = r.owner;
-    if !geometry::valid(rect) {
-        return 3;
+    if !geometry::valid(r.rect) {
+        return Err(FileFault::BadRectangle);
     }
-    if !pool::good_number(number) {
-        return 4;
+    if !pool::good_number(r.number) {
+        return Err(FileFault::BadNumber);
     }
-    if !owner_sound(edition, owner) {
-        return 13;
+    if !owner_sound(edition, r.owner) {
+        return Err(FileFault::BadOwner);
     }
     if !is_after(file, edition, k) {
-        return 11;
+        return Err(FileFault::NotAfter);
     }
-    0
+    Ok(r)
 }
 
 // ---- the reader
 
-// What became of a record of the file: 0 and what is known of the free slots now, or the number that refuses the file.
-#[derive(Clone, Copy)]
-pub struct Taken {
-    pub number: i32,
-    pub free: FreeSlots,
-}
-
-// Record k goes into the pool.
-fn take_record(pool: &mut [i32], file: &[u8], edition: Edition, k: usize, free: FreeSlots) -> Taken
+// Record k goes into the pool: what is known of the free slots then.
+fn take_record(
+    pool: &mut [i32],
+    file: &[u8],
+    edition: Edition,
+    k: usize,
+    free: FreeSlots,
+) -> Result<FreeSlots, FileFault>
     requires fit { Fit pool.old × Whole (L.read pool.old) × Known (L.read pool.old) free }
     requires pool_value { (L.read pool.old).edition ≡ edition }
     requires k_in_bounds { place_of edition k ≤ length file.now }
     requires k_bound { k ≤ 2147483647 }
     ensures { Took (took_at edition (L.read pool.old) file.now k) result pool.new }
 {
-    let number = fault_at(file, edition, k);
-    if !geometry::same(number, 0) {
-        return Taken { number, free };
-    }
-    let r = record_at(file, edition, k);
-    let o = insert::insert_record(pool, r, free);
-    match o {
-        Outcome::Made(left) => Taken {
-            number: 0,
-            free: left,
-        },
-        Outcome::Refused => Taken { number: 7, free },
-    }
+    let r = good_record(file, edition, k)?;
+    insert::insert_record(pool, r, free).ok_or(FileFault::NoSlot)
 }
 
 // "kind 18 last with no words", and no "bytes after kind 18".
-fn end_fault(file: &[u8], at: usize) -> i32
+fn check_end(file: &[u8], at: usize) -> Result<(), FileFault>
     requires { at ≤ length file.now }
-    ensures { result ≡ end_fault (drop at file.now) }
+    ensures { result ≡ end_told (drop at file.now) }
 {
     if !is_due(file, at, 18, 0) {
-        return 10;
+        return Err(FileFault::BadFrame);
     }
     if file.len() - at != END_BYTES {
-        return 10;
+        return Err(FileFault::BadFrame);
     }
-    0
+    Ok(())
 }
 
 // "inserts in file order"; "the first frame at fault decides".
-fn load_records(pool: &mut [i32], file: &[u8], edition: Edition, count: usize) -> i32
+fn load_records(
+    pool: &mut [i32],
+    file: &[u8],
+    edition: Edition,
+    count: usize,
+) -> Result<(), FileFault>
     requires fit { Fit pool.old × Whole (L.read pool.old) }
     requires pool_value { (L.read pool.old).edition ≡ edition }
     requires in_bounds { 12 ≤ length file.now }
     requires count_bound { count ≤ 2147483647 }
-    ensures { Loads (F.load_records ours edition count none (L.read pool.old) (drop 12 file.now)) result pool.new }
+    ensures { Loads (F.load_records ours edition count None (L.read pool.old) (drop 12 file.now))
+        result pool.new }
 {
-    let mut free = free_slots::free_slots(pool);
-    let mut k: usize = 0;
-    while k < count {
-        let t = take_record(pool, file, edition, k, free);
-        let number = t.number;
-        if !geometry::same(number, 0) {
-            return number;
-        }
-        free = t.free;
-        k += 1;
+    let mut free = free_slots::free_slots(Pool::over(pool));
+    for k in 0..count {
+        free = take_record(pool, file, edition, k, free)?;
     }
-    let end = place_of(edition, count);
-    end_fault(file, end)
+    check_end(file, place_of(edition, count))
 }
 
-// "kind 16 first (edition 1, record count)". Req 07: reading is "told the edition .. and goes by it", so a head of the other is wrong.
-fn load_file(pool: &mut [i32], file: &[u8], edition: Edition) -> i32
+// "kind 16 first (edition 1, record count)". Req 07: reading is "told the edition .. and goes by
+// it", so a head of the other is wrong.
+fn load_file(pool: &mut [i32], file: &[u8], edition: Edition) -> Result<(), FileFault>
     requires fit { Fit pool.old × Whole (L.read pool.old) }
     requires pool_value { (L.read pool.old).edition ≡ edition }
     ensures { Loads (F.load_file ours edition (L.read pool.old) file.now) result pool.new }
 {
     if !is_due(file, 0, 16, 2) {
-        return 10;
+        return Err(FileFault::BadFrame);
     }
     let said = frames::word_at(file, 4);
     let count = frames::word_at(file, 8);
-    if !geometry::same(said, edition_number(edition)) {
-        return 10;
+    if said != edition.number() {
+        return Err(FileFault::BadFrame);
     }
-    if !geometry::le(0, count) {
-        return 10;
+    if count < 0 {
+        return Err(FileFault::BadFrame);
     }
     load_records(pool, file, edition, count as usize)
 }
 
-// "A read refused past 1 leaves the pool, and its workspace equal to it"; one that is not leaves both as the file made the workspace.
-fn settle(pool: &mut [i32], work: &mut [i32], n: i32)
+// "A read refused past 1 leaves the pool, and its workspace equal to it"; one that is not leaves
+// both as the file made the workspace.
+fn settle(pool: &mut [i32], work: &mut [i32], loaded: bool)
     requires { length work.old ≡ length pool.old }
-    ensures pool { pool.new ≡ settled n pool.old work.old }
-    ensures workspace { work.new ≡ settled n pool.old work.old }
+    ensures pool { pool.new ≡ settled loaded pool.old work.old }
+    ensures workspace { work.new ≡ settled loaded pool.old work.old }
 {
-    if geometry::same(n, 0) {
+    if loaded {
         pool::copy(work, pool);
     } else {
         pool::copy(pool, work);
     }
 }
 
-// "a reader blanks a pool and inserts in file order". The workspace is blanked and takes the records: the pool is written only when the last
-// frame is found right. What edition the pool had makes no difference.
-pub fn read(pool: &mut [i32], work: &mut [i32], file: &[u8], edition: Edition) -> i32
-    ensures { Reads edition pool.old work.old file.now result pool.new work.new }
+// "a reader blanks a pool and inserts in file order". The workspace is blanked and takes the
+// records: the pool is written only when the last frame is found right. What edition the pool had
+// makes no difference.
+pub fn read(
+    pool: &mut [i32],
+    work: &mut [i32],
+    file: &[u8],
+    edition: Edition,
+) -> Result<(), FileFault>
+    ensures { Reads edition pool.old work.old file.now (number_of result) pool.new work.new }
 {
     if !pool::valid_size(edition, pool.len()) {
-        return 1;
+        return Err(FileFault::BadLength);
     }
     if work.len() != pool.len() {
-        return 1;
+        return Err(FileFault::BadLength);
     }
-    pool::blank::blank(work, edition);
-    let n = load_file(work, file, edition);
-    settle(pool, work, n);
-    n
+    // The length is right, so nothing is refused.
+    let _ = pool::blank::blank(work, edition);
+    let loaded = load_file(work, file, edition);
+    settle(pool, work, loaded.is_ok());
+    loaded
 }

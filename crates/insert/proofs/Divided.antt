@@ -8,13 +8,13 @@ use native.Mathlib.Omega.{arith}
 use lib.ListN.{length, get_or, take, length-append, length-map}
 use lib.Seq.{length-take-le}
 use lib.IntN.{ℤ}
+use Rattle.std.specs.Prelude.{Some, None}
 use borrow.Author.Tests.{lt-ltb, le-ltb}
 use Rattle.rules.specs.declared.Edition.{Edition}
 use Rattle.rules.specs.declared.Rect.{Rect}
 use Rattle.rules.specs.declared.SlotNumber.{SlotNumber}
 use Rattle.rules.specs.declared.Pointer.TheVariants.{Child}
 use Rattle.rules.specs.declared.Entry.{Entry}
-use Rattle.rules.specs.declared.FreeSlot.TheVariants.{At, Nowhere}
 use Rattle.rules.specs.Numbers.{most, most_slots}
 use Rattle.rules.specs.Pool.{Node, Pool, node, entry, no_entry, node_at, entries_at, entry_from, rects, cover_of, lowest_free, put_node, put_entries}
 use Rattle.rules.specs.Geometry.{cover_all}
@@ -37,7 +37,6 @@ use Rattle.sound_laws.proofs.Walk.{no_tree, tree_node, tree_positive}
 use Rattle.sound_laws.proofs.Frame.{put_slot}
 use Rattle.insert_laws.specs.Grown.{Fits}
 use Rattle.insert_laws.proofs.Install.{put_two, all_fit, split_none, split_at, install_room, install_full}
-use Rattle.insert.specs.declared.Growth.TheVariants.{One, Two, Stuck}
 use Rattle.insert.specs.Left.{GrewTo}
 use Rattle.insert.specs.State.{Here, Fitted}
 use Rattle.insert.proofs.Fitted.{fits_small, fits_valid}
@@ -112,7 +111,7 @@ cover_places es places =
 group_length : (es : List Entry) (places : List ℕ) (n : ℕ) → n ≤ length places → length (map (entry_from es) (take n places)) ≡ n
 group_length es places n h = length-map (take n places) (entry_from es) ∙ length-take-le n places h
 
-module _ {p : Pool} {s : SlotNumber} {e : Entry} (h : Here p s e) (full : 8 ≤ length (entries_at p s)) {t : SlotNumber} (low : lowest_free p ≡ At t) where
+module _ {p : Pool} {s : SlotNumber} {e : Entry} (h : Here p s e) (full : 8 ≤ length (entries_at p s)) {t : SlotNumber} (low : lowest_free p ≡ Some t) where
   abbrev nine : List Entry
   nine = entries_at p s ++ e ∷ []
 
@@ -131,18 +130,18 @@ module _ {p : Pool} {s : SlotNumber} {e : Entry} (h : Here p s e) (full : 8 ≤ 
   pub record Parts (es : List Entry) (rs : List Rect) (g : Grouping) : Type 0 where
     pub entries : es ≡ nine
     pub rects_are : rs ≡ rects es
-    pub one : take g.ones g.one ≡ (quadratic_groups rs).one
-    pub two : take g.twos g.two ≡ (quadratic_groups rs).two
+    pub one : take g.one.count g.one.places ≡ (quadratic_groups rs).one
+    pub two : take g.two.count g.two.places ≡ (quadratic_groups rs).two
     pub whole : GroupsWhole rs g
 
   module _ {es : List Entry} {rs : List Rect} {g : Grouping} (a : Parts es rs g) where
-    one_is : map (entry_from es) (take g.ones g.one) ≡ (quadratic_split nine).one
+    one_is : map (entry_from es) (take g.one.count g.one.places) ≡ (quadratic_split nine).one
     unfolding quadratic_split halves
     one_is =
         ap (map (entry_from es)) (a.one ∙ ap (λ (xs : List Rect). (quadratic_groups xs).one) a.rects_are)
         ∙ ap (λ (xs : List Entry). map (entry_from xs) (quadratic_groups (rects xs)).one) a.entries
 
-    two_is : map (entry_from es) (take g.twos g.two) ≡ (quadratic_split nine).two
+    two_is : map (entry_from es) (take g.two.count g.two.places) ≡ (quadratic_split nine).two
     unfolding quadratic_split halves
     two_is =
         ap (map (entry_from es)) (a.two ∙ ap (λ (xs : List Rect). (quadratic_groups xs).two) a.rects_are)
@@ -151,13 +150,13 @@ module _ {p : Pool} {s : SlotNumber} {e : Entry} (h : Here p s e) (full : 8 ≤ 
     -- the partner's cover
     cover_is : g.coverTwo ≡ cover_of (quadratic_split nine).two
     cover_is =
-        a.whole.coverTwo ∙ ap (λ (xs : List Rect). cover_group xs (take g.twos g.two)) a.rects_are
-        ∙ cover_places es (take g.twos g.two) ∙ ap cover_of two_is
+        a.whole.coverTwo ∙ ap (λ (xs : List Rect). cover_group xs (take g.two.count g.two.places)) a.rects_are
+        ∙ cover_places es (take g.two.count g.two.places) ∙ ap cover_of two_is
 
     -- the two nodes put
     module _ (l : ℕ) (at : l ≡ (node_at p s).level) (q r : Pool)
-        (first : q ≡ put_node p s (node l (map (entry_from es) (take g.ones g.one))))
-        (second : r ≡ put_node q t (node l (map (entry_from es) (take g.twos g.two)))) where
+        (first : q ≡ put_node p s (node l (map (entry_from es) (take g.one.count g.one.places))))
+        (second : r ≡ put_node q t (node l (map (entry_from es) (take g.two.count g.two.places)))) where
       both_are : r ≡ both
       both_are =
           second ∙ (λ i. put_node (first i) t (node l (two_is i)))
@@ -177,23 +176,24 @@ module _ {w : List ℤ} {s : SlotNumber} {e : Entry} {f : FreeSlots} (r : Fitted
   put_known es = known_put p f r.known s (here_node h).slot.low (here_node h).slot.high (here_used h) (node (node_at p s).level es) (here_used h)
 
   pub room_grows : length (entries_at p s) < most → (v : List ℤ) → Fit v → read v ≡ put_entries p s (entries_at p s ++ e ∷ [])
-      → GrewTo (install ours p s e) (One f) v
+      → GrewTo (install ours p s e) (Some (record { partner = None; free = f })) v
   unfolding put_entries
   room_grows room v fit is =
-      subst⁻¹ (λ (o : Grown). GrewTo o (One f) v) (install_room ours p s e (lt-ltb (length (entries_at p s)) most room))
-      (record { fit = fit; is = is; known = put_known (entries_at p s ++ e ∷ []) })
+      subst⁻¹ (λ (o : Grown). GrewTo o (Some (record { partner = None; free = f })) v)
+      (install_room ours p s e (lt-ltb (length (entries_at p s)) most room))
+      (refl, record { fit = fit; is = is; known = put_known (entries_at p s ++ e ∷ []) })
 
   module _ (full : 8 ≤ length (entries_at p s)) where
-    pub none_grows : lowest_free p ≡ Nowhere → (v : List ℤ) → GrewTo (install ours p s e) Stuck v
+    pub none_grows : lowest_free p ≡ None → (v : List ℤ) → GrewTo (install ours p s e) None v
     none_grows low v =
-        subst⁻¹ (λ (o : Grown). GrewTo o Stuck v)
+        subst⁻¹ (λ (o : Grown). GrewTo o None v)
         (install_full ours p s e (le-ltb (length (entries_at p s)) most full) ∙ ap (split_into p s _) low ∙ split_none p s _) tt
 
-    pub split_grows : (t : SlotNumber) → lowest_free p ≡ At t → (v : List ℤ) → Fit v → (x : Entry) → install ours p s e ≡ Split (read v) x
-        → (k : FreeSlots) → k ≡ less_slot f t → GrewTo (install ours p s e) (Two x k) v
+    pub split_grows : (t : SlotNumber) → lowest_free p ≡ Some t → (v : List ℤ) → Fit v → (x : Entry) → install ours p s e ≡ Split (read v) x
+        → (k : FreeSlots) → k ≡ less_slot f t → GrewTo (install ours p s e) (Some (record { partner = Some x; free = k })) v
     split_grows t low v fit x is k less =
         let q : read v ≡ both h full low = split_pool (sym is ∙ split_is h full low) in
-        subst⁻¹ (λ (o : Grown). GrewTo o (Two x k) v) is (
+        subst⁻¹ (λ (o : Grown). GrewTo o (Some (record { partner = Some x; free = k })) v) is (
           refl,
           record {
             fit = fit;

@@ -1,11 +1,12 @@
 -- A record goes in. The number of records is no part of the tree, so with the record counted the pool stands as before; and with the number
 -- put back the words are what they were. A slot has eight entries at most, so the number is one that a word holds.
 use mathlib.Core.Path.{◌≡◌, refl, sym, ap, subst, subst⁻¹, ◌∙◌}
-use mathlib.Core.Bool.{true}
+use mathlib.Core.Bool.{true, false}
 use mathlib.Core.List.{List, []}
 use Prim.Native.Nat.{ℕ, ◌+◌, ◌≤◌}
 use native.Mathlib.Omega.{arith}
 use lib.IntN.{ℤ}
+use Rattle.std.specs.Prelude.{Option, Some, None, is_some}
 use Rattle.rules.specs.declared.Record.{Record}
 use Rattle.rules.specs.declared.Edition.{Edition}
 use Rattle.rules.specs.Numbers.{good_number}
@@ -14,6 +15,7 @@ use Rattle.rules.specs.Geometry.{valid}
 use Rattle.rules.specs.Pool.{Pool, owner_of, leaf_entry, put_records}
 use Rattle.rules.specs.Insert.{Change, Done, NoneFree, ours, insert_at, insert_record}
 use Rattle.rules.specs.Layout.{valid_length, words, read}
+use Rattle.rules_laws.proofs.Orders.{never_both}
 use Rattle.layout_laws.specs.Slots.{Fit}
 use Rattle.layout_laws.proofs.Few.{stored_few}
 use Rattle.layout_laws.proofs.Parts.{few_slots}
@@ -26,8 +28,6 @@ use Rattle.sound_laws.proofs.Walk.{tree_positive}
 use Rattle.insert_laws.specs.Grown.{Fits}
 use Rattle.insert_laws.proofs.Standing.{standing_once}
 use Rattle.insert_laws.proofs.Whole.{head_standing, whole_standing, record_fits}
-use Rattle.insert.specs.declared.Outcome.{Outcome}
-use Rattle.insert.specs.declared.Outcome.TheVariants.{Made, Refused}
 use Rattle.insert.specs.Left.{Leaves, MayGo, Upright}
 use Rattle.insert.proofs.Fitted.{fits_kind}
 use Rattle.nodes.proofs.Slots.{most_slots_lem}
@@ -39,13 +39,16 @@ records_few w r h = omega (arith, h.counted, stored_few w, few_slots w r)
 
 -- ---- a change that was made, and one that was not
 
-made_too : (o : Change) (g : FreeSlots) (a b u : List ℤ) → Leaves a o (Made g) u → Leaves b o (Made g) u
-made_too (Done q) g a b u x = x
-made_too NoneFree g a b u x = absurd x
+made_too : (o : Change) (f : Option FreeSlots) (a b u : List ℤ) → is_some f ≡ true → Leaves a o f u → Leaves b o f u
+made_too (Done q) (Some f) a b u t x = x
+made_too (Done q) None a b u t x = absurd x
+made_too NoneFree (Some f) a b u t x = absurd x
+made_too NoneFree None a b u t x = never_both t refl
 
-refused_is : (o : Change) (a u : List ℤ) → Leaves a o Refused u → (o ≡ NoneFree) × (u ≡ a)
-refused_is (Done q) a u x = absurd x
-refused_is NoneFree a u x = (refl, x)
+refused_is : (o : Change) (f : Option FreeSlots) (a u : List ℤ) → is_some f ≡ false → Leaves a o f u → (f ≡ None) × (o ≡ NoneFree) × (u ≡ a)
+refused_is o (Some f) a u t x = never_both refl t
+refused_is (Done q) None a u t x = absurd x
+refused_is NoneFree None a u t x = (refl, refl, x)
 
 -- ---- another number of records
 
@@ -88,41 +91,36 @@ module _ (w : List ℤ) (right : valid_length w ≡ true) (h : Whole (read w)) (
 -- ---- a record goes in, and is counted
 
 -- where it is refused, nothing was written since
-pub refused_fit : (r : Record) (v u : List ℤ) (o : Outcome) → Leaves v (insert_at ours 1 (read v) (leaf_entry r)) o u → o ≡ Refused
-    → Fit v → Fit u
-refused_fit r v u o leaves e f =
-    subst⁻¹ Fit
-    (refused_is (insert_at ours 1 (read v) (leaf_entry r)) v u
-    (subst (λ (x : Outcome). Leaves v (insert_at ours 1 (read v) (leaf_entry r)) x u) e leaves)).1 f
+pub refused_fit : (r : Record) (v u : List ℤ) (f : Option FreeSlots) → Leaves v (insert_at ours 1 (read v) (leaf_entry r)) f u
+    → is_some f ≡ false → Fit v → Fit u
+refused_fit r v u f leaves t x = subst⁻¹ Fit (refused_is (insert_at ours 1 (read v) (leaf_entry r)) f v u t leaves).2 x
 
-module _ (w : List ℤ) (r : Record) (n : ℕ) (is : n ≡ (read w).records) (v : List ℤ) (put : read v ≡ put_records (read w) (n + 1)) (o : Outcome) (u : List ℤ)
-    (leaves : Leaves v (insert_at ours 1 (read v) (leaf_entry r)) o u) where
+module _ (w : List ℤ) (r : Record) (n : ℕ) (is : n ≡ (read w).records) (v : List ℤ) (put : read v ≡ put_records (read w) (n + 1))
+    (f : Option FreeSlots) (u : List ℤ) (leaves : Leaves v (insert_at ours 1 (read v) (leaf_entry r)) f u) where
   record_is : insert_at ours 1 (read v) (leaf_entry r) ≡ insert_record ours (read w) r
   unfolding insert_record
   record_is =
       ap (λ (p : Pool). insert_at ours 1 p (leaf_entry r))
       (put ∙ ap (λ (m : ℕ). put_records (read w) (m + 1)) is)
 
-  leaves_record : Leaves v (insert_record ours (read w) r) o u
-  leaves_record = subst (λ (c : Change). Leaves v c o u) record_is leaves
+  leaves_record : Leaves v (insert_record ours (read w) r) f u
+  leaves_record = subst (λ (c : Change). Leaves v c f u) record_is leaves
 
-  pub record_made : (g : FreeSlots) → o ≡ Made g → Leaves w (insert_record ours (read w) r) (Made g) u
-  record_made g e =
-      made_too (insert_record ours (read w) r) g v w u
-      (subst (λ (x : Outcome). Leaves v (insert_record ours (read w) r) x u) e leaves_record)
+  pub record_made : is_some f ≡ true → Leaves w (insert_record ours (read w) r) f u
+  record_made t = made_too (insert_record ours (read w) r) f v w u t leaves_record
 
   -- nothing was written, and the number is put back
-  module _ (e : o ≡ Refused) where
-    refused : (insert_record ours (read w) r ≡ NoneFree) × (u ≡ v)
-    refused =
-        refused_is (insert_record ours (read w) r) v u (subst (λ (x : Outcome). Leaves v (insert_record ours (read w) r) x u) e leaves_record)
+  module _ (t : is_some f ≡ false) where
+    refused : (f ≡ None) × (insert_record ours (read w) r ≡ NoneFree) × (u ≡ v)
+    refused = refused_is (insert_record ours (read w) r) f v u t leaves_record
 
     back_is : put_records (put_records (read w) (n + 1)) n ≡ read w
     unfolding put_records
     back_is i = record { edition = (read w).edition; root = (read w).root; height = (read w).height; records = is i; slots = (read w).slots }
 
-    pub record_refused : Fit w → (z : List ℤ) → Fit z → read z ≡ put_records (read u) n → Leaves w (insert_record ours (read w) r) Refused z
+    pub record_refused : Fit w → (z : List ℤ) → Fit z → read z ≡ put_records (read u) n → Leaves w (insert_record ours (read w) r) f z
     record_refused x z y back =
         let same : read z ≡ read w =
-        back ∙ ap (λ (a : List ℤ). put_records (read a) n) refused.1 ∙ ap (λ (p : Pool). put_records p n) put ∙ back_is in
-        subst⁻¹ (λ (c : Change). Leaves w c Refused z) refused.0 (sym y.same ∙ ap words same ∙ x.same)
+        back ∙ ap (λ (a : List ℤ). put_records (read a) n) refused.2 ∙ ap (λ (p : Pool). put_records p n) put ∙ back_is in
+        subst⁻¹ (λ (o : Option FreeSlots). Leaves w (insert_record ours (read w) r) o z) refused.0
+        (subst⁻¹ (λ (c : Change). Leaves w c None z) refused.1 (sym y.same ∙ ap words same ∙ x.same))

@@ -11,13 +11,13 @@ use native.Mathlib.Omega.{arith}
 use lib.Dec.{ltb}
 use lib.ListN.{length, get_or}
 use lib.IntN.{ℤ}
+use Rattle.std.specs.Prelude.{Option, Some, None, MatchOption}
 use borrow.Author.Tests.{ltb-true, ltb-false, le-ltb}
 use Rattle.rules.specs.declared.Rect.{Rect}
 use Rattle.rules.specs.declared.SlotNumber.{SlotNumber}
 use Rattle.rules.specs.declared.Pointer.TheVariants.{Child}
 use Rattle.rules.specs.declared.Edition.{Edition}
 use Rattle.rules.specs.declared.Entry.{Entry}
-use Rattle.rules.specs.declared.FreeSlot.TheVariants.{At, Nowhere}
 use Rattle.rules.specs.Numbers.{most_slots}
 use Rattle.rules.specs.Pool.{Pool, node, entry, no_entry, entries_at, cover_of, entry_for, lowest_free, free_count, put_node, put_root}
 use Rattle.rules.specs.Insert.{Grown, Kept, Split, Full, Change, Done, NoneFree, ours, new_root, grow_tree, insert_below, insert_at}
@@ -37,14 +37,11 @@ use Rattle.insert_laws.proofs.Root.{raised_to, grow_kept, grow_split, grow_full,
 use Rattle.insert_laws.proofs.Runs.{run, needed_less, needed_all}
 use Rattle.insert_laws.proofs.Slots.{level_slots, level_needs_few}
 use Rattle.insert.specs.declared.Growth.{Growth}
-use Rattle.insert.specs.declared.Growth.TheVariants.{One, Two, Stuck}
-use Rattle.insert.specs.declared.Outcome.{Outcome}
-use Rattle.insert.specs.declared.Outcome.TheVariants.{Made, Refused}
 use Rattle.insert.specs.Left.{GrewTo, Leaves, Upright}
-use Rattle.insert.specs.State.{WayDown, GoesDown, Beside, Fitted, grown_of, Risen}
+use Rattle.insert.specs.State.{WayDown, GoesDown, Beside, Fitted, grown_by, grown_of, Risen}
 use Rattle.nodes.proofs.Tight.{Stored, child_stored}
 use Rattle.insert.proofs.Fitted.{fits_stored, fits_valid}
-use Rattle.insert.proofs.Steps.{grown_is, holds_ready}
+use Rattle.insert.proofs.Steps.{grown_is, full_is, holds_ready}
 
 -- ---- a new root
 
@@ -76,11 +73,11 @@ module _ {w : List ℤ} {f : FreeSlots} (r : Fitted w f) (x : Entry) where
   abbrev p : Pool
   p = read w
 
-  pub new_stuck : lowest_free p ≡ Nowhere → Leaves w (grow_tree (Split p x)) Refused w
-  new_stuck low = subst⁻¹ (λ (o : Change). Leaves w o Refused w) (grow_split p x ∙ ap (new_root p x) low ∙ new_none p x) refl
+  pub new_stuck : lowest_free p ≡ None → Leaves w (grow_tree (Split p x)) None w
+  new_stuck low = subst⁻¹ (λ (o : Change). Leaves w o None w) (grow_split p x ∙ ap (new_root p x) low ∙ new_none p x) refl
 
   -- the new root put, with its two entries, and the head
-  module _ (t : SlotNumber) (low : lowest_free p ≡ At t) (root : SlotNumber) (top : root ≡ p.root) (height : ℕ) (high : height ≡ p.height)
+  module _ (t : SlotNumber) (low : lowest_free p ≡ Some t) (root : SlotNumber) (top : root ≡ p.root) (height : ℕ) (high : height ≡ p.height)
       (cover : Rect) (tight : cover ≡ cover_of (entries_at p root)) (q : Pool)
       (first : q ≡ put_node p t (node (height + 1) (entry cover (Child root) ∷ x ∷ []))) (v : List ℤ) (fit : Fit v)
       (second : read v ≡ put_root q t (height + 1)) (k : FreeSlots) (less : k ≡ less_slot f t) where
@@ -102,19 +99,19 @@ module _ {w : List ℤ} {f : FreeSlots} (r : Fitted w f) (x : Entry) where
         subst⁻¹ (Known (raised_to p p.height p.root x t)) less
         (known_head _ (less_slot f t) (known_less p f r.known t _ low (λ e. omega arith)) t (suc p.height))
 
-    pub new_made : Leaves w (grow_tree (Split p x)) (Made k) v
+    pub new_made : Leaves w (grow_tree (Split p x)) (Some k) v
     new_made =
-        subst⁻¹ (λ (o : Change). Leaves w o (Made k) v)
+        subst⁻¹ (λ (o : Change). Leaves w o (Some k) v)
         (grow_split p x ∙ ap (new_root p x) low ∙ new_at p p x t (record { root = refl; height = refl; records = refl }))
         (record { fit = fit; is = made_is; known = made_known })
 
 -- ---- what became of the root
 
-pub grown_one : (w : List ℤ) (f : FreeSlots) → Fitted w f → Leaves w (grow_tree (Kept (read w))) (Made f) w
-grown_one w f r = subst⁻¹ (λ (o : Change). Leaves w o (Made f) w) (grow_kept (read w)) (record { fit = r.fit; is = refl; known = r.known })
-
-pub grown_stuck : (w : List ℤ) → Leaves w (grow_tree Full) Refused w
-grown_stuck w = subst⁻¹ (λ (o : Change). Leaves w o Refused w) grow_full refl
+pub grown_one : (w : List ℤ) (g : Growth) → g.partner ≡ None → Fitted w g.free → Leaves w (grow_tree (grown_of (read w) g)) (Some g.free) w
+grown_one w g one r =
+    subst⁻¹ (λ (o : Change). Leaves w o (Some g.free) w)
+    (ap (λ (y : Option Entry). grow_tree (grown_by (read w) y)) one ∙ grow_kept (read w))
+    (record { fit = r.fit; is = refl; known = r.known })
 
 -- the root of a tree that grew
 module _ (p : Pool) (k : ℕ) (e : Entry) (low : 1 ≤ p.height) (high : p.height ≤ 64) where
@@ -126,17 +123,17 @@ module _ (p : Pool) (k : ℕ) (e : Entry) (low : 1 ≤ p.height) (high : p.heigh
     fits = subst⁻¹ (λ (l : ℕ). G.Fits q (suc l) x) g.2.height (g.1.fit x (Memᴰ.head refl));
   }
 
-  pub on_risen : (o : Grown) (g : Growth) (v : List ℤ) → G.Grows p p.height p.root k e (tree_slots p) o → GrewTo o g v → Risen v g
-  on_risen (Kept q) (One f) v a b = holds_ready b
-  on_risen (Kept q) (Two y f) v a b = absurd b
-  on_risen (Kept q) Stuck v a b = absurd b
-  on_risen (Split q x) (One f) v a b = absurd b
-  on_risen (Split q x) (Two y f) v a b =
-      (holds_ready b.1, subst⁻¹ (λ (u : Pool). Beside u y) b.1.is (subst⁻¹ (Beside q) b.0 (split_risen q x a)))
-  on_risen (Split q x) Stuck v a b = absurd b
-  on_risen Full (One f) v a b = absurd b
-  on_risen Full (Two y f) v a b = absurd b
-  on_risen Full Stuck v a b = tt
+  pub on_risen : (o : Grown) (g : Growth) (v : List ℤ) → G.Grows p p.height p.root k e (tree_slots p) o → GrewTo o (Some g) v → Risen v g
+  on_risen (Kept q) g v a b = record {
+    fitted = holds_ready b.1;
+    root = subst⁻¹ (λ (y : Option Entry). MatchOption y (Unit {0}) (λ x. Beside (read v) x)) b.0 tt;
+  }
+  on_risen (Split q x) g v a b = record {
+    fitted = holds_ready b.1;
+    root = subst⁻¹ (λ (y : Option Entry). MatchOption y (Unit {0}) (λ x. Beside (read v) x)) b.0
+        (subst⁻¹ (λ (u : Pool). Beside u x) b.1.is (split_risen q x a));
+  }
+  on_risen Full g v a b = absurd b
 
 -- ---- how many slots it takes
 
@@ -166,9 +163,9 @@ module _ (level : ℕ) (p : Pool) (new : Rect) (h : WayDown p (p.height - level)
 -- ---- from the root
 
 -- what was left before is of no account where the change is made
-pub leaves_made : (o : Change) (r : Outcome) (a b v : List ℤ) → o ≢ NoneFree → Leaves a o r v → Leaves b o r v
-leaves_made (Done q) (Made f) a b v n h = h
-leaves_made (Done q) Refused a b v n h = absurd h
+pub leaves_made : (o : Change) (r : Option FreeSlots) (a b v : List ℤ) → o ≢ NoneFree → Leaves a o r v → Leaves b o r v
+leaves_made (Done q) (Some f) a b v n h = h
+leaves_made (Done q) None a b v n h = absurd h
 leaves_made NoneFree r a b v n h = absurd (n refl)
 
 module _ (p : Pool) (level : ℕ) (e : Entry) (u : Upright p) (low : level ≤ p.height) (high : p.height ≤ 64) (f : G.Fits p level e) where
@@ -204,10 +201,10 @@ module _ (p : Pool) (level : ℕ) (e : Entry) (u : Upright p) (low : level ≤ p
     slots : (insert_at ours level p e ≡ NoneFree) ↔ (free_count p < slots_needed ours level p e.rect)
     slots = level_slots ours ours_lawful p level e u.tree u.once u.some f low
 
-    pub at_refused : b ≡ true → Leaves w (insert_at ours level p e) Refused w
+    pub at_refused : b ≡ true → Leaves w (insert_at ours level p e) None w
     at_refused t =
         let less = ltb-true k.count (slots_needed ours level p e.rect) (sym told ∙ t) in
-        subst⁻¹ (λ (o : Change). Leaves w o Refused w) (slots.1 (omega (arith, known.many))) refl
+        subst⁻¹ (λ (o : Change). Leaves w o None w) (slots.1 (omega (arith, known.many))) refl
 
     suffice : b ≡ false → insert_at ours level p e ≢ NoneFree
     suffice t z =
@@ -215,20 +212,29 @@ module _ (p : Pool) (level : ℕ) (e : Entry) (u : Upright p) (low : level ≤ p
         omega (arith, slots.0 z, known.many)
 
     -- the entry went in from the root, and what became of the root has become of the pool
-    module _ (n : ℕ) (levels : n ≡ p.height - level) (root : SlotNumber) (top : root ≡ p.root) (g : Growth) (v : List ℤ)
-        (grows : GrewTo (insert_below ours n p root e) g v) where
+    module _ (n : ℕ) (levels : n ≡ p.height - level) (root : SlotNumber) (top : root ≡ p.root) where
       below_is : insert_below ours n p root e ≡ insert_below ours (p.height - level) p p.root e
       below_is i = insert_below ours (levels i) p (top i) e
 
-      pub at_risen : Risen v g
-      at_risen =
-          let l = fits_level p level e f in
-          on_risen p level e (omega arith) high (insert_below ours (p.height - level) p p.root e) g v
-          (below_grows ours ours_lawful p level e f (p.height - level) p.height p.root (omega arith) u.tree u.once (λ h. u.some (omega arith)))
-          (subst (λ (o : Grown). GrewTo o g v) below_is grows)
-
-      pub at_made : b ≡ false → (r : Outcome) (z : List ℤ) → Leaves v (grow_tree (grown_of (read v) g)) r z → Leaves w (insert_at ours level p e) r z
+      at_is : insert_at ours level p e ≡ grow_tree (insert_below ours n p root e)
       unfolding insert_at
-      at_made t r z h =
-          let same : insert_at ours level p e ≡ grow_tree (grown_of (read v) g) = ap grow_tree (sym below_is ∙ grown_is (insert_below ours n p root e) g v grows) in
-          leaves_made (insert_at ours level p e) r v w z (suffice t) (subst⁻¹ (λ (o : Change). Leaves v o r z) same h)
+      at_is = ap grow_tree (sym below_is)
+
+      -- it does not call for a slot that is not free
+      pub at_full : b ≡ false → (v : List ℤ) → GrewTo (insert_below ours n p root e) None v → Leaves w (insert_at ours level p e) None v
+      at_full t v full = absurd (suffice t (at_is ∙ ap grow_tree (full_is (insert_below ours n p root e) v full) ∙ grow_full))
+
+      module _ (g : Growth) (v : List ℤ) (grows : GrewTo (insert_below ours n p root e) (Some g) v) where
+        pub at_risen : Risen v g
+        at_risen =
+            let l = fits_level p level e f in
+            on_risen p level e (omega arith) high (insert_below ours (p.height - level) p p.root e) g v
+            (below_grows ours ours_lawful p level e f (p.height - level) p.height p.root (omega arith) u.tree u.once (λ h. u.some (omega arith)))
+            (subst (λ (o : Grown). GrewTo o (Some g) v) below_is grows)
+
+        pub at_made : b ≡ false → (r : Option FreeSlots) (z : List ℤ) → Leaves v (grow_tree (grown_of (read v) g)) r z
+            → Leaves w (insert_at ours level p e) r z
+        at_made t r z h =
+            let same : insert_at ours level p e ≡ grow_tree (grown_of (read v) g) =
+            at_is ∙ ap grow_tree (grown_is (insert_below ours n p root e) g v grows) in
+            leaves_made (insert_at ours level p e) r v w z (suffice t) (subst⁻¹ (λ (o : Change). Leaves v o r z) same h)

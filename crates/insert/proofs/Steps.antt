@@ -7,6 +7,8 @@ use Prim.Native.Nat.{ℕ, suc, ◌+◌, ◌-◌, ◌≤◌, ◌<◌}
 use native.Mathlib.Omega.{arith}
 use lib.ListN.{length, set}
 use lib.IntN.{ℤ}
+use Rattle.std.specs.Prelude.{Option, Some, None, MatchOption}
+use Rattle.std.proofs.lemmas.Option.{MatchOption-at_some, MatchOption-at_none}
 use Rattle.rules.specs.declared.Rect.{Rect}
 use Rattle.rules.specs.declared.SlotNumber.{SlotNumber}
 use Rattle.rules.specs.declared.Pointer.TheVariants.{Child}
@@ -35,24 +37,22 @@ use Rattle.insert_laws.proofs.Below.{below_here, below_down, adjust_kept, adjust
 use Rattle.insert_laws.proofs.Beside.{among_here, top_same}
 use Rattle.insert_laws.proofs.Widened.{below_cover}
 use Rattle.insert.specs.declared.Growth.{Growth}
-use Rattle.insert.specs.declared.Growth.TheVariants.{One, Two, Stuck}
 use Rattle.insert.specs.Left.{HoldsPool, GrewTo, MayGo}
-use Rattle.insert.specs.State.{Here, GoesDown, Fitted, grown_of, widened, Back}
+use Rattle.insert.specs.State.{Here, GoesDown, Fitted, grown_by, grown_of, widened, Back}
 use Rattle.insert.proofs.Fitted.{fits_inner}
 use Rattle.insert.proofs.Ways as W
 
 -- ---- the words stand for what the definitions give
 
-pub grown_is : (o : Grown) (g : Growth) (v : List ℤ) → GrewTo o g v → o ≡ grown_of (read v) g
-grown_is (Kept q) (One f) v h = ap Kept (sym h.is)
-grown_is (Kept q) (Two y f) v h = absurd h
-grown_is (Kept q) Stuck v h = absurd h
-grown_is (Split q x) (One f) v h = absurd h
-grown_is (Split q x) (Two y f) v h = λ i. Split (sym h.1.is i) (sym h.0 i)
-grown_is (Split q x) Stuck v h = absurd h
-grown_is Full (One f) v h = absurd h
-grown_is Full (Two y f) v h = absurd h
-grown_is Full Stuck v h = refl
+pub grown_is : (o : Grown) (g : Growth) (v : List ℤ) → GrewTo o (Some g) v → o ≡ grown_of (read v) g
+grown_is (Kept q) g v h = ap Kept (sym h.1.is) ∙ ap (grown_by (read v)) (sym h.0)
+grown_is (Split q x) g v h = ap (λ (p : Pool). Split p x) (sym h.1.is) ∙ ap (grown_by (read v)) (sym h.0)
+grown_is Full g v h = absurd h
+
+pub full_is : (o : Grown) (v : List ℤ) → GrewTo o None v → o ≡ Full
+full_is (Kept q) v h = absurd h
+full_is (Split q x) v h = absurd h
+full_is Full v h = refl
 
 pub holds_ready : {q : Pool} {f : FreeSlots} {v : List ℤ} → HoldsPool q f v → Fitted v f
 holds_ready {f = f} h = record { fit = h.fit; known = subst⁻¹ (λ (p : Pool). Known p f) h.is h.known }
@@ -84,25 +84,37 @@ module _ (p : Pool) (s : SlotNumber) (i : ℕ) where
 -- ---- the parent, when its child came back
 
 module _ (w : List ℤ) (s : SlotNumber) (i : ℕ) where
-  pub back_one : (new : Rect) (f : FreeSlots) → Back w s i new (One f) → (v : List ℤ) → Fit v → read v ≡ widened (read w) s i new
-      → GrewTo (adjust ours s i (Kept (read w))) (One f) v
-  back_one new f b v fit is =
-      subst⁻¹ (λ (o : Grown). GrewTo o (One f) v) (adjust_kept ours s i (read w))
-      (record { fit = fit; is = is ∙ sym b.2; known = tighten_known (read w) s i f b.0.known b.1 })
+  module _ (new : Rect) (g : Growth) (b : Back w s i new g) where
+    adjust_as : (y : Option Entry) → g.partner ≡ y → adjust ours s i (grown_of (read w) g) ≡ adjust ours s i (grown_by (read w) y)
+    adjust_as y e = ap (λ (z : Option Entry). adjust ours s i (grown_by (read w) z)) e
 
-  module _ (new : Rect) (x : Entry) (f : FreeSlots) (b : Back w s i new (Two x f)) (v : List ℤ) (fit : Fit v) (is : read v ≡ tighten (read w) s i) where
-    pub two_ready : Fitted v f
-    two_ready = record { fit = fit; known = subst⁻¹ (λ (p : Pool). Known p f) is (tighten_known (read w) s i f b.0.known b.1) }
+    pub back_one : g.partner ≡ None → (v : List ℤ) → Fit v → read v ≡ widened (read w) s i new
+        → GrewTo (adjust ours s i (grown_of (read w) g)) (Some (record { partner = None; free = g.free })) v
+    back_one one v fit is =
+        subst⁻¹ (λ (o : Grown). GrewTo o (Some (record { partner = None; free = g.free })) v) (adjust_as None one ∙ adjust_kept ours s i (read w)) (
+          refl,
+          record {
+            fit = fit;
+            is = is ∙ sym (MatchOption-at_none _ _ one b.child);
+            known = tighten_known (read w) s i g.free b.fitted.known b.leads;
+          },
+        )
 
-    pub two_here : Here (read v) s x
-    two_here = subst⁻¹ (λ (p : Pool). Here p s x) is b.2
+    module _ (x : Entry) (two : g.partner ≡ Some x) (v : List ℤ) (fit : Fit v) (is : read v ≡ tighten (read w) s i) where
+      pub two_ready : Fitted v g.free
+      two_ready = record {
+        fit = fit;
+        known = subst⁻¹ (λ (p : Pool). Known p g.free) is (tighten_known (read w) s i g.free b.fitted.known b.leads);
+      }
 
-    pub back_two : (r : Growth) (u : List ℤ) → GrewTo (install ours (read v) s x) r u → GrewTo (adjust ours s i (Split (read w) x)) r u
-    back_two r u h =
-        subst⁻¹ (λ (o : Grown). GrewTo o r u) (adjust_split ours s i (read w) x) (subst (λ (p : Pool). GrewTo (install ours p s x) r u) is h)
+      pub two_here : Here (read v) s x
+      two_here = subst⁻¹ (λ (p : Pool). Here p s x) is (MatchOption-at_some _ _ x two b.child)
 
-  pub back_stuck : (v : List ℤ) → GrewTo (adjust ours s i Full) Stuck v
-  back_stuck v = subst⁻¹ (λ (o : Grown). GrewTo o Stuck v) (adjust_full ours s i) tt
+      pub back_two : (r : Option Growth) (u : List ℤ) → GrewTo (install ours (read v) s x) r u
+          → GrewTo (adjust ours s i (grown_of (read w) g)) r u
+      back_two r u h =
+          subst⁻¹ (λ (o : Grown). GrewTo o r u) (adjust_as (Some x) two ∙ adjust_split ours s i (read w) x)
+          (subst (λ (p : Pool). GrewTo (install ours p s x) r u) is h)
 
 -- ---- an entry goes down
 
@@ -187,45 +199,47 @@ module _ {p : Pool} {n : ℕ} {s : SlotNumber} {e : Entry} (h : GoesDown p n s e
             child_high = to.high;
           }
 
-    kept_back : (q : Pool) (f : FreeSlots) (v : List ℤ) → insert_below ours (n - 1) p child e ≡ Kept q
-        → G.Grows p (suc below) child h.way.level e (slots_in p (suc below) child) (Kept q) → HoldsPool q f v → Back v s at e.rect (One f)
-    kept_back q f v is a b =
+    kept_back : (q : Pool) (g : Growth) (v : List ℤ) → insert_below ours (n - 1) p child e ≡ Kept q
+        → G.Grows p (suc below) child h.way.level e (slots_in p (suc below) child) (Kept q) → g.partner ≡ None
+        → HoldsPool q g.free v → Back v s at e.rect g
+    kept_back q g v is a one b =
         let many : least ≤ length (entries_at q child) = omega (arith, inner.enough, a.3) in
         let wide =
         below_cover ours ours_lawful p h.way.level e h.goes.fits (n - 1) (suc below) child (omega (arith, levels)) inner.child child_once
         (omega (arith, inner.enough)) q is (omega (arith, many)) in
-        let old = same_entry_lem q a.1 (omega arith) many in (
-          holds_ready b,
-          subst⁻¹ (λ (x : Pool). LeadsOn x s at) b.is (leads q a.1 (omega arith) many),
-          subst⁻¹ (λ (x : Pool). tighten x s at ≡ widened x s at e.rect) b.is
-              (tighten_widened q s at e.rect (rw old (wide ∙ ap (λ (r : Rect). cover r e.rect) (sym inner.tight)))),
-        )
+        let old = same_entry_lem q a.1 (omega arith) many in
+        record {
+          fitted = holds_ready b;
+          leads = subst⁻¹ (λ (x : Pool). LeadsOn x s at) b.is (leads q a.1 (omega arith) many);
+          child = subst⁻¹
+              (λ (y : Option Entry). MatchOption y (tighten (read v) s at ≡ widened (read v) s at e.rect) (λ x. Here (tighten (read v) s at) s x)) one
+              (subst⁻¹ (λ (x : Pool). tighten x s at ≡ widened x s at e.rect) b.is
+              (tighten_widened q s at e.rect (rw old (wide ∙ ap (λ (r : Rect). cover r e.rect) (sym inner.tight)))));
+        }
 
-    split_back : (q : Pool) (x y : Entry) (f : FreeSlots) (v : List ℤ)
-        → G.Grows p (suc below) child h.way.level e (slots_in p (suc below) child) (Split q x) → y ≡ x → HoldsPool q f v → Back v s at e.rect (Two y f)
-    split_back q x y f v a z b =
-        let t = tighten_grew p below s tree at there once q a.1 (omega arith) a.3 in (
-          holds_ready b,
-          subst⁻¹ (λ (u : Pool). LeadsOn u s at) b.is (leads q a.1 (omega arith) a.3),
-          subst⁻¹ (λ (u : Pool). Here (tighten u s at) s y) b.is (subst⁻¹ (Here (tighten q s at) s) z (record {
-            level = suc (suc below);
-            tree = t.tree;
-            goes = inner_goes (tighten q s at) below x (t.fit x (Memᴰ.head refl));
-            few = omega (arith, h.way.few, levels);
-          })),
-        )
+    split_back : (q : Pool) (x : Entry) (g : Growth) (v : List ℤ)
+        → G.Grows p (suc below) child h.way.level e (slots_in p (suc below) child) (Split q x) → g.partner ≡ Some x
+        → HoldsPool q g.free v → Back v s at e.rect g
+    split_back q x g v a two b =
+        let t = tighten_grew p below s tree at there once q a.1 (omega arith) a.3 in
+        record {
+          fitted = holds_ready b;
+          leads = subst⁻¹ (λ (u : Pool). LeadsOn u s at) b.is (leads q a.1 (omega arith) a.3);
+          child = subst⁻¹
+              (λ (y : Option Entry). MatchOption y (tighten (read v) s at ≡ widened (read v) s at e.rect) (λ x. Here (tighten (read v) s at) s x)) two
+              (subst⁻¹ (λ (u : Pool). Here (tighten u s at) s x) b.is (record {
+                level = suc (suc below);
+                tree = t.tree;
+                goes = inner_goes (tighten q s at) below x (t.fit x (Memᴰ.head refl));
+                few = omega (arith, h.way.few, levels);
+              }));
+        }
 
     on_back : (o : Grown) (g : Growth) (v : List ℤ) → insert_below ours (n - 1) p child e ≡ o
-        → G.Grows p (suc below) child h.way.level e (slots_in p (suc below) child) o → GrewTo o g v → Back v s at e.rect g
-    on_back (Kept q) (One f) v is a b = kept_back q f v is a b
-    on_back (Kept q) (Two y f) v is a b = absurd b
-    on_back (Kept q) Stuck v is a b = absurd b
-    on_back (Split q x) (One f) v is a b = absurd b
-    on_back (Split q x) (Two y f) v is a b = split_back q x y f v a b.0 b.1
-    on_back (Split q x) Stuck v is a b = absurd b
-    on_back Full (One f) v is a b = absurd b
-    on_back Full (Two y f) v is a b = absurd b
-    on_back Full Stuck v is a b = tt
+        → G.Grows p (suc below) child h.way.level e (slots_in p (suc below) child) o → GrewTo o (Some g) v → Back v s at e.rect g
+    on_back (Kept q) g v is a b = kept_back q g v is a b.0 b.1
+    on_back (Split q x) g v is a b = split_back q x g v a b.0 b.1
+    on_back Full g v is a b = absurd b
 
     -- as the code has it: a place, and the child of the entry there
     module _ (i : ℕ) (c : SlotNumber) (place : i ≡ at) (leads-to : c ≡ child_of (entry_at p s i)) where
@@ -235,17 +249,25 @@ module _ {p : Pool} {n : ℕ} {s : SlotNumber} {e : Entry} (h : GoesDown p n s e
       pub goes_down : GoesDown p (n - 1) c e
       goes_down = subst⁻¹ (λ (t : SlotNumber). GoesDown p (n - 1) t e) child_is down
 
-      pub way_back : (g : Growth) (v : List ℤ) → GrewTo (insert_below ours (n - 1) p c e) g v → Back v s i e.rect g
+      pub way_back : (g : Growth) (v : List ℤ) → GrewTo (insert_below ours (n - 1) p c e) (Some g) v → Back v s i e.rect g
       way_back g v b =
           subst⁻¹ (λ (k : ℕ). Back v s k e.rect g) place
-          (on_back (insert_below ours (n - 1) p child e) g v refl grew (subst (λ (t : SlotNumber). GrewTo (insert_below ours (n - 1) p t e) g v) child_is b))
+          (on_back (insert_below ours (n - 1) p child e) g v refl grew (subst (λ (t : SlotNumber). GrewTo (insert_below ours (n - 1) p t e) (Some g) v) child_is b))
 
-      pub way_up_lem : (g : Growth) (v : List ℤ) → GrewTo (insert_below ours (n - 1) p c e) g v → (r : Growth) (u : List ℤ)
+      below_as : insert_below ours n p s e ≡ adjust ours s i (insert_below ours (n - 1) p c e)
+      below_as =
+          let k : n ≡ suc (n - 1) = omega arith in
+          ap (λ (m : ℕ). insert_below ours m p s e) k ∙ below_down ours (n - 1) p s e
+          ∙ ap (λ (t : SlotNumber). adjust ours s at (insert_below ours (n - 1) p t e)) (sym child_is)
+          ∙ ap (λ (j : ℕ). adjust ours s j (insert_below ours (n - 1) p c e)) (sym place)
+
+      pub way_up_lem : (g : Growth) (v : List ℤ) → GrewTo (insert_below ours (n - 1) p c e) (Some g) v → (r : Option Growth) (u : List ℤ)
           → GrewTo (adjust ours s i (grown_of (read v) g)) r u → GrewTo (insert_below ours n p s e) r u
       way_up_lem g v b r u a =
-          let k : n ≡ suc (n - 1) = omega arith in
-          subst⁻¹ (λ (o : Grown). GrewTo o r u)
-          (ap (λ (m : ℕ). insert_below ours m p s e) k ∙ below_down ours (n - 1) p s e
-          ∙ ap (λ (t : SlotNumber). adjust ours s at (insert_below ours (n - 1) p t e)) (sym child_is)
-          ∙ ap (adjust ours s at) (grown_is (insert_below ours (n - 1) p c e) g v b)
-          ∙ ap (λ (j : ℕ). adjust ours s j (grown_of (read v) g)) (sym place)) a
+          subst⁻¹ (λ (o : Grown). GrewTo o r u) (below_as ∙ ap (adjust ours s i) (grown_is (insert_below ours (n - 1) p c e) g v b)) a
+
+      -- where no slot is free below, there is none here
+      pub way_full : (v : List ℤ) → GrewTo (insert_below ours (n - 1) p c e) None v → GrewTo (insert_below ours n p s e) None v
+      way_full v b =
+          subst⁻¹ (λ (o : Grown). GrewTo o None v)
+          (below_as ∙ ap (adjust ours s i) (full_is (insert_below ours (n - 1) p c e) v b) ∙ adjust_full ours s i) tt

@@ -1,5 +1,5 @@
 -- What the functions of a walk ask of the pool between them. A reader of `insert_at` and `insert_record` needs none of this.
-use Rattle.std.specs.Prelude.{◌≡◌, true, List, ℕ, suc, ◌+◌, ◌≤◌, ◌<◌, length, get_or, set, ℤ}
+use Rattle.std.specs.Prelude.{◌≡◌, true, List, ℕ, suc, ◌+◌, ◌≤◌, ◌<◌, length, get_or, set, ℤ, Option, Some, None, MatchOption}
 use Rattle.rules.specs.declared.Rect.{Rect}
 use Rattle.rules.specs.declared.SlotNumber.{SlotNumber}
 use Rattle.rules.specs.declared.Pointer.TheVariants.{Child}
@@ -16,12 +16,10 @@ use Rattle.sound_laws.specs.Tree.{slots_in, Once, Slot, Tree}
 use Rattle.insert_laws.specs.Grown.{Fits}
 use Rattle.insert.specs.Left.{MayGo}
 use Rattle.insert.specs.declared.Growth.{Growth}
-use Rattle.insert.specs.declared.Growth.TheVariants.{One, Two, Stuck}
 
--- nine numbers, of which the first n are places among the nine entries
-pub record Inside (places : List ℕ) (n : ℕ) : Type 0 where
-  pub nine : length places ≡ 9
-  pub inside : (k : ℕ) → k < n → get_or places k 0 < 9
+-- the numbers of a group are places among the nine entries
+abbrev pub Inside : List ℕ → Type 0
+Inside places = (k : ℕ) → k < length places → get_or places k 0 < 9
 
 -- the node at s is the top of a tree, and the entry may be in it
 pub record Here (p : Pool) (s : SlotNumber) (e : Entry) : Type 0 where
@@ -57,11 +55,13 @@ pub record Fitted (w : List ℤ) (f : FreeSlots) : Type 0 where
   pub fit : Fit w
   pub known : Known (read w) f
 
--- what the definitions call it, when the words hold p
+-- what the definitions call a node that has taken an entry, when the words hold p: it depends on the partner alone
+abbrev pub grown_by : Pool → Option Entry → I.Grown
+grown_by p None = I.Kept p
+grown_by p (Some x) = I.Split p x
+
 abbrev pub grown_of : Pool → Growth → I.Grown
-grown_of p (One f) = I.Kept p
-grown_of p (Two x f) = I.Split p x
-grown_of p Stuck = I.Full
+grown_of p g = grown_by p g.partner
 
 -- entry i of the node at s with its rectangle widened to hold another
 unfoldable pub widened : Pool → SlotNumber → ℕ → Rect → Pool
@@ -69,13 +69,12 @@ widened p s i new =
     put_entries p s (set (entries_at p s) i (entry (cover (entry_at p s i).rect new) (Child (child_of (entry_at p s i)))))
 
 -- the child of entry i of the node at s has become one node, whose cover is the entry's rectangle widened by the new one; or two
-abbrev pub Back : List ℤ → SlotNumber → ℕ → Rect → Growth → Type 0
-Back w s i new (One f) = Fitted w f × LeadsOn (read w) s i × (tighten (read w) s i ≡ widened (read w) s i new)
-Back w s i new (Two x f) = Fitted w f × LeadsOn (read w) s i × Here (tighten (read w) s i) s x
-Back w s i new Stuck = Unit {0}
+pub record Back (w : List ℤ) (s : SlotNumber) (i : ℕ) (new : Rect) (g : Growth) : Type 0 where
+  pub fitted : Fitted w g.free
+  pub leads : LeadsOn (read w) s i
+  pub child : MatchOption g.partner (tighten (read w) s i ≡ widened (read w) s i new) (λ x. Here (tighten (read w) s i) s x)
 
 -- the root has become one node or two
-abbrev pub Risen : List ℤ → Growth → Type 0
-Risen w (One f) = Fitted w f
-Risen w (Two x f) = Fitted w f × Beside (read w) x
-Risen w Stuck = Unit {0}
+pub record Risen (w : List ℤ) (g : Growth) : Type 0 where
+  pub fitted : Fitted w g.free
+  pub root : MatchOption g.partner (Unit {0}) (λ x. Beside (read w) x)

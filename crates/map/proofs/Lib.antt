@@ -1,2 +1,3 @@
 -- Laws that the proofs of `map` cite.
 pub mod Editions
+pub mod Numbers

@@ -2,6 +2,7 @@
 -- at the root.
 use mathlib.Core.Path.{◌≡◌, refl, sym, ap, subst, ◌∙◌}
 use mathlib.Core.List.{List}
+use mathlib.Core.Bool.{true}
 use Prim.Native.Nat.{ℕ, zero, suc, ◌+◌, ◌-◌, ◌≤◌, ◌<◌}
 use native.Mathlib.Decide.{dec_le}
 use native.Mathlib.Omega.{arith}
@@ -10,33 +11,33 @@ use lib.IntN.{ℤ}
 use Rattle.rules.specs.declared.SlotNumber.{SlotNumber}
 use Rattle.rules.specs.Numbers.{least}
 use Rattle.rules.specs.Pool.{Pool, entries_at}
-use Rattle.rules.specs.Layout.{read}
-use Rattle.layout_laws.specs.Slots.{Fit, InPool}
-use Rattle.sound_laws.proofs.Walk.{tree_node}
+use Rattle.rules.specs.Layout.{valid_length, read}
+use Rattle.layout_laws.specs.Slots.{InPool}
 use Rattle.delete_laws.specs.Way.{next_leaves, thin_levels}
 use Rattle.delete_laws.proofs.Thin.{next_leaves_lem, next_keeps, next_stays}
+use Rattle.find_leaf.specs.declared.Step.{Step}
 use Rattle.find_leaf.specs.declared.Way.{Way}
 use Rattle.find_leaf.specs.Ways.{path_of}
+use Rattle.find_leaf.proofs.Inner.{tree_in}
 use Rattle.delete.specs.Aside.{ComesDown}
-use Rattle.delete.proofs.Nodes.{in_pool_lem}
 use Rattle.delete.proofs.Climb.{node_on, down_on}
 
 -- the k lowest nodes are thin, and the root is not among them
-pub record Thins (p : Pool) (h : ℕ) (ns : List SlotNumber) (k : ℕ) : Type 0 where
-  pub thin : (j : ℕ) → j < k → length (entries_at p (node_on ns j)) ≤ least
+pub record Thins (p : Pool) (h : ℕ) (ss : List Step) (k : ℕ) : Type 0 where
+  pub thin : (j : ℕ) → j < k → length (entries_at p (node_on ss j)) ≤ least
   pub low : k < h
 
-pub one_thinner : {p : Pool} {h : ℕ} {ns : List SlotNumber} {k : ℕ} → Thins p h ns k → k + 1 < h
-    → length (entries_at p (node_on ns k)) ≤ least → Thins p h ns (k + 1)
-one_thinner {p} {h} {ns} {k} t more few = record { thin = λ j low. go j low (dec_le (suc j) k); low = more }
+pub one_thinner : {p : Pool} {h : ℕ} {ss : List Step} {k : ℕ} → Thins p h ss k → k + 1 < h
+    → length (entries_at p (node_on ss k)) ≤ least → Thins p h ss (k + 1)
+one_thinner {p} {h} {ss} {k} t more few = record { thin = λ j low. go j low (dec_le (suc j) k); low = more }
   where
-    go : (j : ℕ) → j < k + 1 → Dec (suc j ≤ k) → length (entries_at p (node_on ns j)) ≤ least
+    go : (j : ℕ) → j < k + 1 → Dec (suc j ≤ k) → length (entries_at p (node_on ss j)) ≤ least
     go j low (yes y) = t.thin j y
-    go j low (no n) = let same : k ≡ j = omega arith in subst (λ (i : ℕ). length (entries_at p (node_on ns i)) ≤ least) same few
+    go j low (no n) = let same : k ≡ j = omega arith in subst (λ (i : ℕ). length (entries_at p (node_on ss i)) ≤ least) same few
 
 module _ (p : Pool) (way : Way) where
   abbrev top : ℕ → SlotNumber
-  top l = node_on way.nodes l
+  top l = node_on way.steps l
 
   path_long : (l : ℕ) → length (path_of l way) ≡ l
   unfolding path_of
@@ -75,7 +76,7 @@ module _ (p : Pool) (way : Way) where
             ∙ next_keeps k k (length (entries_at p (top k))) keeps)
 
   -- the count, at the one or at the other end
-  module _ (h k : ℕ) (t : Thins p h way.nodes k) where
+  module _ (h k : ℕ) (t : Thins p h way.steps k) where
     pub counted_root : h ≤ k + 1 → k ≡ thin_levels p (path_of h way)
     counted_root end =
         let same : suc k ≡ h = omega (arith, t.low) in
@@ -87,5 +88,5 @@ module _ (p : Pool) (way : Way) where
         subst (λ (l : ℕ). k ≡ thin_levels p (path_of l way)) same (sym (thin_above k t.thin keeps (h - 1) (omega arith)))
 
 -- a node of the way
-pub level_in : {w : List ℤ} → Fit w → (way : Way) (h : ℕ) → ComesDown (read w) h way → (l : ℕ) → l < h → InPool w (node_on way.nodes l)
-level_in {w} f way h d l low = in_pool_lem f (tree_node (read w) (suc l) (node_on way.nodes l) (down_on (read w) way h d l low).tree).slot
+pub level_in : (w : List ℤ) → valid_length w ≡ true → (way : Way) (h : ℕ) → ComesDown (read w) h way → (l : ℕ) → l < h → InPool w (node_on way.steps l)
+level_in w v way h d l low = tree_in w (suc l) (node_on way.steps l) v (down_on (read w) way h d l low).tree

@@ -3,11 +3,12 @@
 use mathlib.Core.Path.{◌≡◌, refl, sym, ap, ap₂, subst, subst⁻¹, ◌∙◌}
 use mathlib.Core.Bool.{true, false}
 use mathlib.Core.List.{List, [], map}
-use mathlib.Core.Option.{some}
+use Rattle.std.specs.Prelude.{Some, Ok, Err}
 use Prim.Native.Nat.{ℕ, ◌+◌, ◌*◌, ◌≤◌, ◌<◌}
 use native.Mathlib.Omega.{arith}
 use lib.ListN.{length, length-map}
 use lib.IntN.{ℤ, pos}
+use Rattle.rules.specs.declared.RequestFault.{RequestFault}
 use Rattle.rules.specs.declared.Edition.{Edition}
 use Rattle.rules.specs.declared.Edition.TheVariants.{One, Two}
 use Rattle.rules.specs.declared.Owner.{Owner}
@@ -18,8 +19,8 @@ use Rattle.rules.specs.declared.Asked.{Asked}
 use Rattle.rules.specs.declared.Answer.{Answer}
 use Rattle.rules.specs.declared.Mode.{Mode}
 use Rattle.rules.specs.declared.Asked.TheVariants.{Search}
-use Rattle.rules.specs.declared.Reply.{Reply}
-use Rattle.rules.specs.declared.Reply.TheVariants.{Listed, BadRectangle, NoRoom}
+use Rattle.rules.specs.declared.Accepted.TheVariants.{Listed}
+use Rattle.rules.specs.declared.RequestFault.TheVariants.{BadRectangle, NoRoom}
 use Rattle.rules.specs.Numbers.{good_owner}
 use Rattle.rules.specs.Lists.{those}
 use Rattle.rules.specs.Owners.{owner_in, owner_sound, owned_by, as_found}
@@ -91,7 +92,7 @@ pub who_sound : (w : List ℤ) (o x : Owner) → good_owner o ≡ true → x ≡
 who_sound w o x good is = rw (is, ← edition_is w) (owner_in_sound (edition_of w) o good)
 
 -- .. and so are those of its requests
-pub asks_sound : (w : List ℤ) (o x : Owner) (q : Request) (a : Asked) → good_owner o ≡ true → x ≡ owner_in (edition_of w) o → asked x q ≡ some a
+pub asks_sound : (w : List ℤ) (o x : Owner) (q : Request) (a : Asked) → good_owner o ≡ true → x ≡ owner_in (edition_of w) o → asked x q ≡ Some a
     → owner_sound (read w).edition (asked_by a) ≡ true
 asks_sound w o x q a good is h =
     subst (λ (y : Owner). owner_sound (read w).edition y ≡ true) (sym (asked_owner x q a h)) (who_sound w o x good is)
@@ -137,10 +138,10 @@ module _ (w : List ℤ) (f : FreeSlots) (r : Ready w f) (mode : Mode) (window : 
       abbrev searches : Turn
       searches = request ours (read w) filled room (Search o mode window)
 
-      search_row : (reply : Reply) → searches ≡ turn (read w) reply [] → Serves (length w) searches (replied reply f) w u
-      search_row reply h = quiet (length w) searches (replied reply f) w u long (stays w f r searches reply h)
+      search_row : (fault : RequestFault) → searches ≡ turn (read w) (Err fault) [] → Serves (length w) searches (replied (Err fault) f) w u
+      search_row fault h = quiet (length w) searches (replied (Err fault) f) w u long (stays w f r searches fault h)
 
-      pub search_bad : valid window ≡ false → Serves (length w) searches (replied BadRectangle f) w u
+      pub search_bad : valid window ≡ false → Serves (length w) searches (replied (Err BadRectangle) f) w u
       search_bad v = search_row BadRectangle (search_3 (read w) filled room o mode window v)
 
       -- n are found, and k nodes opened: as the code has it
@@ -149,21 +150,21 @@ module _ (w : List ℤ) (f : FreeSlots) (r : Ready w f) (mode : Mode) (window : 
         told_is : told ≡ opened (read w) window
         told_is = tells ∙ opened_is k nodes
 
-        pub search_full : room < n → Serves (length w) searches (replied (NoRoom n told) f) w u
+        pub search_full : room < n → Serves (length w) searches (replied (Err (NoRoom n told)) f) w u
         search_full h =
             search_row (NoRoom n told)
             (search_8 (read w) filled room o mode window v (omega (arith, found_size, many, h))
-            ∙ ap (λ (m : ℕ). turn (read w) (NoRoom m (opened (read w) window)) []) (found_size ∙ sym many)
-            ∙ ap (λ (m : ℕ). turn (read w) (NoRoom n m) []) (sym told_is))
+            ∙ ap (λ (m : ℕ). turn (read w) (Err (NoRoom m (opened (read w) window))) []) (found_size ∙ sym many)
+            ∙ ap (λ (m : ℕ). turn (read w) (Err (NoRoom n m)) []) (sym told_is))
 
         pub search_done : n ≤ room → (x : List ℤ) → items_from w x 0 n ≡ own → shown_from w u 0 n ≡ ordered (shown_from w x 0 n) → Pointing w u 0 n
-            → (a : Answer) → a ≡ answer_of (Listed n filled told) → Serves (length w) searches (record { answer = a; listed = n; free = f }) w u
+            → (a : Answer) → a ≡ answer_of (Ok (Listed n filled told)) → Serves (length w) searches (record { answer = a; listed = n; free = f }) w u
         search_done h x lists sorted points a is =
             subst (λ (t : Turn). Serves (length w) t (record { answer = a; listed = n; free = f }) w u)
             (sym (search_0 (read w) filled room o mode window v (omega (arith, found_size, many, h)))) (record {
               ready = r;
               pool = refl;
-              answer = is ∙ ap answer_of (ap₂ (λ (m j : ℕ). Listed m filled j) (many ∙ sym found_size) told_is);
+              answer = is ∙ ap answer_of (ap₂ (λ (m j : ℕ). Ok (Listed m filled j)) (many ∙ sym found_size) told_is);
               listed = many ∙ sym found_size;
               few = omega (arith, own_small, many);
               items = sorted ∙ ap ordered (shown_items w x 0 n ∙ ap (map as_found) lists) ∙ sym found_is;

@@ -4,6 +4,7 @@ use mathlib.Core.Path.{◌≡◌, refl, sym, ap, subst, ◌∙◌}
 use mathlib.Core.List.{List}
 use lib.ListN.{length}
 use lib.IntN.{ℤ}
+use Rattle.std.specs.Prelude.{Option, Some, None}
 use Rattle.rules.specs.declared.Rect.{Rect}
 use Rattle.rules.specs.declared.Record.{Record}
 use Rattle.rules.specs.Pool.{Pool, moved}
@@ -18,17 +19,15 @@ use Rattle.free_slots.specs.Known.{Known}
 use Rattle.delete_laws.proofs.Delete.{delete_whole}
 use Rattle.delete_laws.proofs.Lasting.{delete_edition}
 use Rattle.delete_laws.proofs.Update.{update_done, update_stuck}
-use Rattle.insert.specs.declared.Outcome.{Outcome}
-use Rattle.insert.specs.declared.Outcome.TheVariants.{Made, Refused}
 use Rattle.insert.specs.Left.{Leaves}
 use Rattle.delete.specs.Removed.{Removes}
 
 -- the second half refused leaves what the first half left
-leaves_removes : (w v u : List ℤ) (c : Change) (o : Outcome) → length u ≡ length w → Leaves v c o u → Removes w c o u
-leaves_removes w v u (Done q) (Made f) e h = h
-leaves_removes w v u (Done q) Refused e h = absurd h
-leaves_removes w v u NoneFree (Made f) e h = absurd h
-leaves_removes w v u NoneFree Refused e h = e
+leaves_removes : (w v u : List ℤ) (c : Change) (o : Option FreeSlots) → length u ≡ length w → Leaves v c o u → Removes w c o u
+leaves_removes w v u (Done q) (Some f) e h = h
+leaves_removes w v u (Done q) None e h = absurd h
+leaves_removes w v u NoneFree (Some f) e h = absurd h
+leaves_removes w v u NoneFree None e h = e
 
 -- what the first half left, for the second
 pub record Half (w : List ℤ) (g : FreeSlots) (v : List ℤ) : Type 0 where
@@ -41,21 +40,18 @@ module _ (w : List ℤ) (whole : Whole (read w)) (old : Record) (new : Rect) whe
   abbrev deletes : Change
   deletes = delete_record ours (read w) old
 
-  pub replace_refused : (v : List ℤ) (o : Outcome) → o ≡ Refused → Removes w deletes o v → Removes w (update_record ours (read w) old new) Refused v
-  replace_refused v o is h = go deletes refl (subst (λ (x : Outcome). Removes w deletes x v) is h)
+  pub replace_refused : (v : List ℤ) → Removes w deletes None v → Removes w (update_record ours (read w) old new) None v
+  replace_refused v h = go deletes refl h
     where
-      go : (c : Change) → deletes ≡ c → Removes w c Refused v → Removes w (update_record ours (read w) old new) Refused v
+      go : (c : Change) → deletes ≡ c → Removes w c None v → Removes w (update_record ours (read w) old new) None v
       go (Done q) e k = absurd k
       go NoneFree e k = rw (update_stuck ours (read w) old new e) k
 
-  module _ (v : List ℤ) (first : Outcome) (g : FreeSlots) (is : first ≡ Made g) (h : Removes w deletes first v) where
-    half : Removes w deletes (Made g) v
-    half = subst (λ (x : Outcome). Removes w deletes x v) is h
-
+  module _ (v : List ℤ) (g : FreeSlots) (half : Removes w deletes (Some g) v) where
     pub replace_half : Half w g v
     replace_half = go deletes refl half
       where
-        go : (c : Change) → deletes ≡ c → Removes w c (Made g) v → Half w g v
+        go : (c : Change) → deletes ≡ c → Removes w c (Some g) v → Half w g v
         go (Done q) e k = record {
           fit = k.fit;
           whole = subst Whole (sym k.is) (delete_whole ours ours_lawful (read w) whole old q e);
@@ -64,11 +60,11 @@ module _ (w : List ℤ) (whole : Whole (read w)) (old : Record) (new : Rect) whe
         }
         go NoneFree e k = absurd k
 
-    pub replace_made : (o : Outcome) (u : List ℤ) → length u ≡ length w → Leaves v (insert_record ours (read v) (moved old new)) o u
+    pub replace_made : (o : Option FreeSlots) (u : List ℤ) → length u ≡ length w → Leaves v (insert_record ours (read v) (moved old new)) o u
         → Removes w (update_record ours (read w) old new) o u
     replace_made o u e l = go deletes refl half
       where
-        go : (c : Change) → deletes ≡ c → Removes w c (Made g) v → Removes w (update_record ours (read w) old new) o u
+        go : (c : Change) → deletes ≡ c → Removes w c (Some g) v → Removes w (update_record ours (read w) old new) o u
         go (Done q) d k =
             subst (λ (c : Change). Removes w c o u)
             (ap (λ (p : Pool). insert_record ours p (moved old new)) k.is ∙ sym (update_done ours (read w) old new q d))

@@ -1,5 +1,6 @@
 -- The rows of the table that apply, request by request: what is refused, and that what passes every row is done. The table is read from the
 -- top, so a row decides where those above it do not apply.
+use Rattle.std.specs.Prelude.{Ok, Err}
 use mathlib.Core.Path.{◌≡◌, refl}
 use mathlib.Core.Bool.{Bool, true, false, ◌&&◌}
 use mathlib.Core.List.{[]}
@@ -11,7 +12,8 @@ use Rattle.rules.specs.declared.Owner.{Owner}
 use Rattle.rules.specs.declared.Record.{Record}
 use Rattle.rules.specs.declared.Mode.{Mode}
 use Rattle.rules.specs.declared.Asked.TheVariants.{Insert, Delete, Update, Search}
-use Rattle.rules.specs.declared.Reply.TheVariants.{Listed, BadRectangle, BadNumber, NotHeld, Held, NoRoom}
+use Rattle.rules.specs.declared.Accepted.TheVariants.{Listed}
+use Rattle.rules.specs.declared.RequestFault.TheVariants.{BadRectangle, BadNumber, NotHeld, Held, NoRoom}
 use Rattle.rules.specs.Numbers.{good_number}
 use Rattle.rules.specs.Lists.{same}
 use Rattle.rules.specs.Owners.{owned_by}
@@ -33,15 +35,15 @@ module _ (p : Pool) (filled room : ℕ) (r : Record) where
   abbrev inserts : Turn
   inserts = request ours p filled room (Insert r)
 
-  pub insert_3 : valid r.rect ≡ false → inserts ≡ turn p BadRectangle []
+  pub insert_3 : valid r.rect ≡ false → inserts ≡ turn p (Err BadRectangle) []
   unfolding insert_fault first_row
   insert_3 v = insert_some ours p filled room r BadRectangle (rw (v, first_row))
 
-  pub insert_4 : valid r.rect ≡ true → good_number r.number ≡ false → inserts ≡ turn p BadNumber []
+  pub insert_4 : valid r.rect ≡ true → good_number r.number ≡ false → inserts ≡ turn p (Err BadNumber) []
   unfolding insert_fault first_row
   insert_4 v g = insert_some ours p filled room r BadNumber (rw (v, g, first_row))
 
-  pub insert_6 : valid r.rect ≡ true → good_number r.number ≡ true → held p r ≡ true → inserts ≡ turn p Held []
+  pub insert_6 : valid r.rect ≡ true → good_number r.number ≡ true → held p r ≡ true → inserts ≡ turn p (Err Held) []
   unfolding insert_fault first_row
   insert_6 v g h = insert_some ours p filled room r Held (rw (v, g, h, first_row))
 
@@ -54,15 +56,15 @@ module _ (p : Pool) (filled room : ℕ) (r : Record) where
   abbrev deletes : Turn
   deletes = request ours p filled room (Delete r)
 
-  pub delete_3 : valid r.rect ≡ false → deletes ≡ turn p BadRectangle []
+  pub delete_3 : valid r.rect ≡ false → deletes ≡ turn p (Err BadRectangle) []
   unfolding delete_fault first_row
   delete_3 v = delete_some ours p filled room r BadRectangle (rw (v, first_row))
 
-  pub delete_4 : valid r.rect ≡ true → good_number r.number ≡ false → deletes ≡ turn p BadNumber []
+  pub delete_4 : valid r.rect ≡ true → good_number r.number ≡ false → deletes ≡ turn p (Err BadNumber) []
   unfolding delete_fault first_row
   delete_4 v g = delete_some ours p filled room r BadNumber (rw (v, g, first_row))
 
-  pub delete_5 : valid r.rect ≡ true → good_number r.number ≡ true → held p r ≡ false → deletes ≡ turn p NotHeld []
+  pub delete_5 : valid r.rect ≡ true → good_number r.number ≡ true → held p r ≡ false → deletes ≡ turn p (Err NotHeld) []
   unfolding delete_fault first_row
   delete_5 v g h = delete_some ours p filled room r NotHeld (rw (v, g, h, first_row))
 
@@ -76,24 +78,24 @@ module _ (p : Pool) (filled room : ℕ) (old : Record) (new : Rect) where
   abbrev updates : Turn
   updates = request ours p filled room (Update old new)
 
-  pub update_old : valid old.rect ≡ false → updates ≡ turn p BadRectangle []
+  pub update_old : valid old.rect ≡ false → updates ≡ turn p (Err BadRectangle) []
   unfolding update_fault first_row other_held
   update_old v = update_some ours p filled room old new BadRectangle (rw (v, first_row))
 
-  pub update_new : valid old.rect ≡ true → valid new ≡ false → updates ≡ turn p BadRectangle []
+  pub update_new : valid old.rect ≡ true → valid new ≡ false → updates ≡ turn p (Err BadRectangle) []
   unfolding update_fault first_row other_held
   update_new v u = update_some ours p filled room old new BadRectangle (rw (v, u, first_row))
 
   module _ (v : valid old.rect ≡ true) (u : valid new ≡ true) where
-    pub update_4 : good_number old.number ≡ false → updates ≡ turn p BadNumber []
+    pub update_4 : good_number old.number ≡ false → updates ≡ turn p (Err BadNumber) []
     unfolding update_fault first_row other_held
     update_4 g = update_some ours p filled room old new BadNumber (rw (v, u, g, first_row))
 
-    pub update_5 : good_number old.number ≡ true → held p old ≡ false → updates ≡ turn p NotHeld []
+    pub update_5 : good_number old.number ≡ true → held p old ≡ false → updates ≡ turn p (Err NotHeld) []
     unfolding update_fault first_row other_held
     update_5 g h = update_some ours p filled room old new NotHeld (rw (v, u, g, h, first_row))
 
-    pub update_6 : good_number old.number ≡ true → held p old ≡ true → other_held p old new ≡ true → updates ≡ turn p Held []
+    pub update_6 : good_number old.number ≡ true → held p old ≡ true → other_held p old new ≡ true → updates ≡ turn p (Err Held) []
     unfolding update_fault first_row other_held
     update_6 g h o =
         update_some ours p filled room old new Held
@@ -111,16 +113,16 @@ module _ (p : Pool) (filled room : ℕ) (o : Owner) (mode : Mode) (window : Rect
   abbrev searches : Turn
   searches = request ours p filled room (Search o mode window)
 
-  pub search_3 : valid window ≡ false → searches ≡ turn p BadRectangle []
+  pub search_3 : valid window ≡ false → searches ≡ turn p (Err BadRectangle) []
   unfolding search_fault first_row
   search_3 v = search_some ours p filled room o mode window BadRectangle (rw (v, first_row))
 
-  pub search_8 : valid window ≡ true → room < length (found p o mode window) → searches ≡ turn p (NoRoom (length (found p o mode window)) (opened p window)) []
+  pub search_8 : valid window ≡ true → room < length (found p o mode window) → searches ≡ turn p (Err (NoRoom (length (found p o mode window)) (opened p window))) []
   unfolding search_fault first_row
   search_8 v h = search_some ours p filled room o mode window (NoRoom (length (found p o mode window)) (opened p window)) (rw (v, lt-ltb _ _ h, first_row))
 
   pub search_0 : valid window ≡ true → length (found p o mode window) ≤ room
-      → searches ≡ turn p (Listed (length (found p o mode window)) filled (opened p window)) (found p o mode window)
+      → searches ≡ turn p (Ok (Listed (length (found p o mode window)) filled (opened p window))) (found p o mode window)
   unfolding search_fault first_row
   search_0 v h = search_none ours p filled room o mode window (rw (v, le-ltb _ _ h, first_row))
 

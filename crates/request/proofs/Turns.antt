@@ -9,13 +9,15 @@ use native.Mathlib.Nat.{mul-le-mul}
 use lib.Dec.{ltb}
 use lib.ListN.{length}
 use lib.IntN.{ℤ}
+use Rattle.std.specs.Prelude.{Option, Some, None, Ok, Err, ok_or}
 use borrow.Author.Tests.{ltb-false}
+use Rattle.rules.specs.declared.RequestFault.{RequestFault}
 use Rattle.rules.specs.declared.Rect.{Rect}
 use Rattle.rules.specs.declared.Record.{Record}
 use Rattle.rules.specs.declared.Asked.{Asked}
 use Rattle.rules.specs.declared.Asked.TheVariants.{Insert, Delete, Update}
-use Rattle.rules.specs.declared.Reply.{Reply}
-use Rattle.rules.specs.declared.Reply.TheVariants.{Changed, NoSlot}
+use Rattle.rules.specs.declared.Accepted.TheVariants.{Changed}
+use Rattle.rules.specs.declared.RequestFault.TheVariants.{NoSlot}
 use Rattle.rules.specs.Owners.{owner_sound}
 use Rattle.rules.specs.Pool.{Pool, stored, held, free_count}
 use Rattle.rules.specs.Sound.{owners_sound}
@@ -34,12 +36,10 @@ use Rattle.delete_laws.specs.Shrunk.{EachPool, room_for}
 use Rattle.delete_laws.proofs.Spare.{room_least}
 use Rattle.find_leaf.specs.declared.Way.{Way}
 use Rattle.find_leaf.specs.Ways.{path_of, Gives}
-use Rattle.insert.specs.declared.Outcome.{Outcome}
-use Rattle.insert.specs.declared.Outcome.TheVariants.{Made, Refused}
 use Rattle.insert.specs.Left.{HoldsPool, Leaves}
 use Rattle.delete.specs.Removed.{Removes}
 use Rattle.delete.proofs.Deleted.{ToDelete, finds}
-use Rattle.request.specs.Serving.{Ready, Changes, ChangesTo, replied, came, TakenBack, room_from, other_held}
+use Rattle.request.specs.Serving.{Ready, Changes, ChangesTo, replied, changed, TakenBack, room_from, other_held}
 use Rattle.rules_laws.proofs.Splits.{ours_lawful}
 use Rattle.insert_laws.proofs.Whole.{insert_whole}
 use Rattle.delete_laws.proofs.Delete.{delete_whole, delete_fits, pool_left}
@@ -83,59 +83,48 @@ held_ready q f w t h = record {
 -- ---- refused
 
 module _ (w : List ℤ) (f : FreeSlots) (r : Ready w f) where
-  pub stays : (t : Turn) (reply : Reply) → t ≡ turn (read w) reply [] → Changes (length w) t (replied reply f) w
+  pub stays : (t : Turn) (fault : RequestFault) → t ≡ turn (read w) (Err fault) [] → Changes (length w) t (replied (Err fault) f) w
   unfolding replied
-  stays t reply h = rw h (record { ready = r; pool = refl; answer = refl; none = refl; listed = refl; same = refl })
+  stays t fault h = rw h (record { ready = r; pool = refl; answer = refl; none = refl; listed = refl; same = refl })
 
 -- ---- changed
 
 made : (q : Pool) (g : FreeSlots) (v : List ℤ) (n : ℕ) → Keeps q → HoldsPool q g v → length v ≡ n
-    → Changes n (turn q Changed []) (replied Changed g) v
+    → Changes n (turn q (Ok Changed) []) (replied (Ok Changed) g) v
 unfolding replied
 made q g v n t h e = record { ready = held_ready q g v t h; pool = h.is; answer = refl; none = refl; listed = refl; same = e }
 
 module _ (w : List ℤ) (f : FreeSlots) (r : Ready w f) where
   -- an insert: where it is refused nothing was written
-  pub inserted : (change : Change) → EachPool Keeps change → (o : Outcome) (v : List ℤ) → length v ≡ length w → Leaves w change o v
-      → Changes (length w) (after_change (read w) change) (came o f) v
-  unfolding after_change came
-  inserted (Done q) t (Made g) v e h = made q g v (length w) t h e
-  inserted (Done q) t Refused v e h = absurd h
-  inserted NoneFree t (Made g) v e h = absurd h
-  inserted NoneFree t Refused v e h = subst (Changes (length w) (turn (read w) NoSlot []) (replied NoSlot f)) (sym h) (stays w f r (turn (read w) NoSlot []) NoSlot refl)
+  pub inserted : (change : Change) → EachPool Keeps change → (o : Option FreeSlots) (v : List ℤ) → length v ≡ length w → Leaves w change o v
+      → Changes (length w) (after_change (read w) change) (changed f (ok_or o NoSlot)) v
+  unfolding after_change changed
+  inserted (Done q) t (Some g) v e h = made q g v (length w) t h e
+  inserted (Done q) t None v e h = absurd h
+  inserted NoneFree t (Some g) v e h = absurd h
+  inserted NoneFree t None v e h = subst (Changes (length w) (turn (read w) (Err NoSlot) []) (replied (Err NoSlot) f)) (sym h) (stays w f r (turn (read w) (Err NoSlot) []) NoSlot refl)
 
   -- a delete or an update: where it is refused it is taken back from the copy, which was made where slots are scarce; where they are not,
   -- it is not refused
   module _ (room : ℕ) (kept : List ℤ) (copied : ltb f.count room ≡ true → kept ≡ w) where
-    pub removed : (change : Change) → EachPool Keeps change → (room ≤ f.count → change ≢ NoneFree) → (o : Outcome) (v : List ℤ)
+    pub removed : (change : Change) → EachPool Keeps change → (room ≤ f.count → change ≢ NoneFree) → (o : Option FreeSlots) (v : List ℤ)
         → Removes w change o v → (u : List ℤ) → length u ≡ length w → TakenBack o v kept u
-        → Changes (length w) (after_change (read w) change) (came o f) u
-    unfolding after_change came
-    removed (Done q) t enough (Made g) v h u e back = made q g u (length w) t (subst (HoldsPool q g) (sym back) h) e
-    removed (Done q) t enough Refused v h u e back = absurd h
-    removed NoneFree t enough (Made g) v h u e back = absurd h
-    removed NoneFree t enough Refused v h u e back = go (ltb f.count room) refl
+        → Changes (length w) (after_change (read w) change) (changed f (ok_or o NoSlot)) u
+    unfolding after_change changed
+    removed (Done q) t enough (Some g) v h u e back = made q g u (length w) t (subst (HoldsPool q g) (sym back) h) e
+    removed (Done q) t enough None v h u e back = absurd h
+    removed NoneFree t enough (Some g) v h u e back = absurd h
+    removed NoneFree t enough None v h u e back = go (ltb f.count room) refl
       where
-        go : (b : Bool) → ltb f.count room ≡ b → Changes (length w) (turn (read w) NoSlot []) (replied NoSlot f) u
-        go true s = subst (Changes (length w) (turn (read w) NoSlot []) (replied NoSlot f)) (sym (back ∙ copied s)) (stays w f r (turn (read w) NoSlot []) NoSlot refl)
+        go : (b : Bool) → ltb f.count room ≡ b → Changes (length w) (turn (read w) (Err NoSlot) []) (replied (Err NoSlot) f) u
+        go true s = subst (Changes (length w) (turn (read w) (Err NoSlot) []) (replied (Err NoSlot) f)) (sym (back ∙ copied s)) (stays w f r (turn (read w) (Err NoSlot) []) NoSlot refl)
         go false s = absurd (enough (ltb-false f.count room s) refl)
 
--- ---- what is handed back, case by case
-
-module _ (o : Outcome) (f : FreeSlots) where
-  pub came_made : (g : FreeSlots) → o ≡ Made g → replied Changed g ≡ came o f
-  unfolding came
-  came_made g h = rw h
-
-  pub came_refused : o ≡ Refused → replied NoSlot f ≡ came o f
-  unfolding came
-  came_refused h = rw h
-
-module _ (o : Outcome) (changed copy w : List ℤ) where
-  pub back_made : (g : FreeSlots) → o ≡ Made g → w ≡ changed → TakenBack o changed copy w
+module _ (o : Option FreeSlots) (changed copy w : List ℤ) where
+  pub back_made : (g : FreeSlots) → o ≡ Some g → w ≡ changed → TakenBack o changed copy w
   back_made g h e = rw h e
 
-  pub back_refused : o ≡ Refused → w ≡ copy → TakenBack o changed copy w
+  pub back_refused : o ≡ None → w ≡ copy → TakenBack o changed copy w
   back_refused h e = rw h e
 
 -- ---- how many free slots are enough
@@ -158,9 +147,9 @@ room_is p way records h k eh ek = rw (eh, ek, ← (plus_one (p.height + most_bac
 -- ---- the three changes
 
 -- what a delete is asked with
-pub to_delete : (w : List ℤ) (f : FreeSlots) → Ready w f → (p : Record) (way : Way) → way.found ≡ true
-    → Gives (path_to (read w) p) (read w).height way → ToDelete w p way
-to_delete w f r p way found shows = record { fit = ready_fit w f r; whole = ready_whole w f r; owned = ready_owners w f r; found = found; shows = shows }
+pub to_delete : (w : List ℤ) (f : FreeSlots) → Ready w f → (p : Record) (way : Way)
+    → Gives (path_to (read w) p) (read w).height (Some way) → ToDelete w p way
+to_delete w f r p way shows = record { fit = ready_fit w f r; whole = ready_whole w f r; owned = ready_owners w f r; shows = shows }
 
 module _ (p : Pool) (way : Path) (f : FreeSlots) (many : f.count ≡ free_count p) where
   delete_enough : room_from p way 0 ≤ f.count → room_for (most_back p way) p.height ≤ free_count p
@@ -173,15 +162,16 @@ module _ (p : Pool) (way : Path) (f : FreeSlots) (many : f.count ≡ free_count 
 
 module _ (w : List ℤ) (f : FreeSlots) (r : Ready w f) where
   -- a row of the table applies
-  pub row_applies : (a : Asked) (reply : Reply) → ((filled room : ℕ) → request ours (read w) filled room a ≡ turn (read w) reply [])
-      → ChangesTo w a (replied reply f) w
-  row_applies a reply h filled room = stays w f r _ reply (h filled room)
+  pub row_applies : (a : Asked) (fault : RequestFault) → ((filled room : ℕ) → request ours (read w) filled room a ≡ turn (read w) (Err fault) [])
+      → ChangesTo w a (changed f (Err fault)) w
+  unfolding changed
+  row_applies a fault h filled room = stays w f r _ fault (h filled room)
 
   module _ (p : Record) (a : valid p.rect ≡ true) (b : good_number p.number ≡ true) where
-    pub insert_changes : owner_sound (read w).edition p.owner ≡ true → held (read w) p ≡ false → (o : Outcome) (v : List ℤ)
-        → length v ≡ length w → Leaves w (insert_record ours (read w) p) o v → ChangesTo w (Insert p) (came o f) v
+    pub insert_changes : owner_sound (read w).edition p.owner ≡ true → held (read w) p ≡ false → (o : Option FreeSlots) (v : List ℤ)
+        → length v ≡ length w → Leaves w (insert_record ours (read w) p) o v → ChangesTo w (Insert p) (changed f (ok_or o NoSlot)) v
     insert_changes s d o v e h filled room =
-        subst (λ (t : Turn). Changes (length w) t (came o f) v) (sym (insert_0 (read w) filled room p a b d))
+        subst (λ (t : Turn). Changes (length w) t (changed f (ok_or o NoSlot)) v) (sym (insert_0 (read w) filled room p a b d))
         (inserted w f r (insert_record ours (read w) p)
         (pool_left Keeps (insert_record ours (read w) p) (λ q z. (
           insert_whole ours ours_lawful (read w) (ready_whole w f r) p a b q z,
@@ -193,10 +183,10 @@ module _ (w : List ℤ) (f : FreeSlots) (r : Ready w f) where
       path = path_of (read w).height way
 
       pub delete_changes : (halfway : Bool) → halfway ≡ ltb f.count (room_from (read w) path 0) → (halfway ≡ true → kept ≡ w)
-          → (o : Outcome) (v : List ℤ) → Removes w (delete_record ours (read w) p) o v → (u : List ℤ) → length u ≡ length w → TakenBack o v kept u
-          → ChangesTo w (Delete p) (came o f) u
+          → (o : Option FreeSlots) (v : List ℤ) → Removes w (delete_record ours (read w) p) o v → (u : List ℤ) → length u ≡ length w → TakenBack o v kept u
+          → ChangesTo w (Delete p) (changed f (ok_or o NoSlot)) u
       delete_changes halfway is copied o v h u e back filled room =
-          subst (λ (t : Turn). Changes (length w) t (came o f) u) (sym (delete_0 (read w) filled room p a b d))
+          subst (λ (t : Turn). Changes (length w) t (changed f (ok_or o NoSlot)) u) (sym (delete_0 (read w) filled room p a b d))
           (removed w f r (room_from (read w) path 0) kept (λ few. copied (is ∙ few)) (delete_record ours (read w) p)
           (pool_left Keeps (delete_record ours (read w) p) (λ q z. (
             delete_whole ours ours_lawful (read w) (ready_whole w f r) p q z,
@@ -208,10 +198,10 @@ module _ (w : List ℤ) (f : FreeSlots) (r : Ready w f) where
 
       module _ (new : Rect) (c : valid new ≡ true) (other : other_held (read w) p new ≡ false) where
         pub update_changes : (halfway : Bool) → halfway ≡ ltb f.count (room_from (read w) path 1) → (halfway ≡ true → kept ≡ w)
-            → (o : Outcome) (v : List ℤ) → Removes w (update_record ours (read w) p new) o v → (u : List ℤ) → length u ≡ length w
-            → TakenBack o v kept u → ChangesTo w (Update p new) (came o f) u
+            → (o : Option FreeSlots) (v : List ℤ) → Removes w (update_record ours (read w) p new) o v → (u : List ℤ) → length u ≡ length w
+            → TakenBack o v kept u → ChangesTo w (Update p new) (changed f (ok_or o NoSlot)) u
         update_changes halfway is copied o v h u e back filled room =
-            subst (λ (t : Turn). Changes (length w) t (came o f) u) (sym (update_0 (read w) filled room p new a c b d other))
+            subst (λ (t : Turn). Changes (length w) t (changed f (ok_or o NoSlot)) u) (sym (update_0 (read w) filled room p new a c b d other))
             (removed w f r (room_from (read w) path 1) kept (λ few. copied (is ∙ few)) (update_record ours (read w) p new)
             (pool_left Keeps (update_record ours (read w) p new) (λ q z. (
               update_whole ours (read w) p new ours_lawful (ready_whole w f r) d c q z,

@@ -1,6 +1,5 @@
 -- What one request leaves: the pool in the words lent, the answer, and the records that a search lists, as items in the workspace.
-use Rattle.std.specs.Prelude.{◌≡◌, Bool, true, cond, not, ◌&&◌, List, [], ℕ, suc, ◌+◌, ◌*◌, ◌≤◌, length, ℤ, pos}
-use Rattle.std.proofs.Math.Option.{some}
+use Rattle.std.specs.Prelude.{◌≡◌, Bool, true, cond, not, ◌&&◌, List, [], ℕ, suc, ◌+◌, ◌*◌, ◌≤◌, length, ℤ, pos, Option, Some, None, false, Result, Ok, Err}
 use Rattle.rules.specs.declared.Rect.{Rect}
 use Rattle.rules.specs.declared.Owner.{Owner}
 use Rattle.rules.specs.declared.Record.{Record}
@@ -8,14 +7,14 @@ use Rattle.rules.specs.declared.Request.{Request}
 use Rattle.rules.specs.declared.Asked.{Asked}
 use Rattle.rules.specs.declared.Mode.{Mode}
 use Rattle.rules.specs.declared.Mode.TheVariants.{Meeting, OnlyInside, OnlyEnclosing}
-use Rattle.rules.specs.declared.Reply.{Reply}
-use Rattle.rules.specs.declared.Reply.TheVariants.{Changed, NoSlot}
+use Rattle.rules.specs.declared.Accepted.TheVariants.{Changed}
+use Rattle.rules.specs.declared.RequestFault.{RequestFault}
 use Rattle.rules.specs.Lists.{same}
 use Rattle.rules.specs.Compare.{exact_pair}
 use Rattle.rules.specs.Pool.{Pool, moved, held}
 use Rattle.rules.specs.Layout.{valid_length, read}
 use Rattle.rules.specs.Sound.{sound}
-use Rattle.rules.specs.Answers.{answer_of}
+use Rattle.rules.specs.Answers.{Reply, answer_of}
 use Rattle.rules.specs.Insert.{ours}
 use Rattle.rules.specs.Delete.{Path}
 use Rattle.rules.specs.Request.{Turn, asked, request}
@@ -24,8 +23,6 @@ use Rattle.free_slots.specs.Known.{Known}
 use Rattle.found_items.specs.Items.{shown_from, Pointing}
 use Rattle.delete_laws.specs.Way.{most_back}
 use Rattle.delete_laws.specs.Shrunk.{room_for}
-use Rattle.insert.specs.declared.Outcome.{Outcome}
-use Rattle.insert.specs.declared.Outcome.TheVariants.{Made, Refused}
 use Rattle.request.specs.declared.Served.{Served}
 
 -- a sound pool, and what is known of its free slots
@@ -62,20 +59,25 @@ ChangesTo w a r left = (filled room : ℕ) → Changes (length w) (request ours 
 -- the request q of an owner's batch is done in the words w
 abbrev pub ServesTo : List ℤ → Owner → Request → ℕ → ℕ → Served → List ℤ → List ℤ → Type 0
 ServesTo w o q filled room r left scratch =
-    (a : Asked) → asked o q ≡ some a → Serves (length w) (request ours (read w) filled room a) r left scratch
+    (a : Asked) → asked o q ≡ Some a → Serves (length w) (request ours (read w) filled room a) r left scratch
 
--- what is handed back for a reply that lists nothing, and for a change that was made or refused
+-- what is handed back for a reply that lists nothing, and for a change that was made or refused: then the free slots are those of before
 unfoldable pub replied : Reply → FreeSlots → Served
 replied reply f = record { answer = answer_of reply; listed = 0; free = f }
 
-unfoldable pub came : Outcome → FreeSlots → Served
-came (Made f) before = replied Changed f
-came Refused before = replied NoSlot before
+unfoldable pub changed : FreeSlots → Result FreeSlots RequestFault → Served
+changed before (Ok f) = replied (Ok Changed) f
+changed before (Err fault) = replied (Err fault) before
+
+-- a check: what refuses where it does not hold
+abbrev pub refused_unless : Bool → RequestFault → Result (Unit {0}) RequestFault
+refused_unless true fault = Ok tt
+refused_unless false fault = Err fault
 
 -- a change that was refused is taken back from the copy; one that was made stays
-abbrev pub TakenBack : Outcome → List ℤ → List ℤ → List ℤ → Type 0
-TakenBack (Made f) changed copy w = w ≡ changed
-TakenBack Refused changed copy w = w ≡ copy
+abbrev pub TakenBack : Option FreeSlots → List ℤ → List ℤ → List ℤ → Type 0
+TakenBack (Some f) changed copy w = w ≡ changed
+TakenBack None changed copy w = w ≡ copy
 
 -- so many free slots are enough to take out the pair at the end of the way, and to put in so many records after it: for a delete none, for
 -- an update one (`delete_fits`, `update_fits` of crate `delete_laws`)

@@ -1,12 +1,13 @@
-use Prim.Native.Nat.{◌-◌}
-use Rattle.rules.specs.Pool.{entries_at}
-use Rattle.rules.specs.Layout.{read}
-use Rattle.delete.proofs.Listed.{Setting}
+use mathlib.Core.Path.{◌≡◌}
+use mathlib.Core.List.{map, ◌++◌}
+use Prim.Native.Nat.{◌+◌}
+use lib.ListN.{take}
+use Rattle.pool.specs.Reading.{entries_of}
+use Rattle.delete.specs.Aside.{aside, asides_of}
 use Rattle.delete.proofs.set_aside.Given as goal
 
 abbrev pub invariant-loop-k : goal.invariant-loop-k
 invariant-loop-k l =
-    Setting (entries_at (read l.pool) l.t) l.level l.initial.entries l.initial.levels l.count l.n l.entries l.levels l.k
-
-abbrev pub decreases-loop-k : goal.decreases-loop-k
-decreases-loop-k l = l.n - l.k
+    (asides_of l.asides ≡ asides_of l.initial.asides ++ map (aside l.level) (take l.k (entries_of l.node)))
+    × (l.asides.count ≡ l.initial.asides.count + l.k)
+    × (l.asides.free ≡ l.initial.asides.free)

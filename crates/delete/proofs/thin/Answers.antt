@@ -5,12 +5,11 @@ use Rattle.rules.specs.Numbers.{least}
 use Rattle.delete.specs.Aside.{thin_at}
 use Rattle.delete.proofs.thin.Goals as goal
 
-pub count_of-requires : goal.count_of-requires
-count_of-requires c = c.requires
-
-pub height_of-requires : goal.height_of-requires
-height_of-requires c = c.requires.right
+pub node-requires : goal.node-requires
+node-requires c = c.requires
 
 pub returns : goal.returns
 unfolding thin_at
-returns c = λ i. leb (c.count_of.ensures.is i) least && ltb 1 (c.height_of.ensures i)
+returns c =
+    let count = rw (c.node.ensures.words, c.node.ensures.slot) at c.count.ensures.is in
+    λ i. leb (count i) least && ltb 1 (c.height.ensures i)

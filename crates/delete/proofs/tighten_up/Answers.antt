@@ -1,7 +1,6 @@
 -- `delete::tighten_up` meets its contract: the pair is out, each turn makes the next cover tight, and the first that stays is the last.
 use borrow.Author.Rules.{rules}
 use mathlib.Core.Path.{sym, ◌∙◌}
-use native.Mathlib.Omega.{arith}
 use Rattle.rules.specs.Layout.{read}
 use Rattle.rules_laws.proofs.Bools.{not_true}
 use Rattle.delete.proofs.Nodes.{few_read}
@@ -21,27 +20,6 @@ pub loop-l-init : goal.loop-l-init
 loop-l-init c =
     tightening_first c.args.pool.now c.requires.fit_2 (few_read c.requires.fit_2) c.args.way c.args.height
     c.requires.comes_down c.requires.keeps_enough c.take_out.new.pool c.take_out.ensures.is c.take_out.ensures.fit
-
-pub offset_bounds-nodes-l : goal.offset_bounds-nodes-l
-offset_bounds-nodes-l c = omega (arith, c.loop-l-test.true, c.loop-l.invariant.levels)
-
-pub bounds-nodes-l : goal.bounds-nodes-l
-bounds-nodes-l c = omega (arith, c.loop-l-test.true, c.loop-l.invariant.levels)
-
-pub offset_bounds-places-l : goal.offset_bounds-places-l
-offset_bounds-places-l c = omega (arith, c.loop-l-test.true, c.loop-l.invariant.levels)
-
-pub bounds-places-l : goal.bounds-places-l
-bounds-places-l c = omega (arith, c.loop-l-test.true, c.loop-l.invariant.levels)
-
-pub overflow_sub-l : goal.overflow_sub-l
-overflow_sub-l c = omega (arith, c.loop-l.invariant.low)
-
-pub offset_bounds-nodes-l-in-loop-l : goal.offset_bounds-nodes-l-in-loop-l
-offset_bounds-nodes-l-in-loop-l c = omega (arith, c.loop-l-test.true, c.loop-l.invariant.levels)
-
-pub bounds-nodes-l-in-loop-l : goal.bounds-nodes-l-in-loop-l
-bounds-nodes-l-in-loop-l c = omega (arith, c.loop-l-test.true, c.loop-l.invariant.levels)
 
 pub tightened-requires : goal.tightened-requires
 tightened-requires c =
@@ -65,14 +43,6 @@ returns-then-not-tightened c =
           c.take_out.new.pool c.take_out.ensures.is f k));
     }
 
-pub overflow_add-l : goal.overflow_add-l
-overflow_add-l c =
-    omega (arith, c.loop-l-test.true, c.loop-l.invariant.levels)
-
-pub loop-l-smaller : goal.loop-l-smaller
-loop-l-smaller c =
-    omega (arith, c.loop-l-test.true)
-
 pub loop-l-preserved : goal.loop-l-preserved
 loop-l-preserved c =
     tightening_next c.loop-l.invariant c.loop-l-test.true c.tightened.new.pool c.tightened.ensures.is (search rules) c.tightened.ensures.fit
@@ -89,9 +59,3 @@ returns c =
           (out_still w c.requires.fit_2 (few_read c.requires.fit_2) c.args.way c.args.height c.requires.comes_down c.requires.keeps_enough
           c.take_out.new.pool c.take_out.ensures.is f k));
     }
-
-pub bounds-nodes-0 : goal.bounds-nodes-0
-bounds-nodes-0 c = omega arith
-
-pub bounds-places-0 : goal.bounds-places-0
-bounds-places-0 c = omega arith

@@ -1,4 +1,4 @@
--- `delete::zero_slot` meets its contract: a node of level 0 with no entries is written.
+-- A node of level 0 with no entries is written.
 use native.Mathlib.Omega.{arith}
 use Rattle.rules.specs.Pool.{zero_slot}
 use Rattle.delete.proofs.zero_slot.Goals as goal
@@ -9,7 +9,7 @@ put_node-requires c =
       fit_2 = c.requires.fit_2;
       in_pool = c.requires.in_pool;
       level_le_most_slots = omega arith;
-      n_le_most = omega arith;
+      few = omega arith;
       small_all = record { small = λ i h. absurd (omega arith) };
       kind_all = record { kind = λ i h. absurd (omega arith) };
     }

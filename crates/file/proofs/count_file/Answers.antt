@@ -9,14 +9,13 @@ use Rattle.file.proofs.count_file.Goals as goal
 
 pub edition_of-requires : goal.edition_of-requires
 edition_of-requires c =
-    some_word c.args.pool.now c.requires.pool_value
+    some_word c.args.pool.words.now c.args.pool.right
 
 pub list_all-n-requires : goal.list_all-n-requires
 list_all-n-requires c =
     record {
-      pool_value = c.requires.pool_value;
       whole = c.requires.whole;
-      owner_value = first_told (edition_of c.args.pool.now) c.edition_of.ensures c.first_owner-owner.ensures;
+      owner_value = first_told (edition_of c.args.pool.words.now) c.edition_of.ensures c.of.ensures.first;
       len = c.count_second-others.auto.items ∙ c.requires.len;
     }
 
@@ -29,5 +28,5 @@ overflow_add-count c =
 
 pub returns : goal.returns
 returns c =
-    counts_file c.args.pool.now _ (c.first_owner-owner.ensures ∙ ap first_owner c.edition_of.ensures) c.list_all-n.ensures
+    counts_file c.args.pool.words.now _ (c.of.ensures.first ∙ ap first_owner c.edition_of.ensures) c.list_all-n.ensures
     c.count_new.ensures.is c.count_new.ensures.most c.count_second-others.ensures.is c.count_second-others.ensures.most

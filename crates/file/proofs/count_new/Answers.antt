@@ -1,5 +1,5 @@
 use native.Mathlib.Omega.{arith}
-use Rattle.file.proofs.News.{count_first, count_next, count_all}
+use Rattle.file.proofs.News.{bool_byte_most, count_first, count_next, count_all}
 use Rattle.file.proofs.count_new.Goals as goal
 
 pub loop-k-init : goal.loop-k-init
@@ -13,18 +13,18 @@ is_new-requires c = record {
 
 pub overflow_add-count : goal.overflow_add-count
 overflow_add-count c =
-    omega (arith, c.loop-k.invariant.few, c.loop-k-test.true, c.requires.few, c.one_if-count.ensures.most)
-
-pub overflow_add-k : goal.overflow_add-k
-overflow_add-k c =
-    omega (arith, c.loop-k-test.true, c.requires.few)
-
-pub loop-k-smaller : goal.loop-k-smaller
-loop-k-smaller c = omega (arith, c.loop-k-test.true)
+    omega (
+      arith,
+      c.loop-k.invariant.few,
+      c.loop-k-test.true,
+      c.requires.few,
+      c.from-count.ensures,
+      bool_byte_most c.is_new.result,
+    )
 
 pub loop-k-preserved : goal.loop-k-preserved
 loop-k-preserved c =
-    count_next _ c.loop-k.invariant c.loop-k-test.true c.is_new.ensures c.one_if-count.ensures.is
+    count_next _ c.loop-k.invariant c.loop-k-test.true c.is_new.ensures c.from-count.ensures
 
 pub returns : goal.returns
 returns c =

@@ -5,7 +5,7 @@ use Rattle.file.proofs.fill.Goals as goal
 
 pub edition_of-requires : goal.edition_of-requires
 edition_of-requires c =
-    some_word c.args.pool.now c.requires.pool_value
+    some_word c.args.pool.words.now c.args.pool.right
 
 pub place_of-bytes-requires : goal.place_of-bytes-requires
 place_of-bytes-requires c = omega (arith, c.count_file-c.ensures.few)
@@ -15,18 +15,17 @@ overflow_add-bytes c = omega (arith, c.place_of-bytes.ensures.most, c.count_file
 
 pub returns-then-file-bytes : goal.returns-then-file-bytes
 returns-then-file-bytes c =
-    fills_short c.args.pool.now c.args.file.now c.edition_of.ensures c.count_file-c.ensures.is
+    fills_short c.args.pool.words.now c.args.file.now c.edition_of.ensures c.count_file-c.ensures.is
     c.place_of-bytes.ensures.is (omega (arith, c.if-file-bytes.true))
 
 pub put_file-requires : goal.put_file-requires
 put_file-requires c =
     record {
-      pool_value = c.requires.pool_value;
       whole = c.requires.whole;
       counts_file = c.count_file-c.ensures;
       pool_in_bounds = omega (
         arith,
-        all_long c.args.pool.now c.args.file.now c.edition_of.ensures c.count_file-c.ensures.is
+        all_long c.args.pool.words.now c.args.file.now c.edition_of.ensures c.count_file-c.ensures.is
             c.place_of-bytes.ensures.is,
         c.if-file-bytes.false,
       );
@@ -34,5 +33,5 @@ put_file-requires c =
 
 pub returns : goal.returns
 returns c =
-    fills_all c.args.pool.now c.args.file.now c.edition_of.ensures c.count_file-c.ensures.is c.place_of-bytes.ensures.is
+    fills_all c.args.pool.words.now c.args.file.now c.edition_of.ensures c.count_file-c.ensures.is c.place_of-bytes.ensures.is
     (omega (arith, c.if-file-bytes.false)) c.put_file.ensures

@@ -10,9 +10,8 @@ use Rattle.file.proofs.list_all.Goals as goal
 
 pub list-w-requires : goal.list-w-requires
 list-w-requires c =
-    let few = few_found c.args.pool.now c.requires.pool_value c.requires.whole c.whole_site-site.result in
+    let few = few_found c.args.pool.words.now c.args.pool.right c.requires.whole c.whole_site-site.result in
     record {
-      pool_value = c.requires.pool_value;
       whole = c.requires.whole;
       owner_value = c.requires.owner_value;
       window_in_bounds = omega (arith, few, c.requires.len);
@@ -20,7 +19,7 @@ list-w-requires c =
 
 pub sort-requires : goal.sort-requires
 sort-requires c =
-    let few = few_own c.args.pool.now c.requires.pool_value c.requires.whole c.args.owner c.whole_site-site.result in
+    let few = few_own c.args.pool.words.now c.args.pool.right c.requires.whole c.args.owner c.whole_site-site.result in
     record {
       n_in_bounds = omega (arith, few, c.requires.len, c.list-w.ensures.found, c.list-w.ensures.long);
       pointing_2 = c.list-w.ensures.pointing;
@@ -28,15 +27,15 @@ sort-requires c =
 
 pub returns : goal.returns
 returns c =
-    let w = c.args.pool.now in
+    let w = c.args.pool.words.now in
     let o = c.args.owner in
     record {
       listed = record {
-        few = omega (arith, few_own w c.requires.pool_value c.requires.whole o c.whole_site-site.result, c.list-w.ensures.found);
+        few = omega (arith, few_own w c.args.pool.right c.requires.whole o c.whole_site-site.result, c.list-w.ensures.found);
         long = c.sort.ensures.long ∙ c.list-w.ensures.long ∙ c.requires.len;
         pointing = c.sort.ensures.pointing;
       };
       is = c.sort.ensures.sorted
           ∙ ap ordered (shown_items w _ 0 _ ∙ ap (λ (rs : List Record). map as_found rs) c.list-w.ensures.listed)
-          ∙ all_ordered w c.requires.pool_value c.requires.whole o c.whole_site-site.result c.whole_site-site.ensures;
+          ∙ all_ordered w c.args.pool.right c.requires.whole o c.whole_site-site.result c.whole_site-site.ensures;
     }

@@ -1,29 +1,21 @@
-use mathlib.Core.Path.{◌≡◌, sym, ap, subst, ◌∙◌}
-use mathlib.Core.Option.{none}
-use Prim.Native.Nat.{ℕ}
+-- `load_records`: a turn puts one record in; the last frame decides.
+use mathlib.Core.Path.{◌≡◌, ap}
 use native.Mathlib.Omega.{arith}
-use lib.ListN.{drop}
-use lib.IntN.{ℤ, pos}
-use Rattle.rules.specs.Lists.{same}
-use Rattle.rules.specs.Layout.{read}
-use Rattle.rules.specs.Insert.{ours}
-use Rattle.rules.specs.File.{load_records}
-use Rattle.rules_laws.proofs.Bools.{not_true, not_false}
-use Rattle.frames.proofs.Words.{word_kept}
-use Rattle.file.specs.Loading.{place_of, end_fault, Loads}
+use Rattle.std.proofs.lemmas.Result.{err_from_is_err_and}
+use Rattle.file.specs.Loading.{place_of}
 use Rattle.file.proofs.Takes.{starts, next, stopped, ended}
 use Rattle.file.proofs.load_records.Goals as goal
 
-pub free_slots-free-requires : goal.free_slots-free-requires
-free_slots-free-requires c = c.requires.fit.0.right
+pub over-requires : goal.over-requires
+over-requires c = c.requires.fit.0.right
 
 pub loop-k-init : goal.loop-k-init
 loop-k-init c =
     starts c.args.edition c.args.pool.now c.args.file.now c.args.count _ c.requires.fit.0
-    c.requires.pool_value c.requires.fit.1 c.free_slots-free.ensures c.requires.in_bounds
+    c.requires.pool_value c.requires.fit.1 (rw c.over.ensures at c.free_slots-free.ensures) c.requires.in_bounds
 
-pub take_record-t-requires : goal.take_record-t-requires
-take_record-t-requires c =
+pub take_record-requires : goal.take_record-requires
+take_record-requires c =
     record {
       fit = (c.loop-k.invariant.fit, c.loop-k.invariant.whole, c.loop-k.invariant.known);
       pool_value = c.loop-k.invariant.edition;
@@ -31,44 +23,28 @@ take_record-t-requires c =
       k_bound = omega (arith, c.loop-k-test.true, c.requires.count_bound);
     }
 
-pub returns-then-not-same : goal.returns-then-not-same
-returns-then-not-same c =
-    let k = word_kept {z = c.take_record-t.result.number} c.struct_told-1.given.0.1 in
-    subst (λ (n : ℤ). Loads (load_records ours c.args.edition c.args.count none (read c.args.pool.now)
-    (drop 12 c.args.file.now)) n c.take_record-t.new.pool) (sym k)
-    (stopped c.args.edition c.args.pool.now c.args.file.now c.args.count c.loop-k.pool c.loop-k.k _
-    c.loop-k.invariant c.loop-k-test.true c.take_record-t.result c.take_record-t.new.pool c.take_record-t.ensures
-    (ap (λ (n : ℤ). same n (pos 0)) (sym k) ∙ sym c.same.ensures ∙ not_true _ c.if-not-same.true-raw) c.take_record-t.new.pool)
-
-pub overflow_add-k : goal.overflow_add-k
-overflow_add-k c =
-    omega (arith, c.loop-k-test.true, c.requires.count_bound)
-
-pub loop-k-smaller : goal.loop-k-smaller
-loop-k-smaller c =
-    omega (arith, c.loop-k-test.true)
+pub returns-in_err-free : goal.returns-in_err-free
+returns-in_err-free c =
+    let p = err_from_is_err_and c.from_residual.result c.from_residual.ensures.1 in
+    rw (p.1, p.2) (stopped c.args.edition c.args.pool.now c.args.file.now c.args.count c.loop-k.pool c.loop-k.k _
+    c.loop-k.invariant c.loop-k-test.true c.in_err-free.field-0.0 c.take_record.new.pool c.in_err-free.ensures c.take_record.new.pool)
 
 pub loop-k-preserved : goal.loop-k-preserved
 loop-k-preserved c =
-    let k = word_kept {z = c.take_record-t.result.number} c.struct_told-1.given.0.1 in
     next c.args.edition c.args.pool.now c.args.file.now c.args.count c.loop-k.pool c.loop-k.k _ c.loop-k.invariant
-    c.loop-k-test.true c.take_record-t.result c.take_record-t.new.pool c.take_record-t.ensures c.take_record-t.auto.pool
-    (ap (λ (n : ℤ). same n (pos 0)) (sym k) ∙ sym c.same.ensures ∙ not_false _ c.if-not-same.false-raw)
+    c.loop-k-test.true c.in_ok-free.free c.take_record.new.pool c.in_ok-free.ensures c.take_record.auto.pool
 
-pub place_of-end-requires : goal.place_of-end-requires
-place_of-end-requires c =
-    c.requires.count_bound
+pub place_of-requires : goal.place_of-requires
+place_of-requires c = c.requires.count_bound
 
-pub end_fault-requires : goal.end_fault-requires
-end_fault-requires c =
+pub check_end-requires : goal.check_end-requires
+check_end-requires c =
     let at : c.args.count ≡ c.loop-k.k = omega (arith, c.loop-k.invariant.left, c.loop-k-test.false) in
-    omega (arith, c.place_of-end.ensures.is, ap (place_of c.args.edition) at, c.loop-k.invariant.here)
+    omega (arith, c.place_of.ensures.is, ap (place_of c.args.edition) at, c.loop-k.invariant.here)
 
 pub returns : goal.returns
 returns c =
     let at : c.args.count ≡ c.loop-k.k = omega (arith, c.loop-k.invariant.left, c.loop-k-test.false) in
-    ended c.args.edition c.args.pool.now c.args.file.now c.args.count c.loop-k.pool c.loop-k.k _ c.loop-k.invariant
-    c.loop-k-test.false
-    (word_kept c.end_fault.type_inv
-    ∙ c.end_fault.ensures
-    ∙ ap (λ (p : ℕ). end_fault (drop p c.args.file.now)) (c.place_of-end.ensures.is ∙ ap (place_of c.args.edition) at))
+    rw (c.check_end.ensures, c.place_of.ensures.is, ap (place_of c.args.edition) at)
+    (ended c.args.edition c.args.pool.now c.args.file.now c.args.count c.loop-k.pool c.loop-k.k _ c.loop-k.invariant
+    c.loop-k-test.false)

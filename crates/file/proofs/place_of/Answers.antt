@@ -1,12 +1,8 @@
-use Rattle.file.proofs.Sizes.{place_one, place_two}
+-- A record's frame has as many bytes as its words say, at most 28.
+use Rattle.file.proofs.Sizes.{place_told}
 use Rattle.file.proofs.place_of.Goals as goal
 
-pub returns-in-One : goal.returns-in-One
-returns-in-One c =
-    let both = place_one c.args.edition c.args.k c.in-One.is in
-    record { is = both.0; most = both.1 }
-
-pub returns-in-Two : goal.returns-in-Two
-returns-in-Two c =
-    let both = place_two c.args.edition c.args.k c.in-Two.is in
-    record { is = both.0; most = both.1 }
+pub returns : goal.returns
+returns c =
+    let t = place_told c.args.edition c.args.k (rw c.from.ensures c.of.ensures.words) in
+    record { is = t.0; most = t.1 }

@@ -9,7 +9,7 @@ use Rattle.file.proofs.Frames.{file_text, file_parts}
 use Rattle.file.proofs.put_file.Goals as goal
 
 pub edition_of-edition-requires : goal.edition_of-edition-requires
-edition_of-edition-requires c = some_word c.args.pool.now c.requires.pool_value
+edition_of-edition-requires c = some_word c.args.pool.words.now c.args.pool.right
 
 pub put_head-first-requires : goal.put_head-first-requires
 put_head-first-requires c =
@@ -17,8 +17,8 @@ put_head-first-requires c =
       in_bounds = omega (
         arith,
         c.requires.pool_in_bounds,
-        file_parts c.args.pool.now c.edition_of-edition.ensures (c.first_owner-owner.ensures ∙ ap first_owner c.edition_of-edition.ensures)
-            (first_carried c.args.pool.now c.args.items.now (c.first_owner-owner.ensures ∙ ap first_owner c.edition_of-edition.ensures)
+        file_parts c.args.pool.words.now c.edition_of-edition.ensures (c.of.ensures.first ∙ ap first_owner c.edition_of-edition.ensures)
+            (first_carried c.args.pool.words.now c.args.items.now (c.of.ensures.first ∙ ap first_owner c.edition_of-edition.ensures)
             c.requires.counts_file) c.requires.counts_file.is,
       );
       count_bound = omega (arith, c.requires.counts_file.few);
@@ -31,8 +31,8 @@ put_records-second-requires c =
       n_in_bounds = omega (
         arith,
         c.requires.pool_in_bounds,
-        file_parts c.args.pool.now c.edition_of-edition.ensures (c.first_owner-owner.ensures ∙ ap first_owner c.edition_of-edition.ensures)
-            (first_carried c.args.pool.now c.args.items.now (c.first_owner-owner.ensures ∙ ap first_owner c.edition_of-edition.ensures)
+        file_parts c.args.pool.words.now c.edition_of-edition.ensures (c.of.ensures.first ∙ ap first_owner c.edition_of-edition.ensures)
+            (first_carried c.args.pool.words.now c.args.items.now (c.of.ensures.first ∙ ap first_owner c.edition_of-edition.ensures)
             c.requires.counts_file) c.requires.counts_file.is,
         head_next _ _ c.put_head-first.ensures,
         c.put_head-first.auto.file,
@@ -42,14 +42,13 @@ put_records-second-requires c =
 pub put_second-end-requires : goal.put_second-end-requires
 put_second-end-requires c =
     record {
-      pool_value = c.requires.pool_value;
       whole = c.requires.whole;
       len = c.requires.counts_file.first.listed.long;
       pool_in_bounds = omega (
         arith,
         c.requires.pool_in_bounds,
-        file_parts c.args.pool.now c.edition_of-edition.ensures (c.first_owner-owner.ensures ∙ ap first_owner c.edition_of-edition.ensures)
-            (first_carried c.args.pool.now c.args.items.now (c.first_owner-owner.ensures ∙ ap first_owner c.edition_of-edition.ensures)
+        file_parts c.args.pool.words.now c.edition_of-edition.ensures (c.of.ensures.first ∙ ap first_owner c.edition_of-edition.ensures)
+            (first_carried c.args.pool.words.now c.args.items.now (c.of.ensures.first ∙ ap first_owner c.edition_of-edition.ensures)
             c.requires.counts_file) c.requires.counts_file.is,
         head_next _ _ c.put_head-first.ensures,
         c.put_head-first.auto.file,
@@ -64,8 +63,8 @@ put_start-requires c =
       at_in_bounds = omega (
         arith,
         c.requires.pool_in_bounds,
-        file_parts c.args.pool.now c.edition_of-edition.ensures (c.first_owner-owner.ensures ∙ ap first_owner c.edition_of-edition.ensures)
-            (first_carried c.args.pool.now c.args.items.now (c.first_owner-owner.ensures ∙ ap first_owner c.edition_of-edition.ensures)
+        file_parts c.args.pool.words.now c.edition_of-edition.ensures (c.of.ensures.first ∙ ap first_owner c.edition_of-edition.ensures)
+            (first_carried c.args.pool.words.now c.args.items.now (c.of.ensures.first ∙ ap first_owner c.edition_of-edition.ensures)
             c.requires.counts_file) c.requires.counts_file.is,
         head_next _ _ c.put_head-first.ensures,
         c.put_head-first.auto.file,
@@ -79,7 +78,7 @@ put_start-requires c =
 
 pub returns : goal.returns
 returns c =
-    (wrote_as (file_text c.args.pool.now c.edition_of-edition.ensures (c.first_owner-owner.ensures ∙ ap first_owner c.edition_of-edition.ensures)
-    (first_carried c.args.pool.now c.args.items.now (c.first_owner-owner.ensures ∙ ap first_owner c.edition_of-edition.ensures)
+    (wrote_as (file_text c.args.pool.words.now c.edition_of-edition.ensures (c.of.ensures.first ∙ ap first_owner c.edition_of-edition.ensures)
+    (first_carried c.args.pool.words.now c.args.items.now (c.of.ensures.first ∙ ap first_owner c.edition_of-edition.ensures)
     c.requires.counts_file) c.requires.counts_file.is)
     (wrote_then (wrote_then (wrote_then c.put_head-first.ensures c.put_records-second.ensures) c.put_second-end.ensures) c.put_start.ensures)).bytes

@@ -28,7 +28,7 @@ put_word-requires c =
 
 pub returns : goal.returns
 returns c =
-    wrote_as (ap₂ (λ (y z : ℤ). start 16 2 ++ word_bytes y ++ word_bytes z) (word_kept c.edition_number.type_inv ∙ c.edition_number.ensures)
+    wrote_as (ap₂ (λ (y z : ℤ). start 16 2 ++ word_bytes y ++ word_bytes z) (word_kept c.number.type_inv ∙ c.number.ensures)
     (to_z_pos w32 {n = c.args.count} (omega (arith, c.requires.count_bound)))
     ∙ head_text c.args.edition c.args.count)
     (wrote_then (wrote_then c.put_start-start.ensures c.put_word-number.ensures) c.put_word.ensures)

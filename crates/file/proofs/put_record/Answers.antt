@@ -36,6 +36,6 @@ pub returns : goal.returns
 returns c =
     let ed = c.args.edition in
     let r = c.args.r in
-    wrote_as (ap₂ (λ (k n : ℕ). start k n ++ owner_bytes ed r.owner ++ joined (map word_bytes (pair_words r))) c.record_kind.ensures
-    c.record_words.ensures.is
+    wrote_as (ap₂ (λ (k n : ℕ). start k n ++ owner_bytes ed r.owner ++ joined (map word_bytes (pair_words r))) c.of-form.ensures.kind
+    c.of-form.ensures.words
     ∙ record_text ed r) (wrote_then (wrote_then c.put_start-start.ensures c.put_owner-pair.ensures) c.put_pair_words.ensures)

@@ -1,4 +1,3 @@
-use native.Mathlib.Omega.{arith}
 use Rattle.rules.specs.Layout.{edition_of}
 use Rattle.file.proofs.News.{put_first, put_room, put_next, put_all}
 use Rattle.file.proofs.put_records.Goals as goal
@@ -15,14 +14,6 @@ put_new-next-requires c =
       k_lt_n = c.loop-k-test.true;
       k_in_bounds = put_room c.loop-k.invariant c.loop-k-test.true c.requires.n_in_bounds;
     }
-
-pub overflow_add-k : goal.overflow_add-k
-overflow_add-k c =
-    omega (arith, c.loop-k-test.true, c.requires.listed.few)
-
-pub loop-k-smaller : goal.loop-k-smaller
-loop-k-smaller c =
-    omega (arith, c.loop-k-test.true)
 
 pub loop-k-preserved : goal.loop-k-preserved
 loop-k-preserved c =

@@ -16,14 +16,13 @@ use Rattle.file.proofs.News.{new_carried}
 use Rattle.file.proofs.put_second.Goals as goal
 
 pub edition_of-requires : goal.edition_of-requires
-edition_of-requires c = some_word c.args.pool.now c.requires.pool_value
+edition_of-requires c = some_word c.args.pool.words.now c.args.pool.right
 
 pub list_all-n-requires : goal.list_all-n-requires
 list_all-n-requires c =
     record {
-      pool_value = c.requires.pool_value;
       whole = c.requires.whole;
-      owner_value = any_in (edition_of c.args.pool.now) (sym c.edition_of.ensures ∙ c.in-Two.is) _;
+      owner_value = any_in (edition_of c.args.pool.words.now) (sym c.edition_of.ensures ∙ c.in-Two.is) _;
       len = c.requires.len;
     }
 
@@ -35,19 +34,19 @@ put_records-requires c =
         arith,
         c.requires.pool_in_bounds,
         ap length
-            (second_text (edition_of c.args.pool.now) (read c.args.pool.now) (sym c.edition_of.ensures ∙ c.in-Two.is)
-            (new_carried c.args.pool.now _ (owner (pos 2)) _ c.list_all-n.ensures)),
+            (second_text (edition_of c.args.pool.words.now) (read c.args.pool.words.now) (sym c.edition_of.ensures ∙ c.in-Two.is)
+            (new_carried c.args.pool.words.now _ (owner (pos 2)) _ c.list_all-n.ensures)),
       );
     }
 
 pub returns-in-One : goal.returns-in-One
 returns-in-One c =
-    wrote_as (sym (ap (λ (l : List Record). joined (map (record_frame (edition_of c.args.pool.now)) l))
-    (none_second (edition_of c.args.pool.now) (read c.args.pool.now) (sym c.edition_of.ensures ∙ c.in-One.is))
-    ∙ joined_none (record_frame (edition_of c.args.pool.now)))) (nothing_wrote c.args.file.now c.args.at)
+    wrote_as (sym (ap (λ (l : List Record). joined (map (record_frame (edition_of c.args.pool.words.now)) l))
+    (none_second (edition_of c.args.pool.words.now) (read c.args.pool.words.now) (sym c.edition_of.ensures ∙ c.in-One.is))
+    ∙ joined_none (record_frame (edition_of c.args.pool.words.now)))) (nothing_wrote c.args.file.now c.args.at)
 
 pub returns-in-Two : goal.returns-in-Two
 returns-in-Two c =
-    wrote_as (second_text (edition_of c.args.pool.now) (read c.args.pool.now)
-    (sym c.edition_of.ensures ∙ c.in-Two.is) (new_carried c.args.pool.now _ (owner (pos 2)) _ c.list_all-n.ensures))
+    wrote_as (second_text (edition_of c.args.pool.words.now) (read c.args.pool.words.now)
+    (sym c.edition_of.ensures ∙ c.in-Two.is) (new_carried c.args.pool.words.now _ (owner (pos 2)) _ c.list_all-n.ensures))
     c.put_records.ensures

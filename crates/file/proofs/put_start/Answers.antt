@@ -9,4 +9,4 @@ put_pair-requires c =
 
 pub returns : goal.returns
 returns c =
-    wrote_then c.put_pair-next.ensures c.put_pair.ensures
+    wrote_then (rw c.from.ensures at c.put_pair-next.ensures) (rw c.from-2.ensures at c.put_pair.ensures)

@@ -1,11 +1,5 @@
-use mathlib.Core.Path.{sym, subst, ◌∙◌}
-use lib.IntN.{ℤ}
-use Rattle.rules.specs.Layout.{read}
-use Rattle.rules.specs.Insert.{ours}
-use Rattle.rules.specs.File.{load_file}
+use mathlib.Core.Path.{sym, ◌∙◌}
 use Rattle.rules_laws.proofs.Bools.{not_true, not_false}
-use Rattle.frames.proofs.Words.{word_kept}
-use Rattle.file.specs.Loading.{Loads}
 use Rattle.file.proofs.Loaded.{reads_wrong, reads_other, blank_fit, blank_tree, blank_edition, reads_settled}
 use Rattle.file.proofs.read.Goals as goal
 
@@ -19,8 +13,8 @@ returns-then-work-pool c =
     reads_other c.args.edition c.args.pool.now c.args.work.now c.args.file.now
     (sym c.valid_size.ensures ∙ not_false _ c.if-not-valid_size.false-raw) c.if-work-pool.true
 
-pub load_file-n-requires : goal.load_file-n-requires
-load_file-n-requires c =
+pub load_file-loaded-requires : goal.load_file-loaded-requires
+load_file-loaded-requires c =
     record {
       fit = (
         blank_fit c.args.edition c.args.pool.now c.args.work.now c.args.file.now
@@ -34,11 +28,10 @@ load_file-n-requires c =
 
 pub settle-requires : goal.settle-requires
 settle-requires c =
-    c.load_file-n.auto.pool ∙ c.blank.auto.pool ∙ c.if-work-pool.false
+    c.load_file-loaded.auto.pool ∙ c.blank.auto.pool ∙ c.if-work-pool.false
 
 pub returns : goal.returns
 returns c =
     reads_settled c.args.edition c.args.pool.now c.args.work.now c.args.file.now
     (sym c.valid_size.ensures ∙ not_false _ c.if-not-valid_size.false-raw) c.if-work-pool.false c.blank.ensures.words _ _
-    (subst (λ (n : ℤ). Loads (load_file ours c.args.edition (read c.blank.new.pool) c.args.file.now) n c.load_file-n.new.pool)
-    (sym (word_kept c.load_file-n.type_inv)) c.load_file-n.ensures) c.settle.ensures.pool c.settle.ensures.workspace
+    c.load_file-loaded.ensures c.is_ok.ensures.value c.settle.ensures.pool c.settle.ensures.workspace

@@ -7,20 +7,22 @@ use Rattle.insert.proofs.insert_record.Goals as goal
 
 pub overflow_add-counted : goal.overflow_add-counted
 overflow_add-counted c =
+    let n = rw c.over.ensures at c.records-n.ensures in
     let w = c.args.pool.now in
-    omega (arith, records_few w c.requires.fit.right c.requires.whole, c.records_of-n.ensures)
+    omega (arith, records_few w c.requires.fit.right c.requires.whole, n)
 
 pub put_records-requires : goal.put_records-requires
 put_records-requires c =
+    let n = rw c.over.ensures at c.records-n.ensures in
     let w = c.args.pool.now in
     record {
       fit_2 = c.requires.fit;
-      n_bound = omega (arith, records_few w c.requires.fit.right c.requires.whole, c.records_of-n.ensures);
+      n_bound = omega (arith, records_few w c.requires.fit.right c.requires.whole, n);
     }
 
-pub insert_at-outcome-requires : goal.insert_at-outcome-requires
+pub insert_at-left-requires : goal.insert_at-left-requires
 unfolding leaf_entry
-insert_at-outcome-requires c =
+insert_at-left-requires c =
     let w = c.args.pool.now in
     record {
       fit = c.put_records.ensures.fit;
@@ -31,31 +33,28 @@ insert_at-outcome-requires c =
       known = head_known w c.requires.fit.right c.requires.whole _ c.put_records.new.pool c.put_records.ensures.is _ c.requires.known;
     }
 
--- UNKNOWN GOAL Need-enum-told
--- enum_told : tie.Need-enum-told
--- enum_told c = search rules
-
-pub put_records-requires-in-Refused : goal.put_records-requires-in-Refused
+pub returns-else-is_none : goal.returns-else-is_none
 unfolding leaf_entry
-put_records-requires-in-Refused c =
+returns-else-is_none c =
+    let n = rw c.over.ensures at c.records-n.ensures in
+    record_made c.args.pool.now c.args.r c.records-n.result n c.put_records.new.pool c.put_records.ensures.is
+    c.insert_at-left.result c.insert_at-left.new.pool c.insert_at-left.ensures c.if-is_none.ensures
+
+pub put_records-requires-then-is_none : goal.put_records-requires-then-is_none
+unfolding leaf_entry
+put_records-requires-then-is_none c =
+    let n = rw c.over.ensures at c.records-n.ensures in
     let w = c.args.pool.now in
     record {
-      fit_2 = refused_fit c.args.r c.put_records.new.pool c.insert_at-outcome.new.pool c.insert_at-outcome.result
-          c.insert_at-outcome.ensures c.in-Refused.is c.put_records.ensures.fit;
-      n_bound = omega (arith, records_few w c.requires.fit.right c.requires.whole, c.records_of-n.ensures);
+      fit_2 = refused_fit c.args.r c.put_records.new.pool c.insert_at-left.new.pool c.insert_at-left.result
+          c.insert_at-left.ensures c.if-is_none.ensures c.put_records.ensures.fit;
+      n_bound = omega (arith, records_few w c.requires.fit.right c.requires.whole, n);
     }
 
-pub returns-in-Made : goal.returns-in-Made
+pub returns-then-is_none : goal.returns-then-is_none
 unfolding leaf_entry
-returns-in-Made c =
-    let w = c.args.pool.now in
-    record_made w c.args.r c.records_of-n.result c.records_of-n.ensures c.put_records.new.pool c.put_records.ensures.is
-    c.insert_at-outcome.result c.insert_at-outcome.new.pool c.insert_at-outcome.ensures c.in-Made.left c.in-Made.is
-
-pub returns-in-Refused : goal.returns-in-Refused
-unfolding leaf_entry
-returns-in-Refused c =
-    let w = c.args.pool.now in
-    record_refused w c.args.r c.records_of-n.result c.records_of-n.ensures c.put_records.new.pool c.put_records.ensures.is
-    c.insert_at-outcome.result c.insert_at-outcome.new.pool c.insert_at-outcome.ensures c.in-Refused.is c.requires.fit
-    c.put_records-in-Refused.new.pool c.put_records-in-Refused.ensures.fit c.put_records-in-Refused.ensures.is
+returns-then-is_none c =
+    let n = rw c.over.ensures at c.records-n.ensures in
+    record_refused c.args.pool.now c.args.r c.records-n.result n c.put_records.new.pool c.put_records.ensures.is
+    c.insert_at-left.result c.insert_at-left.new.pool c.insert_at-left.ensures c.if-is_none.ensures c.requires.fit
+    c.put_records-then-is_none.new.pool c.put_records-then-is_none.ensures.fit c.put_records-then-is_none.ensures.is

@@ -1,6 +1,6 @@
 -- `insert::install` meets its contract: a node with room has the entry last, and a full one is split into the lowest free slot, if there is
 -- one.
-use mathlib.Core.Path.{sym, ◌∙◌}
+use mathlib.Core.Path.{sym}
 use native.Mathlib.Omega.{arith}
 use Rattle.rules.specs.Layout.{read}
 use Rattle.sound_laws.proofs.Free.{at_some, lowest_slot}
@@ -10,52 +10,61 @@ use Rattle.insert.proofs.Fitted.{slot_in}
 use Rattle.insert.proofs.Divided.{here_node, here_small, here_kind, room_grows, split_grows, none_grows}
 use Rattle.insert.proofs.install.Goals as goal
 
-pub count_of-requires : goal.count_of-requires
-count_of-requires c =
+pub at-requires : goal.at-requires
+at-requires c =
     let w = c.args.pool.now in
     slot_in w c.args.s c.requires.fitted.fit.right (here_node c.requires.here).slot
 
 pub add_entry-requires : goal.add_entry-requires
 add_entry-requires c =
+    let count = rw (c.at.ensures.words, c.at.ensures.slot) at c.count.ensures.is in
     let w = c.args.pool.now in
     let few = most_slots_lem w c.requires.fitted.fit.right in record {
       fit_2 = c.requires.fitted.fit;
       in_pool = slot_in w c.args.s c.requires.fitted.fit.right (here_node c.requires.here).slot;
-      s_len_bound = omega (arith, c.if-count_of-lt-MOST.true, c.count_of.ensures.is);
+      s_len_bound = omega (arith, c.if-count-lt-MOST.true, count);
       small = here_small c.requires.here few;
       kind_of = here_kind c.requires.here few _ (edition_is w);
     }
 
-pub returns-then-count_of-lt-MOST : goal.returns-then-count_of-lt-MOST
-returns-then-count_of-lt-MOST c =
-    room_grows c.requires.fitted c.requires.here (omega (arith, c.if-count_of-lt-MOST.true, c.count_of.ensures.is)) c.add_entry.new.pool
+pub returns-then-count-lt-MOST : goal.returns-then-count-lt-MOST
+returns-then-count-lt-MOST c =
+    let count = rw (c.at.ensures.words, c.at.ensures.slot) at c.count.ensures.is in
+    room_grows c.requires.fitted c.requires.here (omega (arith, c.if-count-lt-MOST.true, count)) c.add_entry.new.pool
     c.add_entry.ensures.fit c.add_entry.ensures.is
 
 pub split_node-partner-requires : goal.split_node-partner-requires
 split_node-partner-requires c =
+    let count = rw (c.at.ensures.words, c.at.ensures.slot) at c.count.ensures.is in
+    let low = sym (rw c.over.ensures at c.in_ok-t.ensures) in
     record {
       fit_2 = c.requires.fitted.fit;
       here = c.requires.here;
-      in_bounds = omega (arith, c.if-count_of-lt-MOST.false, c.count_of.ensures.is);
-      pool_value = sym c.lowest-lowest.ensures ∙ c.in-At.is;
+      in_bounds = omega (arith, c.if-count-lt-MOST.false, count);
+      pool_value = low;
     }
 
-pub less_slot-left-requires : goal.less_slot-left-requires
-less_slot-left-requires c =
+pub less_slot-requires : goal.less_slot-requires
+less_slot-requires c =
+    let low = sym (rw c.over.ensures at c.in_ok-t.ensures) in
     let w = c.args.pool.now in
-    let low = sym c.lowest-lowest.ensures ∙ c.in-At.is in
     record {
       count_nonzero = omega (arith, at_some (read w) _ low, c.requires.fitted.known.many);
       t_le_most_slots = omega (arith, (lowest_slot (read w) _ low).high, most_slots_lem w c.requires.fitted.fit.right);
     }
 
-pub returns-in-At : goal.returns-in-At
-returns-in-At c =
-    split_grows c.requires.fitted c.requires.here (omega (arith, c.if-count_of-lt-MOST.false, c.count_of.ensures.is)) _
-    (sym c.lowest-lowest.ensures ∙ c.in-At.is) c.split_node-partner.new.pool c.split_node-partner.ensures.fit c.split_node-partner.result
-    c.split_node-partner.ensures.is c.less_slot-left.result c.less_slot-left.ensures
+pub returns : goal.returns
+returns c =
+    let count = rw (c.at.ensures.words, c.at.ensures.slot) at c.count.ensures.is in
+    let low = sym (rw c.over.ensures at c.in_ok-t.ensures) in
+    split_grows c.requires.fitted c.requires.here (omega (arith, c.if-count-lt-MOST.false, count)) _
+    (low) c.split_node-partner.new.pool c.split_node-partner.ensures.fit c.split_node-partner.result
+    c.split_node-partner.ensures.is c.less_slot.result c.less_slot.ensures
 
-pub returns-in-Nowhere : goal.returns-in-Nowhere
-returns-in-Nowhere c =
-    none_grows c.requires.fitted c.requires.here (omega (arith, c.if-count_of-lt-MOST.false, c.count_of.ensures.is))
-    (sym c.lowest-lowest.ensures ∙ c.in-Nowhere.is) _
+pub returns-in_err-t : goal.returns-in_err-t
+returns-in_err-t c =
+    let count = rw (c.at.ensures.words, c.at.ensures.slot) at c.count.ensures.is in
+    let low = sym (rw c.over.ensures at c.in_err-t.ensures) in
+    rw c.from_residual.ensures
+    (none_grows c.requires.fitted c.requires.here (omega (arith, c.if-count-lt-MOST.false, count))
+    (low) _)

@@ -1,11 +1,11 @@
--- `insert::put_group` meets its contract: what words hold of the nine, they hold of a group of them.
+-- What words hold of the nine, they hold of a group of them.
 use mathlib.Core.Path.{ap, ◌∙◌}
 use mathlib.Core.List.{List}
 use native.Mathlib.Omega.{arith}
 use Rattle.rules.specs.Layout.{read}
 use Rattle.rules.specs.declared.Entry.{Entry}
 use Rattle.rules.specs.Pool.{node, put_node}
-use Rattle.insert.proofs.Nines.{group_small, group_kind}
+use Rattle.insert.proofs.Nines.{many, group_small, group_kind}
 use Rattle.insert.proofs.put_group.Goals as goal
 
 pub put_node-requires : goal.put_node-requires
@@ -14,12 +14,10 @@ put_node-requires c =
       fit_2 = c.requires.fit_2;
       in_pool = c.requires.in_pool;
       level_le_most_slots = c.requires.level_bound;
-      n_le_most = c.requires.n_bound;
-      small_all = group_small c.args.es c.group_of-group.result c.args.places c.args.n
-          (omega (arith, c.requires.inside.nine, c.requires.n_bound)) c.group_of-group.ensures c.requires.inside
+      few = omega (arith, many c.args.es _ c.args.places.now c.group_of-group.ensures, c.requires.few);
+      small_all = group_small c.args.es _ c.args.places.now c.group_of-group.ensures c.requires.inside
           c.requires.small_all;
-      kind_all = group_kind c.args.es c.group_of-group.result c.args.places c.args.n
-          (omega (arith, c.requires.inside.nine, c.requires.n_bound)) c.group_of-group.ensures c.requires.inside
+      kind_all = group_kind c.args.es _ c.args.places.now c.group_of-group.ensures c.requires.inside
           _ c.args.level c.requires.kind_all;
     }
 
@@ -27,7 +25,6 @@ pub returns : goal.returns
 returns c =
     record {
       is = c.put_node.ensures.is
-          ∙ ap (λ (xs : List Entry). put_node (read c.args.pool.now) c.args.s (node c.args.level xs))
-          c.group_of-group.ensures;
+          ∙ ap (λ (xs : List Entry). put_node (read c.args.pool.now) c.args.s (node c.args.level xs)) c.group_of-group.ensures;
       fit = c.put_node.ensures.fit;
     }

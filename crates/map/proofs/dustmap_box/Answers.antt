@@ -6,4 +6,4 @@ use Rattle.map.proofs.dustmap_box.Goals as goal
 
 pub returns : goal.returns
 returns c =
-    rw (to_z-of_z {w = w32} {z = c.told.result} (sfits_of c.told.type_inv), sym c.query_window-w.ensures) c.told.ensures
+    rw (to_z-of_z {w = w32} {z = c.told.result} (sfits_of c.told.type_inv), sym c.query_window.ensures) c.told.ensures

@@ -2,7 +2,11 @@ use mathlib.Core.Path.{sym, ap, ◌∙◌}
 use mir.Facts.{to_z-of_z}
 use Rattle.rules.specs.declared.Edition.{Edition}
 use Rattle.rules.specs.Owners.{owner, owner_in}
+use Rattle.pool.proofs.Lengths.{some_word}
 use Rattle.request.proofs.batch_owner.Goals as goal
+
+pub edition_of-requires : goal.edition_of-requires
+edition_of-requires c = some_word c.args.pool.words.now c.args.pool.right
 
 pub returns-in-One : goal.returns-in-One
 unfolding owner_in

@@ -6,11 +6,8 @@ use Rattle.rules.specs.Insert.{ours}
 use Rattle.rules.specs.Request.{request}
 use Rattle.request.specs.Serving.{Serves}
 use Rattle.request.proofs.Cases.{asks_one}
-use Rattle.request.proofs.Listing.{some_words, asks_sound}
+use Rattle.request.proofs.Listing.{asks_sound}
 use Rattle.request.proofs.one_request.Goals as goal
-
-pub batch_owner-who-requires : goal.batch_owner-who-requires
-batch_owner-who-requires c = some_words c.args.pool.now c.requires.ready.right
 
 pub serve_asked-requires : goal.serve_asked-requires
 serve_asked-requires c =
@@ -18,7 +15,7 @@ serve_asked-requires c =
       ready = c.requires.ready;
       work_len = c.requires.work_len;
       a_value = asks_sound c.args.pool.now (owner c.args.owner) c.batch_owner-who.result c.args.q _ c.requires.owner_value
-          (rw (to_z-of_z c.ranges.owner) at c.batch_owner-who.ensures) c.asked-a.ensures;
+          (rw (c.over.ensures, to_z-of_z c.ranges.owner) at c.batch_owner-who.ensures) c.asked-a.ensures;
       filled_bound = c.requires.filled_bound;
     }
 
@@ -26,4 +23,4 @@ pub returns : goal.returns
 returns c =
     asks_one (λ a. Serves (length c.args.pool.now)
     (request ours (read c.args.pool.now) c.args.filled c.args.room a) _ _ _) c.batch_owner-who.result _
-    (rw (to_z-of_z c.ranges.owner) at c.batch_owner-who.ensures) c.args.q _ c.asked-a.ensures c.serve_asked.ensures
+    (rw (c.over.ensures, to_z-of_z c.ranges.owner) at c.batch_owner-who.ensures) c.args.q _ c.asked-a.ensures c.serve_asked.ensures

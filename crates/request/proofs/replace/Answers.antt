@@ -18,14 +18,13 @@ delete_record-requires c =
       fit = c.requires.fit;
       whole = c.requires.whole;
       known = c.requires.known;
-      found_value = c.requires.found_value;
       gives = c.requires.gives;
     }
 
 pub insert_record-requires : goal.insert_record-requires
 insert_record-requires c =
     let h = replace_half c.args.pool.now c.requires.whole.0 c.args.old c.args.new c.delete_record.new.pool
-    c.delete_record.result _ c.in-Made.is c.delete_record.ensures in
+    c.in_ok-left.left c.in_ok-left.ensures in
     let mine = subst⁻¹ (λ (e : Edition). owner_sound e c.args.old.owner ≡ true) h.edition c.requires.value.2 in
     let v = read c.delete_record.new.pool in
     let fine = subst⁻¹ (λ (r : Record). (valid r.rect ≡ true) × (good_number r.number ≡ true) × (owner_sound v.edition r.owner ≡ true))
@@ -37,14 +36,14 @@ insert_record-requires c =
       known = h.known;
     }
 
-pub returns-in-Made : goal.returns-in-Made
-returns-in-Made c =
+pub returns : goal.returns
+returns c =
     let leaves = subst (λ (r : Record). Leaves c.delete_record.new.pool (insert_record ours (read c.delete_record.new.pool) r)
     c.insert_record.result c.insert_record.new.pool) c.moved-moved.ensures c.insert_record.ensures in
     replace_made c.args.pool.now c.requires.whole.0 c.args.old c.args.new c.delete_record.new.pool
-    c.delete_record.result _ c.in-Made.is c.delete_record.ensures _ _ (search rules) leaves
+    c.in_ok-left.left c.in_ok-left.ensures _ _ (search rules) leaves
 
-pub returns-in-Refused : goal.returns-in-Refused
-returns-in-Refused c =
-    replace_refused c.args.pool.now c.requires.whole.0 c.args.old c.args.new c.delete_record.new.pool
-    c.delete_record.result c.in-Refused.is c.delete_record.ensures
+pub returns-in_err-left : goal.returns-in_err-left
+returns-in_err-left c =
+    rw c.from_residual.ensures
+    (replace_refused c.args.pool.now c.requires.whole.0 c.args.old c.args.new c.delete_record.new.pool c.in_err-left.ensures)

@@ -10,43 +10,34 @@ use Rattle.delete.specs.Aside.{ComesDown}
 use Rattle.request.proofs.Turns.{room_small, room_is}
 use Rattle.request.proofs.scarce.Goals as goal
 
-pub height_of-h-requires : goal.height_of-h-requires
-height_of-h-requires c =
-    c.requires.fit.right
-
 pub leaving-requires : goal.leaving-requires
 leaving-requires c =
-    let down =
-    subst (λ (h : ℕ). ComesDown (read c.args.pool.now) h c.args.way) (sym c.height_of-h.ensures) c.requires.comes_down in
-    record {
-      fit = c.requires.fit;
-      comes_down = down;
-    }
+    subst (λ (h : ℕ). ComesDown (read c.args.pool.words.now) h c.args.way) (sym c.height-h.ensures) c.requires.comes_down
 
 pub overflow_mul-result : goal.overflow_mul-result
 overflow_mul-result c =
-    let low : c.height_of-h.result ≤ 8 = rw c.height_of-h.ensures c.requires.comes_down.high in
+    let low : c.height-h.result ≤ 8 = rw c.height-h.ensures c.requires.comes_down.high in
     let small =
-    room_small c.leaving.result c.height_of-h.result c.args.records c.leaving.ensures.few low c.requires.records_bound in
+    room_small c.leaving.result c.height-h.result c.args.records c.leaving.ensures.few low c.requires.records_bound in
     record { fits = omega (arith, small.0) }
 
 pub overflow_mul-result-2 : goal.overflow_mul-result-2
 overflow_mul-result-2 c =
-    let low : c.height_of-h.result ≤ 8 = rw c.height_of-h.ensures c.requires.comes_down.high in
+    let low : c.height-h.result ≤ 8 = rw c.height-h.ensures c.requires.comes_down.high in
     let small =
-    room_small c.leaving.result c.height_of-h.result c.args.records c.leaving.ensures.few low c.requires.records_bound in
+    room_small c.leaving.result c.height-h.result c.args.records c.leaving.ensures.few low c.requires.records_bound in
     record { fits = omega (arith, small.1) }
 
 pub overflow_add-result-4 : goal.overflow_add-result-4
 overflow_add-result-4 c =
-    let low : c.height_of-h.result ≤ 8 = rw c.height_of-h.ensures c.requires.comes_down.high in
+    let low : c.height-h.result ≤ 8 = rw c.height-h.ensures c.requires.comes_down.high in
     let small =
-    room_small c.leaving.result c.height_of-h.result c.args.records c.leaving.ensures.few low c.requires.records_bound in
+    room_small c.leaving.result c.height-h.result c.args.records c.leaving.ensures.few low c.requires.records_bound in
     record { fits = omega (arith, small.0, small.1) }
 
 pub returns : goal.returns
 returns c =
-    let p = read c.args.pool.now in
-    let k = c.leaving.ensures.is ∙ ap (λ (h : ℕ). thin_levels p (path_of h c.args.way)) c.height_of-h.ensures in
+    let p = read c.args.pool.words.now in
+    let k = c.leaving.ensures.is ∙ ap (λ (h : ℕ). thin_levels p (path_of h c.args.way)) c.height-h.ensures in
     ap (ltb c.args.free.count)
-    (room_is p (path_of p.height c.args.way) c.args.records c.height_of-h.result c.leaving.result c.height_of-h.ensures k)
+    (room_is p (path_of p.height c.args.way) c.args.records c.height-h.result c.leaving.result c.height-h.ensures k)

@@ -1,9 +1,10 @@
+-- `check_end`: the frame is not there, or something comes after it; or neither.
 use mathlib.Core.Path.{sym, ◌∙◌}
 use native.Mathlib.Omega.{arith}
 use lib.ListN.{drop, length-drop}
 use Rattle.rules_laws.proofs.Bools.{not_true, not_false}
 use Rattle.file.proofs.Takes.{end_not_due, end_goes_on, end_right}
-use Rattle.file.proofs.end_fault.Goals as goal
+use Rattle.file.proofs.check_end.Goals as goal
 
 pub returns-then-not-is_due : goal.returns-then-not-is_due
 returns-then-not-is_due c =
@@ -11,7 +12,7 @@ returns-then-not-is_due c =
 
 pub returns-then-file-at-ne-END_BYTES : goal.returns-then-file-at-ne-END_BYTES
 returns-then-file-at-ne-END_BYTES c =
-    end_goes_on (drop c.args.at c.args.file.now)
+    end_goes_on (drop c.args.at c.args.file.now) (sym c.is_due.ensures ∙ not_false _ c.if-not-is_due.false-raw)
     (λ e. c.if-file-at-ne-END_BYTES.true (omega (arith, e, length-drop c.args.at c.args.file.now)))
 
 pub returns : goal.returns

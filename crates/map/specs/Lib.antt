@@ -1,2 +1,0 @@
--- The edition that two numbers tell, as the code has it.
-pub mod Told
