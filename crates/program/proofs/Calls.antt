@@ -2,7 +2,7 @@
 use mathlib.Core.Path.{◌≡◌, refl, sym, ap, ap₂, ◌∙◌}
 use mathlib.Core.Bool.{true}
 use mathlib.Core.List.{List, [], ◌∷◌, ◌++◌}
-use mathlib.Core.Option.{none, some}
+use Rattle.std.specs.Prelude.{None, Some}
 use Prim.Native.Nat.{ℕ, suc, min, ◌+◌, ◌-◌, ◌≤◌}
 use native.Mathlib.Omega.{arith}
 use native.Mathlib.Decide.{dec_le}
@@ -77,7 +77,7 @@ lent_by : List ℤ → Request → Lent
 lent_by w q = record { owner = owner (pos 1); pool = w; workspace = w; requests = q ∷ []; answers = answer 0 0 0 0 ∷ []; found = empties }
 
 module _ (w : List ℤ) (q : Request) (right : valid_length w ≡ true) (ok : sound w ≡ true) (is : is_request q ≡ true) where
-  one_accepted : call_fault (lent_by w q) ≡ none
+  one_accepted : call_fault (lent_by w q) ≡ None
   unfolding call_fault first_row lent_by every good_owner
   one_accepted = rw (call_fault, first_row, right, eq-eqb (length w) (length w) refl, ok, is)
 
@@ -85,7 +85,7 @@ module _ (w : List ℤ) (q : Request) (right : valid_length w ≡ true) (ok : so
   unfolding call call_by lent_by
   one_served = rw (call, call_by, one_accepted)
 
-  module _ (a : Asked) (e : asked (owner_in (edition_of w) (owner (pos 1))) q ≡ some a) where
+  module _ (a : Asked) (e : asked (owner_in (edition_of w) (owner (pos 1))) q ≡ Some a) where
     one_done : do_requests ours 0 (q ∷ []) (starting (lent_by w q)) ≡ after_turn 0 (starting (lent_by w q)) (request ours (read w) 0 64 a)
     unfolding do_requests do_request starting lent_by batch_owner read
     one_done = rw (do_requests, e)
@@ -105,7 +105,7 @@ module _ (w : List ℤ) (q : Request) (right : valid_length w ≡ true) (ok : so
 
 -- one request does the call, and its lines are the call's
 pub replies_by : (w : List ℤ) (q : Request) (a : Asked) (before at : ℕ) (out now : List ℕ) (left scratch : List ℤ) (s : Served) (filled : ℕ)
-    (f : List FoundRecord) → valid_length w ≡ true → sound w ≡ true → is_request q ≡ true → asked (owner_in (edition_of w) (owner (pos 1))) q ≡ some a
+    (f : List FoundRecord) → valid_length w ≡ true → sound w ≡ true → is_request q ≡ true → asked (owner_in (edition_of w) (owner (pos 1))) q ≡ Some a
     → Serves (length w) (request ours (read w) 0 64 a) s left scratch → f ≡ sets empties 0 (shown_from left scratch 0 (min s.listed 64))
     → Wrote out at (reply_lines (suc before) s.answer f) now filled → filled ≤ at + 7124 → Replies w q before out at left now s.free filled
 replies_by w q a before at out now left scratch s filled f right ok is e v g t h =

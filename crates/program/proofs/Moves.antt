@@ -7,16 +7,11 @@ use Prim.Native.Nat.{ℕ, zero, suc, ◌+◌, ◌-◌, ◌≤◌}
 use native.Mathlib.Omega.{arith}
 use lib.ListN.{length, take, drop, length-drop}
 use lib.Seq.{length-take-le, take-take, take-add}
-use Rattle.std.specs.Prelude.{Option, None, Some, Result, Ok, Err, IfOk}
+use Rattle.std.specs.Prelude.{Option, None, Some, Result, Ok, Err, IfOk, MatchResult, IsErrAnd}
 use Rattle.std.specs.Io.KnownBytes.{Keeps, Appends, Consumes, WriteAppends, ReadConsumes}
 use Rattle.std.specs.declared.io.Error.{Error}
 use Rattle.std.specs.declared.io.ErrorKind.{ErrorKind}
 use Rattle.std.specs.declared.io.ErrorKind.TheVariants.{Interrupted, WouldBlock}
-use Rattle.rules_laws.proofs.Orders.{never_both}
-use Rattle.program.specs.declared.Moved.{Moved}
-use Rattle.program.specs.declared.Moved.TheVariants.{Bytes, Nothing, Again, Failed}
-use Rattle.program.specs.declared.Sent.{Sent}
-use Rattle.program.specs.declared.Sent.TheVariants as S
 use Rattle.program.specs.Moving.{Known, passing, again, moved_by, bytes_of, sent_by, part_of, Sends, Taken, none, more, Stuck, refused, tired, Stops}
 
 -- ---- an error
@@ -33,32 +28,29 @@ passing_not Interrupted n m = absurd (n refl)
 passing_not WouldBlock n m = absurd (m refl)
 passing_not k n m = refl
 
--- ---- an answer
+-- ---- a `Result` whose error was mapped
 
-pub moved_nothing : (n : ℕ) → n ≡ 0 → Nothing ≡ moved_by (Ok n)
-unfolding moved_by
-moved_nothing zero h = refl
-moved_nothing (suc n) h = absurd (omega arith)
+pub ok_within : {T D E : Type 0} (P : D → E → Type 0) (r : Result T D) (m : Result T E) {x : T}
+    → MatchResult r (λ y. m ≡ Ok y) (λ d. IsErrAnd m (P d)) → m ≡ Ok x → r ≡ Ok x
+ok_within P (Ok y) m h e = cc
+ok_within P (Err d) (Ok y) h e = absurd h
+ok_within P (Err d) (Err y) h e = cc
 
-pub moved_bytes : (n : ℕ) → (n ≡ 0 → ⊥) → Bytes n ≡ moved_by (Ok n)
-unfolding moved_by
-moved_bytes zero h = absurd (h refl)
-moved_bytes (suc n) h = refl
-
-pub moved_refused : (error : Error) (b : Bool) → b ≡ again error → cond b Again (Failed error) ≡ moved_by (Err error)
-unfolding moved_by
-moved_refused error b e = ap (λ (t : Bool). cond t Again (Failed error)) e
+pub err_within : {T D E : Type 0} (P : D → E → Type 0) (r : Result T D) (m : Result T E) {x : E}
+    → MatchResult r (λ y. m ≡ Ok y) (λ d. IsErrAnd m (P d)) → m ≡ Err x → (d : D) × (r ≡ Err d) × P d x
+err_within P (Ok y) m h e = cc
+err_within P (Err d) (Ok y) h e = absurd h
+err_within P (Err d) (Err y) {x} h e = let same : y ≡ x = cc in (d, refl, subst (P d) same h)
 
 -- ---- no more bytes are moved than were handed over
 
-refused_none : (error : Error) (b : Bool) → bytes_of (cond b Again (Failed error)) ≡ 0
+refused_none : (error : Error) (b : Bool) → bytes_of (cond b (Ok None) (Err error)) ≡ 0
 refused_none error true = refl
 refused_none error false = refl
 
 pub few : (n : ℕ) (answer : Result ℕ Error) → IfOk answer (λ k. k ≤ n) → bytes_of (moved_by answer) ≤ n
 unfolding moved_by
-few n (Ok zero) h = omega arith
-few n (Ok (suc k)) h = h
+few n (Ok k) h = h
 few n (Err error) h = omega (arith, refused_none error (again error))
 
 -- ---- bytes that are known
@@ -96,43 +88,38 @@ consumes_both (Some xs) (Some ys) (Some zs) x y h k = h ∙ ap (λ (l : List ℕ
 -- a call appends or takes the bytes that it moved
 pub moved_appends : (a b : Known) (answer : Result ℕ Error) (buf : List ℕ) → WriteAppends a b answer buf → Appends a b (take (bytes_of (moved_by answer)) buf)
 unfolding moved_by
-moved_appends a b (Ok zero) buf h = h
-moved_appends a b (Ok (suc n)) buf h = h
+moved_appends a b (Ok n) buf h = h
 moved_appends a b (Err error) buf h =
     subst (λ (n : ℕ). Appends a b (take n buf)) (sym (refused_none error (again error))) (kept_appends a b h)
 
 pub moved_consumes : (a b : Known) (answer : Result ℕ Error) (buf : List ℕ) → ReadConsumes a b answer buf → Consumes a b (take (bytes_of (moved_by answer)) buf)
 unfolding moved_by
-moved_consumes a b (Ok zero) buf h = h.0
-moved_consumes a b (Ok (suc n)) buf h = h.0
+moved_consumes a b (Ok n) buf h = h.0
 moved_consumes a b (Err error) buf h =
     subst (λ (n : ℕ). Consumes a b (take n buf)) (sym (refused_none error (again error))) (kept_consumes a b h)
 
 -- ---- what is taken of the output
 
-abbrev place_of : Sent → ℕ
-place_of (S.UpTo n) = n
-place_of (S.Failed error) = 0
-
-abbrev is_up : Sent → Bool
-is_up (S.UpTo n) = true
-is_up (S.Failed error) = false
-
 -- where a write goes on
-next_place : (sent next : ℕ) (m : Moved) → S.UpTo next ≡ sent_by sent m → next ≡ sent + bytes_of m
+next_place : (sent next : ℕ) (m : Result (Option ℕ) Error) → Ok next ≡ sent_by sent m → next ≡ sent + bytes_of m
 unfolding sent_by
-next_place sent next (Bytes n) e = ap place_of e
-next_place sent next Nothing e = never_both (ap is_up (sym e)) refl
-next_place sent next Again e = ap place_of e ∙ omega arith
-next_place sent next (Failed error) e = never_both (ap is_up (sym e)) refl
+next_place sent next (Ok None) e = let n : sent ≡ next = cc e in omega arith
+next_place sent next (Ok (Some zero)) e = cc e
+next_place sent next (Ok (Some (suc n))) e = cc e
+next_place sent next (Err error) e = cc e
+
+pub sent_some : (sent n : ℕ) → (n ≡ 0 → ⊥) → Ok (sent + n) ≡ sent_by sent (Ok (Some n))
+unfolding sent_by
+sent_some sent zero h = absurd (h refl)
+sent_some sent (suc n) h = refl
 
 -- .. and where it failed, no byte was moved
-no_place : (sent : ℕ) (error : Option Error) (m : Moved) → S.Failed error ≡ sent_by sent m → bytes_of m ≡ 0
+no_place : (sent : ℕ) (error : Option Error) (m : Result (Option ℕ) Error) → Err error ≡ sent_by sent m → bytes_of m ≡ 0
 unfolding sent_by
-no_place sent error (Bytes n) e = never_both refl (ap is_up (sym e))
-no_place sent error Nothing e = refl
-no_place sent error Again e = never_both refl (ap is_up (sym e))
-no_place sent error (Failed x) e = refl
+no_place sent error (Ok None) e = refl
+no_place sent error (Ok (Some zero)) e = refl
+no_place sent error (Ok (Some (suc n))) e = cc e
+no_place sent error (Err x) e = refl
 
 stuck_appends : {at held : Known} {out : List ℕ} {n filled : ℕ} {error : Option Error} → Stuck at held out n filled error → Appends at held []
 stuck_appends {at} {held} {out} {n} {filled} (refused error s) =
@@ -168,13 +155,21 @@ module _ {holds : Known} {out : List ℕ} {filled : ℕ} where
   stops_within s = taken_within s.taken
 
 -- one write, by what it answered
-module _ (sent filled : ℕ) (out : List ℕ) (answer : Result ℕ Error) (k : Moved) (low : sent ≤ filled) (high : filled ≤ length out)
+module _ (sent filled : ℕ) (out : List ℕ) (answer : Result ℕ Error) (k : Result (Option ℕ) Error) (low : sent ≤ filled) (high : filled ≤ length out)
     (h : IfOk answer (λ n. n ≤ length (part_of out sent filled))) (e : k ≡ moved_by answer) where
   part_long : length (part_of out sent filled) ≡ filled - sent
   part_long = let d = length-drop sent out in length-take-le (filled - sent) (drop sent out) (omega arith)
 
-  pub sends_by : {holds held : Known} → WriteAppends holds held answer (part_of out sent filled) → Sends holds held out sent filled (sent_by sent k)
-  sends_by w = record { answer = answer; within = subst (λ (m : ℕ). IfOk answer (λ n. n ≤ m)) part_long h; is = ap (sent_by sent) e; wrote = w }
+  pub sends_by : {holds held : Known} {r : Result ℕ (Option Error)} → WriteAppends holds held answer (part_of out sent filled) → r ≡ sent_by sent k
+      → Sends holds held out sent filled r
+  sends_by w is =
+      record { answer = answer; within = subst (λ (m : ℕ). IfOk answer (λ n. n ≤ m)) part_long h; is = is ∙ ap (sent_by sent) e; wrote = w }
 
   pub sends_few : sent + bytes_of k ≤ filled
   sends_few = omega (arith, few _ answer h, ap bytes_of e, part_long)
+
+-- no more is taken after a write that failed
+pub stops_by : {holds at held : Known} {out : List ℕ} {sent filled : ℕ} {error : Option Error} {r : Result ℕ (Option Error)} → Taken holds out filled sent at
+    → Sends at held out sent filled r → r ≡ Err error → Stops holds held out filled sent error
+stops_by {at} {held} {out} {sent} {filled} {error} t s e =
+    record { at = at; taken = t; stuck = refused error (subst (Sends at held out sent filled) e s) }

@@ -16,25 +16,20 @@ use Rattle.std.specs.declared.io.Error.{Error}
 use Rattle.rules.specs.Frames.{bad_line, printed, dustmap}
 use Rattle.rules_laws.proofs.Orders.{never_both}
 use Rattle.free_slots.specs.declared.FreeSlots.{FreeSlots}
-use Rattle.frames.specs.declared.Framed.TheVariants as F
+use Rattle.frames.specs.Reading as F
 use Rattle.frames.specs.Reading.{framed}
 use Rattle.frames.specs.Said.{Said, cut_line}
 use Rattle.frames.proofs.Pieces.{said_more, said_end, cut_some, waits_within}
 use Rattle.request.specs.Serving.{Ready}
 use Rattle.program.specs.declared.Run.{Run}
-use Rattle.program.specs.declared.Moved.{Moved}
-use Rattle.program.specs.declared.Moved.TheVariants.{Bytes, Nothing, Again, Failed}
-use Rattle.program.specs.declared.Got.{Got}
-use Rattle.program.specs.declared.Got.TheVariants as G
 use Rattle.program.specs.declared.Then.{Then}
 use Rattle.program.specs.declared.Then.TheVariants.{Goes, Waits, Full, Ends}
 use Rattle.program.specs.declared.End.{End}
 use Rattle.program.specs.declared.End.TheVariants.{Answered, BadFrame, NotRead, NotWritten, Endless}
-use Rattle.program.specs.declared.Step.{Step}
-use Rattle.program.specs.declared.Step.TheVariants as Next
-use Rattle.program.specs.declared.Flushed.{Flushed}
-use Rattle.program.specs.declared.Flushed.TheVariants.{All, Stopped}
-use Rattle.program.specs.Moving.{again, Known, moved_by, held_in, held_up_to, got_by, most_rounds, Taken, Stops, Emptied, Flushes, Receives, bytes_of}
+use Rattle.program.specs.declared.Stopped.{Stopped}
+use Rattle.std.specs.declared.ops.ControlFlow.{ControlFlow}
+use Rattle.std.specs.declared.ops.ControlFlow.TheVariants.{Continue, Break}
+use Rattle.program.specs.Moving.{again, Known, moved_by, held_in, held_up_to, came_by, got_by, most_rounds, Taken, Stops, Emptied, Flushes, Receives, bytes_of}
 use Rattle.rules.specs.Lists.{same}
 use Rattle.program.specs.Running.{status_of, Claims, Stands, Comes, Onward, Moves, Wholly, is_whole, Onto, Over, Rounds, Waited, RunsTo, Runs, whole_status, PrintsAll}
 use Rattle.program.specs.Running.{Finished, answered, bad_frame, not_read, not_written, endless, Drains, on, stuck, Closes, all, stopped, Ending, none, cut}
@@ -103,21 +98,6 @@ module _ (pool : List ℤ) (input out : List ℕ) (r : Run) (arrived text : List
 
 -- ---- a read
 
-abbrev run_in : Run → Got → Run
-run_in r (G.Came s) = s
-run_in r (G.Ended s) = s
-run_in r (G.Failed error) = r
-
-abbrev is_came : Got → Bool
-is_came (G.Came s) = true
-is_came (G.Ended s) = false
-is_came (G.Failed error) = false
-
-abbrev is_ended : Got → Bool
-is_ended (G.Came s) = false
-is_ended (G.Ended s) = true
-is_ended (G.Failed error) = false
-
 -- what a run that goes on after a read has
 pub record Held (old input : List ℕ) (r s : Run) (piece : List ℕ) : Type 0 where
   pub before : s.before ≡ r.before
@@ -127,7 +107,7 @@ pub record Held (old input : List ℕ) (r s : Run) (piece : List ℕ) : Type 0 w
   pub high : s.end ≤ length input
   pub held : held_in input s ≡ held_in old r ++ piece
 
-abbrev pub piece_of : List ℕ → ℕ → Moved → List ℕ
+abbrev pub piece_of : List ℕ → ℕ → Result (Option ℕ) Error → List ℕ
 piece_of input rest m = take (bytes_of m) (drop rest input)
 
 module _ {old input : List ℕ} {r : Run} (low : r.at ≤ r.end) (high : r.end ≤ length input) where
@@ -160,31 +140,20 @@ module _ {old input : List ℕ} {r : Run} (low : r.at ≤ r.end) (high : r.end �
 
   module _ {left rest : Known} where
     -- bytes came, or none yet
-    pub came_held : {g : Got} {s : Run} (v : Receives left rest old input r g) → g ≡ G.Came s
+    pub came_held : {g : Result (Option Run) Error} {s : Run} (v : Receives left rest old input r g) → g ≡ Ok (Some s)
         → Held old input r s (piece_of input (r.end - r.at) (moved_by v.answer))
-    unfolding got_by
+    unfolding came_by
     came_held {g} {s} v e = go (moved_by v.answer) (few (length input - (r.end - r.at)) v.answer v.within) (sym v.is ∙ e)
       where
-        go : (m : Moved) → bytes_of m ≤ length input - (r.end - r.at) → got_by r (r.end - r.at) m ≡ G.Came s
+        go : (m : Result (Option ℕ) Error) → bytes_of m ≤ length input - (r.end - r.at) → got_by r (r.end - r.at) m ≡ Ok (Some s)
             → Held old input r s (piece_of input (r.end - r.at) m)
-        go (Bytes n) h i = held_to n s h v.held (ap (run_in r) i)
-        go Nothing h i = never_both refl (ap is_ended i)
-        go Again h i = held_still s v.held (ap (run_in r) i)
-        go (Failed error) h i = never_both (ap is_came i) refl
-
-    -- the input has ended
-    pub ended_held : {g : Got} {s : Run} (v : Receives left rest old input r g) → g ≡ G.Ended s → Held old input r s []
-    unfolding got_by
-    ended_held {g} {s} v e = go (moved_by v.answer) (sym v.is ∙ e)
-      where
-        go : (m : Moved) → got_by r (r.end - r.at) m ≡ G.Ended s → Held old input r s []
-        go (Bytes n) i = never_both refl (ap is_came i)
-        go Nothing i = held_still s v.held (ap (run_in r) i)
-        go Again i = never_both refl (ap is_came i)
-        go (Failed error) i = never_both (ap is_ended i) refl
+        go (Ok None) h i = held_still s v.held (cc i)
+        go (Ok (Some zero)) h i = absurd (cc i)
+        go (Ok (Some (suc n))) h i = held_to (suc n) s h v.held (cc i)
+        go (Err error) h i = absurd (cc i)
 
 -- what a read took of the reader
-module _ {left rest : Known} {old input : List ℕ} {r : Run} {g : Got} (v : Receives left rest old input r g) where
+module _ {left rest : Known} {old input : List ℕ} {r : Run} {g : Result (Option Run) Error} (v : Receives left rest old input r g) where
   pub received_piece : Consumes left rest (piece_of input (r.end - r.at) (moved_by v.answer))
   received_piece = moved_consumes left rest v.answer (drop (r.end - r.at) input) v.read
 
@@ -192,39 +161,37 @@ module _ {left rest : Known} {old input : List ℕ} {r : Run} {g : Got} (v : Rec
   received_none : bytes_of (moved_by v.answer) ≡ 0 → Consumes left rest []
   received_none e = subst (λ (n : ℕ). Consumes left rest (take n (drop (r.end - r.at) input))) e received_piece
 
-  pub received_ended : (s : Run) → g ≡ G.Ended s → Consumes left rest []
-  unfolding got_by
-  received_ended s e = received_none (go (moved_by v.answer) (sym v.is ∙ e))
+  pub received_ended : g ≡ Ok None → Consumes left rest []
+  unfolding came_by
+  received_ended e = received_none (go (moved_by v.answer) (sym v.is ∙ e))
     where
-      go : (m : Moved) → got_by r (r.end - r.at) m ≡ G.Ended s → bytes_of m ≡ 0
-      go (Bytes n) i = never_both refl (ap is_came i)
-      go Nothing i = refl
-      go Again i = refl
-      go (Failed error) i = refl
+      go : (m : Result (Option ℕ) Error) → got_by r (r.end - r.at) m ≡ Ok None → bytes_of m ≡ 0
+      go (Ok None) i = refl
+      go (Ok (Some zero)) i = refl
+      go (Ok (Some (suc n))) i = absurd (cc i)
+      go (Err error) i = refl
 
   -- the reader is at its end then
-  pub received_at_end : (s : Run) → g ≡ G.Ended s → r.end - r.at < length input → IsAtEnd rest
-  unfolding got_by moved_by
-  received_at_end s e h = go v.answer (sym v.is ∙ e) v.read
+  pub received_at_end : g ≡ Ok None → r.end - r.at < length input → IsAtEnd rest
+  unfolding came_by moved_by
+  received_at_end e h = go v.answer (sym v.is ∙ e) v.read
     where
-      refused : (error : Error) (b : Bool) → got_by r (r.end - r.at) (cond b Again (Failed error)) ≡ G.Ended s → IsAtEnd rest
-      refused error true i = never_both refl (ap is_came i)
-      refused error false i = never_both (ap is_ended i) refl
+      refused : (error : Error) (b : Bool) → got_by r (r.end - r.at) (cond b (Ok None) (Err error)) ≡ Ok None → IsAtEnd rest
+      refused error true i = absurd (cc i)
+      refused error false i = absurd (cc i)
 
-      go : (a : Result ℕ Error) → got_by r (r.end - r.at) (moved_by a) ≡ G.Ended s → ReadConsumes left rest a (drop (r.end - r.at) input) → IsAtEnd rest
+      go : (a : Result ℕ Error) → got_by r (r.end - r.at) (moved_by a) ≡ Ok None → ReadConsumes left rest a (drop (r.end - r.at) input) → IsAtEnd rest
       go (Ok zero) i k = k.1 refl (omega (arith, h, length-drop (r.end - r.at) input))
-      go (Ok (suc n)) i k = never_both refl (ap is_came i)
+      go (Ok (suc n)) i k = absurd (cc i)
       go (Err error) i k = refused error (again error) i
 
-  pub received_failed : (error : Error) → g ≡ G.Failed error → Consumes left rest []
-  unfolding got_by
+  pub received_failed : (error : Error) → g ≡ Err error → Consumes left rest []
+  unfolding came_by
   received_failed error e = received_none (go (moved_by v.answer) (sym v.is ∙ e))
     where
-      go : (m : Moved) → got_by r (r.end - r.at) m ≡ G.Failed error → bytes_of m ≡ 0
-      go (Bytes n) i = never_both refl (ap is_came i)
-      go Nothing i = refl
-      go Again i = refl
-      go (Failed x) i = refl
+      go : (m : Result (Option ℕ) Error) → got_by r (r.end - r.at) m ≡ Err error → bytes_of m ≡ 0
+      go (Ok moved) i = absurd (cc i)
+      go (Err x) i = refl
 
 -- what follows the bytes that wait, where the rest of the buffer was lent
 part_after : (buffer part : List ℕ) (rest : ℕ) → rest ≤ length buffer → drop rest (put_mid rest (length buffer - rest) buffer part) ≡ part
@@ -238,7 +205,8 @@ prefix_few n part (Ok k) e h = omega (arith, h.0, e)
 prefix_few n part (Err error) e h = h
 
 -- one read, by what it answered: the bytes that wait are at the front of the buffer, and what was read is a part of it after them
-pub received : {left remaining : Known} (old buffer part : List ℕ) (r : Run) (rest : ℕ) (answer : Result ℕ Error) {m : Moved} {g : Got} → r.at ≤ r.end → r.end ≤ length old
+pub received : {left remaining : Known} (old buffer part : List ℕ) (r : Run) (rest : ℕ) (answer : Result ℕ Error)
+    {m : Result (Option ℕ) Error} {g : Result (Option Run) Error} → r.at ≤ r.end → r.end ≤ length old
     → rest ≡ r.end - r.at → length buffer ≡ length old → take (r.end - r.at) buffer ≡ held_in old r
     → length part ≡ length (take (length buffer - rest) (drop rest buffer))
     → IfOk answer (λ k. IsPrefixLen k part) → ReadConsumes left remaining answer part → m ≡ moved_by answer → g ≡ got_by r rest m
@@ -258,7 +226,7 @@ received {left} {remaining} old buffer part r rest answer {m} low high e long he
           (sym (ap (λ (n : ℕ). drop n input) (sym e) ∙ part_after buffer part rest (omega arith))) read;
     }
 
-pub received_few : (buffer part : List ℕ) (rest : ℕ) (answer : Result ℕ Error) {m : Moved} → rest ≤ length buffer
+pub received_few : (buffer part : List ℕ) (rest : ℕ) (answer : Result ℕ Error) {m : Result (Option ℕ) Error} → rest ≤ length buffer
     → length part ≡ length (take (length buffer - rest) (drop rest buffer)) → IfOk answer (λ k. IsPrefixLen k part)
     → m ≡ moved_by answer → rest + bytes_of m ≤ length buffer
 received_few buffer part rest answer low size h e =
@@ -274,23 +242,23 @@ received_few buffer part rest answer low size h e =
 -- ---- what is left of the output
 
 module _ {holds held : Known} {out : List ℕ} (r : Run) where
-  pub drains_on : {f : Flushed} {s : Run} → Flushes holds held out r f → f ≡ All s → Drains holds held out r (Next.Goes s)
+  pub drains_on : {f : Result Run Stopped} {s : Run} → Flushes holds held out r f → f ≡ Ok s → Drains holds held out r (Continue s)
   unfolding Flushes
-  drains_on {f} {s} h e = let t = subst (λ (x : Flushed). Flushes holds held out r x) e h in on s t.0 t.1
+  drains_on {f} {s} h e = let t = subst (λ (x : Result Run Stopped). Flushes holds held out r x) e h in on s t.0 t.1
 
-  pub drains_stuck : {f : Flushed} {n : ℕ} {error : Option Error} → Flushes holds held out r f → f ≡ Stopped n error
-      → Drains holds held out r (Next.Ends (NotWritten error))
+  pub drains_stuck : {f : Result Run Stopped} {s : Stopped} → Flushes holds held out r f → f ≡ Err s
+      → Drains holds held out r (Break (NotWritten s.error))
   unfolding Flushes
-  drains_stuck {f} {n} {error} h e = stuck n error (subst (λ (x : Flushed). Flushes holds held out r x) e h)
+  drains_stuck {f} {s} h e = stuck s.sent s.error (subst (λ (x : Result Run Stopped). Flushes holds held out r x) e h)
 
-  pub closes_all : {f : Flushed} {s : Run} → Flushes holds held out r f → f ≡ All s → Closes holds held out r BadFrame
+  pub closes_all : {f : Result Run Stopped} {s : Run} → Flushes holds held out r f → f ≡ Ok s → Closes holds held out r BadFrame
   unfolding Flushes
-  closes_all {f} h e = all (subst (λ (x : Flushed). Flushes holds held out r x) e h).0
+  closes_all {f} h e = all (subst (λ (x : Result Run Stopped). Flushes holds held out r x) e h).0
 
-  pub closes_stopped : {f : Flushed} {n : ℕ} {error : Option Error} → Flushes holds held out r f → f ≡ Stopped n error
-      → Closes holds held out r (NotWritten error)
+  pub closes_stopped : {f : Result Run Stopped} {s : Stopped} → Flushes holds held out r f → f ≡ Err s
+      → Closes holds held out r (NotWritten s.error)
   unfolding Flushes
-  closes_stopped {f} {n} {error} h e = stopped n error (subst (λ (x : Flushed). Flushes holds held out r x) e h)
+  closes_stopped {f} {s} h e = stopped s.sent s.error (subst (λ (x : Result Run Stopped). Flushes holds held out r x) e h)
 
 -- ---- the end of the input
 
@@ -412,13 +380,6 @@ onto_came pool input out r input' {r'} s piece st e h m =
       keeps = λ a p c. claims_on pool input out r a p c input' s piece e h.before h.filled h.held;
     }
 
-many_held : {old input : List ℕ} {r s : Run} → r.at ≤ r.end → r.end ≤ length old → Held old input r s [] → s.end - s.at ≡ r.end - r.at
-many_held {old} {input} {r} {s} low high h =
-    let d = length-drop r.at old in
-    let f = length-drop s.at input in
-    sym (length-take-le (s.end - s.at) (drop s.at input) (omega (arith, h.low, h.high)))
-    ∙ ap length (h.held ∙ append-nil (held_in old r)) ∙ length-take-le (r.end - r.at) (drop r.at old) (omega arith)
-
 -- ---- a round
 
 module _ (pool : List ℤ) (input out : List ℕ) (r : Run) (pool' : List ℤ) (out' : List ℕ) where
@@ -462,14 +423,15 @@ module _ (pool : List ℤ) (input out : List ℕ) (r : Run) (pool' : List ℤ) (
           whole = λ w a p c. o.whole w a p (k.keeps a p c);
         }
 
-  pub round_waited : (M : List ℕ → List ℕ → Type 0) (rest : Known) (input'' out'' : List ℕ) (s : Run) (pool'' : List ℤ) (t : Step) → Comes pool input out r pool' out' s → s.before ≤ r.before
+  pub round_waited : (M : List ℕ → List ℕ → Type 0) (rest : Known) (input'' out'' : List ℕ) (s : Run) (pool'' : List ℤ) (t : ControlFlow End Run)
+      → Comes pool input out r pool' out' s → s.before ≤ r.before
       → Rounds M rest pool' input out' s pool'' input'' out'' t → Rounds M rest pool input out r pool'' input'' out'' t
   unfolding Rounds
-  round_waited M rest input'' out'' s pool'' (Next.Goes n) k b o = onto_after input'' out'' s n pool'' k b o
-  round_waited M rest input'' out'' s pool'' (Next.Ends end) k b o = over_after s end k o
+  round_waited M rest input'' out'' s pool'' (Continue n) k b o = onto_after input'' out'' s n pool'' k b o
+  round_waited M rest input'' out'' s pool'' (Break end) k b o = over_after s end k o
 
   module _ (left : Known) {holds held : Known} where
-    pub round_drained : (s : Run) (t : Step) → Comes pool input out r pool' out' s → Drains holds held out' s t
+    pub round_drained : (s : Run) (t : ControlFlow End Run) → Comes pool input out r pool' out' s → Drains holds held out' s t
         → Rounds (Moves left left holds held) left pool input out r pool' input out' t
     unfolding Rounds
     round_drained s t k (on n taken e) =
@@ -513,16 +475,22 @@ module _ (pool : List ℤ) (input out : List ℕ) (r : Run) (pool' : List ℤ) (
 
 -- ---- `wait`
 
-pub waited_stopped : (left holds held : Known) (input out : List ℕ) (r : Run) {f : Flushed} {n : ℕ} {error : Option Error} → r.filled ≤ length out
-    → Flushes holds held out r f → f ≡ Stopped n error → Waited (Moves left left holds held) left input out r input out (Next.Ends (NotWritten error))
-unfolding Flushes Rounds
-waited_stopped left holds held input out r {f} {n} {error} low h e pool st w =
-    over_stopped pool input out r n error low (subst (λ (x : Flushed). Flushes holds held out r x) e h)
+pub waited_stopped : (left holds held : Known) (input out : List ℕ) (r : Run) {x : ControlFlow End Run} {end : End} → r.filled ≤ length out
+    → Drains holds held out r x → x ≡ Break end → Waited (Moves left left holds held) left input out r input out (Break end)
+unfolding Rounds
+waited_stopped left holds held input out r low (on s taken k) e pool st w = absurd (cc e)
+waited_stopped left holds held input out r {x} {end} low (stuck n error v) e pool st w =
+    let same : NotWritten error ≡ end = cc e in
+    subst (λ (y : End). Over (Moves left left holds held) left pool input out r y) same (over_stopped pool input out r n error low v)
 
-module _ (holds at : Known) (input out : List ℕ) (r : Run) {f : Flushed} (r' : Run) (h : Flushes holds at out r f) (e : f ≡ All r') where
+drained : {holds held : Known} {out : List ℕ} {r s : Run} {x : ControlFlow End Run} → Drains holds held out r x → x ≡ Continue s
+    → Taken holds out r.filled r.filled held × Emptied r s
+drained {r} {s} (on n taken k) e = let same : n ≡ s = cc e in (taken, subst (λ (y : Run). Emptied r y) same k)
+drained (stuck n error v) e = absurd (cc e)
+
+module _ (holds at : Known) (input out : List ℕ) (r : Run) {x : ControlFlow End Run} (r' : Run) (h : Drains holds at out r x) (e : x ≡ Continue r') where
   flushed : Taken holds out r.filled r.filled at × Emptied r r'
-  unfolding Flushes
-  flushed = subst (λ (x : Flushed). Flushes holds at out r x) e h
+  flushed = drained h e
 
   pub emptied : Emptied r r'
   emptied = flushed.1
@@ -530,28 +498,25 @@ module _ (holds at : Known) (input out : List ℕ) (r : Run) {f : Flushed} (r' :
   pub emptied_appends : r.filled ≤ length out → Appends holds at (take r.filled out)
   emptied_appends low = taken_appends low flushed.0
 
-  module _ {left rest : Known} (input' : List ℕ) {g : Got} (v : Receives left rest input input' r' g) (same : length input' ≡ length input) where
-    pub waited_came : (s : Run) → g ≡ G.Came s → Waited (Moves left rest holds at) rest input out r input' out (Next.Goes s)
+  module _ {left rest : Known} (input' : List ℕ) {g : Result (Option Run) Error} (v : Receives left rest input input' r' g) (same : length input' ≡ length input) where
+    pub waited_came : (s : Run) → g ≡ Ok (Some s) → Waited (Moves left rest holds at) rest input out r input' out (Continue s)
     unfolding Rounds
     waited_came s i pool st w =
         onto_came pool input out r input' s _ st emptied
         (came_held (omega (arith, st.low, emptied.at, emptied.end)) (omega (arith, st.high, emptied.end)) v i)
         (record { read = received_piece v; wrote = emptied_appends st.room })
 
-    pub waited_failed : (error : Error) → g ≡ G.Failed error → Waited (Moves left rest holds at) rest input out r input' out (Next.Ends (NotRead error))
+    pub waited_failed : (error : Error) → g ≡ Err error → Waited (Moves left rest holds at) rest input out r input' out (Break (NotRead error))
     unfolding Rounds
     waited_failed error i pool st w = wait_failed pool input out r st w error (received_failed v error i) (emptied_appends st.room)
 
-    pub waited_ended : {held : Known} (s : Run) → g ≡ G.Ended s → (now : List ℕ) (end : End) → length now ≡ length out → r.end - r.at < length input → Ending at held out now s end
-        → Waited (Moves left rest holds held) rest input out r input' now (Next.Ends end)
+    pub waited_ended : {held : Known} → g ≡ Ok None → (now : List ℕ) (end : End) → length now ≡ length out → r.end - r.at < length input
+        → Ending at held out now r' end → Waited (Moves left rest holds held) rest input out r input' now (Break end)
     unfolding Rounds
-    waited_ended s i now end long room last pool st w =
-        let low : r'.at ≤ r'.end = omega (arith, st.low, emptied.at, emptied.end) in
-        let k = ended_held low (omega (arith, st.high, emptied.end)) v i in
-        let m = many_held low (omega (arith, st.high, emptied.end)) k in
-        wait_ended pool input out r st w (received_ended v s i) (received_at_end v s i (omega (arith, room, same, emptied.at, emptied.end)))
-        (emptied_appends st.room) now end (k.before ∙ emptied.before) (omega (arith, m, emptied.at, emptied.end))
-        k.low long last
+    waited_ended i now end long room last pool st w =
+        wait_ended pool input out r st w (received_ended v i) (received_at_end v i (omega (arith, room, same, emptied.at, emptied.end)))
+        (emptied_appends st.room) now end emptied.before (omega (arith, emptied.at, emptied.end))
+        (omega (arith, st.low, emptied.at, emptied.end)) long last
 
 -- ---- `round`
 
@@ -587,35 +552,35 @@ module _ (pool : List ℤ) (input out : List ℕ) (r : Run) (pool' : List ℤ) (
   pub ends_within : t ≡ Ends s → s.filled ≤ length out'
   ends_within e = (ends_all e).0
 
-  pub rounds_goes : (left holds : Known) → t ≡ Goes s → Rounds (Moves left left holds holds) left pool input out r pool' input out' (Next.Goes s)
+  pub rounds_goes : (left holds : Known) → t ≡ Goes s → Rounds (Moves left left holds holds) left pool input out r pool' input out' (Continue s)
   unfolding Rounds
   rounds_goes left holds e = onto_comes pool input out r pool' out' s (goes_on e)
 
-  pub rounds_full : (left : Known) {holds held : Known} → t ≡ Full s → (x : Step) → Drains holds held out' s x
+  pub rounds_full : (left : Known) {holds held : Known} → t ≡ Full s → (x : ControlFlow End Run) → Drains holds held out' s x
       → Rounds (Moves left left holds held) left pool input out r pool' input out' x
   rounds_full left e x d = round_drained pool input out r pool' out' left s x (full_on e) d
 
-  pub rounds_waits : (M : List ℕ → List ℕ → Type 0) (rest : Known) → t ≡ Waits s → (input'' out'' : List ℕ) (x : Step) → Waited M rest input out' s input'' out'' x
+  pub rounds_waits : (M : List ℕ → List ℕ → Type 0) (rest : Known) → t ≡ Waits s → (input'' out'' : List ℕ) (x : ControlFlow End Run) → Waited M rest input out' s input'' out'' x
       → Rounds M rest pool input out r pool' input'' out'' x
   rounds_waits M rest e input'' out'' x w =
       round_waited pool input out r pool' out' M rest input'' out'' s pool' x (waits_on e) (waits_counted e) (w pool' (waits_on e).stands (waits_all e).1)
 
   pub rounds_ends : (left : Known) {holds held : Known} → t ≡ Ends s → (end : End) → Closes holds held out' s end
-      → Rounds (Moves left left holds held) left pool input out r pool' input out' (Next.Ends end)
+      → Rounds (Moves left left holds held) left pool input out r pool' input out' (Break end)
   unfolding Rounds
   rounds_ends left e end k = let d = ends_all e in round_ends pool input out r pool' out' left s end d.0 d.1 d.2 k
 
 -- ---- the whole run
 
-module _ {M : List ℕ → List ℕ → Type 0} (rest : Known) (pool : List ℤ) (input out : List ℕ) (r : Run) (pool' : List ℤ) (input' out' : List ℕ) (x : Step)
+module _ {M : List ℕ → List ℕ → Type 0} (rest : Known) (pool : List ℤ) (input out : List ℕ) (r : Run) (pool' : List ℤ) (input' out' : List ℕ) (x : ControlFlow End Run)
     (o : Rounds M rest pool input out r pool' input' out' x) where
-  pub step_goes : (s : Run) → x ≡ Next.Goes s → Onto M pool input out r pool' input' out' s
+  pub step_goes : (s : Run) → x ≡ Continue s → Onto M pool input out r pool' input' out' s
   unfolding Rounds
-  step_goes s e = subst (λ (y : Step). Rounds M rest pool input out r pool' input' out' y) e o
+  step_goes s e = subst (λ (y : ControlFlow End Run). Rounds M rest pool input out r pool' input' out' y) e o
 
-  pub step_ends : (end : End) → x ≡ Next.Ends end → Over M rest pool input out r end
+  pub step_ends : (end : End) → x ≡ Break end → Over M rest pool input out r end
   unfolding Rounds
-  step_ends end e = subst (λ (y : Step). Rounds M rest pool input out r pool' input' out' y) e o
+  step_ends end e = subst (λ (y : ControlFlow End Run). Rounds M rest pool input out r pool' input' out' y) e o
 
 pub run_endless : {M : List ℕ → List ℕ → Type 0} {rest : Known} (pool : List ℤ) (input out : List ℕ) (r : Run) (arrived text : List ℕ) → M arrived text
     → Claims pool input out r arrived text → (rounds : ℕ) → rounds ≡ most_rounds → RunsTo M rest Endless

@@ -10,7 +10,7 @@ use lib.IntN.{ℤ}
 use Rattle.rules.specs.declared.Request.{Request}
 use Rattle.rules.specs.Frames.{bad_line}
 use Rattle.free_slots.specs.declared.FreeSlots.{FreeSlots}
-use Rattle.frames.specs.declared.Framed.TheVariants as F
+use Rattle.frames.specs.Reading as F
 use Rattle.frames.specs.Reading.{framed}
 use Rattle.frames.specs.Writing.{Wrote}
 use Rattle.frames.specs.Said.{Said, reply_shown}

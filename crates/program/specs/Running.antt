@@ -7,7 +7,7 @@ use Rattle.rules.specs.Layout.{head_size, slot_size}
 use Rattle.rules.specs.Frames.{frame_call, bad_line, dustmap}
 use Rattle.free_slots.specs.declared.FreeSlots.{FreeSlots}
 use Rattle.frames.specs.Writing.{Wrote}
-use Rattle.frames.specs.declared.Framed.TheVariants as F
+use Rattle.frames.specs.Reading as F
 use Rattle.frames.specs.Reading.{framed}
 use Rattle.frames.specs.Said.{Said, reply_shown}
 use Rattle.request.specs.Serving.{Ready}
@@ -16,8 +16,8 @@ use Rattle.program.specs.declared.Then.{Then}
 use Rattle.program.specs.declared.Then.TheVariants.{Goes, Waits, Full, Ends}
 use Rattle.program.specs.declared.End.{End}
 use Rattle.program.specs.declared.End.TheVariants.{Answered, BadFrame, NotRead, NotWritten, Endless}
-use Rattle.program.specs.declared.Step.{Step}
-use Rattle.program.specs.declared.Step.TheVariants as Next
+use Rattle.std.specs.declared.ops.ControlFlow.{ControlFlow}
+use Rattle.std.specs.declared.ops.ControlFlow.TheVariants.{Continue, Break}
 use Rattle.std.specs.declared.io.Error.{Error}
 use Rattle.std.specs.Io.KnownBytes.{Consumes, Appends}
 use Rattle.program.specs.Moving.{most_rounds, Known, held_in, Taken, Stops, Emptied}
@@ -97,9 +97,9 @@ pub data Finished (arrived printed : List ℕ) : ℤ → Type 0 where
   endless : (rest : List ℕ) → dustmap arrived ≡ printed ++ rest → (rounds : ℕ) → rounds ≡ most_rounds → Finished arrived printed (pos 4)
 
 -- what waited is written and the run goes on, or not all of it could be
-pub data Drains (holds held : Known) (out : List ℕ) (r : Run) : Step → Type 0 where
-  on : (s : Run) → Taken holds out r.filled r.filled held → Emptied r s → Drains holds held out r (Next.Goes s)
-  stuck : (n : ℕ) (error : Option Error) → Stops holds held out r.filled n error → Drains holds held out r (Next.Ends (NotWritten error))
+pub data Drains (holds held : Known) (out : List ℕ) (r : Run) : ControlFlow End Run → Type 0 where
+  on : (s : Run) → Taken holds out r.filled r.filled held → Emptied r s → Drains holds held out r (Continue s)
+  stuck : (n : ℕ) (error : Option Error) → Stops holds held out r.filled n error → Drains holds held out r (Break (NotWritten error))
 
 -- .. and the run ends at a bad frame
 pub data Closes (holds held : Known) (out : List ℕ) (r : Run) : End → Type 0 where
@@ -151,12 +151,12 @@ pub record Over (Moved : List ℕ → List ℕ → Type 0) (rest : Known) (pool 
   pub whole : is_whole end ≡ true → (arrived printed : List ℕ) → Claims pool input out r arrived printed
       → Wholly rest (arrived ++ piece) (printed ++ sent)
 
-unfoldable pub Rounds : (List ℕ → List ℕ → Type 0) → Known → List ℤ → List ℕ → List ℕ → Run → List ℤ → List ℕ → List ℕ → Step → Type 0
-Rounds Moved rest pool input out r pool' input' out' (Next.Goes s) = Onto Moved pool input out r pool' input' out' s
-Rounds Moved rest pool input out r pool' input' out' (Next.Ends end) = Over Moved rest pool input out r end
+unfoldable pub Rounds : (List ℕ → List ℕ → Type 0) → Known → List ℤ → List ℕ → List ℕ → Run → List ℤ → List ℕ → List ℕ → ControlFlow End Run → Type 0
+Rounds Moved rest pool input out r pool' input' out' (Continue s) = Onto Moved pool input out r pool' input' out' s
+Rounds Moved rest pool input out r pool' input' out' (Break end) = Over Moved rest pool input out r end
 
 -- a round that waits for input, where the end of a frame has yet to come
-abbrev pub Waited : (List ℕ → List ℕ → Type 0) → Known → List ℕ → List ℕ → Run → List ℕ → List ℕ → Step → Type 0
+abbrev pub Waited : (List ℕ → List ℕ → Type 0) → Known → List ℕ → List ℕ → Run → List ℕ → List ℕ → ControlFlow End Run → Type 0
 Waited Moved rest input out r input' out' t =
     (pool : List ℤ) → Stands pool input out r → framed (held_in input r) ≡ F.Waits → Rounds Moved rest pool input out r pool input' out' t
 

@@ -1,6 +1,8 @@
-// The program `dustmap`: reads frames from a reader into a 128-slot pool and prints the lines of each to a writer. Crate `frames` knows how a
-// frame is read and how lines are written, and crate `request` what a request does; here one follows the other. What the reader and the
-// writer are asked is in `receive` and `send` alone. Where it is known what bytes they have, the contracts say what became of them.
+// The program `dustmap`: reads frames from a reader into a 128-slot pool and prints the lines of
+// each to a writer. Crate `frames` knows how a frame is read and how lines are written, and crate
+// `request` what a request does; here one follows the other. What the reader and the writer are
+// asked is in `receive` and `send` alone. Where it is known what bytes they have, the contracts say
+// what became of them.
 #![tactic(auto)]
 
 ghost use Rattle.std.specs.Prelude.{◌≡◌, true, suc, ◌+◌, ◌-◌, ◌≤◌, ◌<◌, min, length, replicate};
@@ -11,16 +13,21 @@ ghost use Rattle.rules.specs.Frames.{bad_line};
 ghost use Rattle.found_items.specs.Items.{shown_from, Pointing};
 ghost use Rattle.request.specs.Serving.{Ready};
 ghost use Rattle.frames.specs.Writing.{Wrote};
-ghost use Rattle.program.specs.Moving.{most_rounds, again, moved_by, bytes_of, held_up_to, filled_up_to, got_by, Sends, Flushes, Receives};
-ghost use Rattle.program.specs.Running.{pool_size, status_of, Begins, Stands, Onward, Replies, passed_by, Drains, Closes, Ending, Moves, Waited, Rounds, RunsTo, Runs, PrintsAll};
+ghost use Rattle.program.specs.Moving.{most_rounds, again, moved_by, filled_up_to, came_by, count_of, Sends, Flushes, Receives};
+ghost use Rattle.program.specs.Running.{status_of, Begins, Stands, Onward, Replies, passed_by, Drains, Closes, Ending, Moves, Waited, Rounds, RunsTo, Runs, PrintsAll};
 
-use frames::Framed;
+use frames::BadFrame;
 use free_slots::FreeSlots;
+use pool::node::Pool;
 use rules::{Edition, FoundRecord, RecordNumber, Rect, Request};
-use std::hint;
-use std::io::{Eprint, Error, ErrorKind, Read, Result, Write};
+use std::io::{Eprint, Error, ErrorKind, Read, Write};
+use std::ops::ControlFlow;
+use std::{hint, io};
 
-// "a 128-slot pool (5,384 words)"
+// "a 128-slot pool (5,384 words)" The pool and the workspace are handed on as arrays, so that no
+// contract has to say how long they are. The input and the output are slices: what reads and writes
+// them is proved for any length, and most functions have one of the two. In one struct of all four
+// each function would have what it leaves alone, and would have to say so.
 const WORDS: usize = 5384;
 
 // The lines of one frame take no more bytes of the output than this.
@@ -28,6 +35,12 @@ const ROOM: usize = 7124;
 
 // The bytes that are read at a time, and those that wait to be written.
 const BUFFER: usize = 65536;
+
+// More rounds than any run has, and more tries than it takes to write. Nothing says that the input
+// ends, or that the other side will ever be ready, and a loop has to end.
+const ROUNDS: u64 = u64::MAX;
+
+const TRIES: u64 = u64::MAX;
 
 // How a run ends. The numbers are the program's status.
 pub const ANSWERED: i32 = 0;
@@ -66,8 +79,10 @@ impl End {
     }
 }
 
-// How far the run has come: so many frames came before, the bytes of the input from `at` up to `end` are not done, and the first `filled`
-// of the output are not written.
+// How far the run has come: so many frames came before, the bytes of the input from `at` up to
+// `end` are not done, and the first `filled` of the output are not written. That one frame more can
+// be counted, `before < most_rounds`, is asked where it is, and is nothing that every run has: after
+// the last round it is not so.
 #[derive(Clone, Copy)]
 struct Run {
     before: u64,
@@ -77,7 +92,9 @@ struct Run {
     filled: usize,
 }
 
-// What is next: the next frame; more bytes, which are waited for; room for lines; or nothing, since the frame was bad.
+// What is next: the next frame; more bytes, which are waited for; room for lines; or nothing, since
+// the frame was bad. These are four ways on, each with its own step after it, and no enum of the
+// library has as many.
 #[derive(Clone, Copy)]
 enum Then {
     Goes(Run),
@@ -90,86 +107,53 @@ enum Then {
 fn no_record() -> FoundRecord
     ensures { result ≡ no_record }
 {
-    let number = RecordNumber(0);
-    let rect = Rect {
-        lowX: 0,
-        lowY: 0,
-        highX: 0,
-        highY: 0,
-    };
-    FoundRecord { number, rect }
-}
-
-fn least(a: usize, b: usize) -> usize
-    ensures { result ≡ min a b }
-{
-    if a < b { a } else { b }
+    FoundRecord {
+        number: RecordNumber(0),
+        rect: Rect::default(),
+    }
 }
 
 // "a found list of 64", filled with what the request listed.
-fn found_list(pool: &[i32], work: &[i32], listed: usize) -> [FoundRecord; 64]
-    requires pool_len { length pool.now ≡ pool_size }
-    requires work_len { length work.now ≡ pool_size }
-    requires pointing { Pointing pool.now work.now 0 listed }
-    ensures { result ≡ sets (replicate 64 no_record) 0 (shown_from pool.now work.now 0 (min listed 64)) }
+fn found_list(pool: &[i32; WORDS], work: &[i32; WORDS], listed: usize) -> [FoundRecord; 64]
+    requires { Pointing pool.now work.now 0 listed }
+    ensures { result
+        ≡ sets (replicate 64 no_record) 0 (shown_from pool.now work.now 0 (min listed 64)) }
 {
-    let none = no_record();
-    let shown = least(listed, 64);
-    let mut found = [none; 64];
-    let mut k: usize = 0;
-    while k < shown {
+    let mut found = [no_record(); 64];
+    for k in 0..listed.min(64) {
         found[k] = found_items::item(pool, work, k);
-        k += 1;
     }
     found
 }
 
-// "Each frame is a batch of one with a found list of 64." The run has passed the frame then, and its lines wait to be written.
+// "Each frame is a batch of one with a found list of 64." The run has passed the frame then, and
+// its lines wait to be written.
 fn answer(
-    pool: &mut [i32],
-    work: &mut [i32],
+    pool: &mut [i32; WORDS],
+    work: &mut [i32; WORDS],
     q: Request,
     size: usize,
     run: Run,
     out: &mut [u8],
 ) -> Run
     requires ready { Ready pool.old run.free }
-    requires words { length pool.old ≡ pool_size }
-    requires space { length work.old ≡ pool_size }
     requires asks { is_request q ≡ true }
     requires room { run.filled + 7124 ≤ length out.old }
     requires counted { run.before < most_rounds }
     requires within { run.at + size ≤ run.end }
-    ensures reply { Replies pool.old q run.before out.old run.filled pool.new out.new result.free result.filled }
+    ensures reply { Replies pool.old q run.before out.old run.filled pool.new out.new result.free
+        result.filled }
     ensures passed { result ≡ passed_by run size result.free result.filled }
 {
-    let free = run.free;
-    let before = run.before;
-    let served = request::one_request(pool, work, 1, q, 0, 64, free);
-    let left = served.free;
-    let a = served.answer;
+    let served = request::one_request(pool, work, 1, q, 0, 64, run.free);
     let found = found_list(pool, work, served.listed);
-    let filled = frames::reply_lines(out, run.filled, before, a, found);
+    let filled = frames::reply_lines(out, run.filled, run.before, served.answer, found);
     Run {
-        before: before + 1,
-        free: left,
+        before: run.before + 1,
+        free: served.free,
         at: run.at + size,
-        end: run.end,
         filled,
-    }
-}
-
-// The run with so much of the output filled.
-fn filled_to(run: Run, filled: usize) -> Run
-    ensures { result ≡ filled_up_to run filled }
-{
-    let free = run.free;
-    Run {
-        before: run.before,
-        free,
-        at: run.at,
-        end: run.end,
-        filled,
+        ..run
     }
 }
 
@@ -177,46 +161,37 @@ fn filled_to(run: Run, filled: usize) -> Run
 fn bad_frame(out: &mut [u8], run: Run) -> Run
     requires room { run.filled + 31 ≤ length out.old }
     requires counted { run.before < most_rounds }
-    ensures line { Wrote out.old run.filled (bad_line (suc run.before)) out.new result.filled × (result.filled ≤ length out.old) }
+    ensures line { Wrote out.old run.filled (bad_line (suc run.before)) out.new result.filled
+        × (result.filled ≤ length out.old) }
     ensures rest { result ≡ filled_up_to run result.filled }
 {
     let filled = frames::bad_line(out, run.filled, run.before);
-    filled_to(run, filled)
+    Run { filled, ..run }
 }
 
 // The frame that the bytes begin, if it is here.
-fn turn(pool: &mut [i32], work: &mut [i32], input: &[u8], run: Run, out: &mut [u8]) -> Then
+fn turn(
+    pool: &mut [i32; WORDS],
+    work: &mut [i32; WORDS],
+    input: &[u8],
+    run: Run,
+    out: &mut [u8],
+) -> Then
     requires stands { Stands pool.old input.now out.old run }
-    requires words { length pool.old ≡ pool_size }
-    requires space { length work.old ≡ pool_size }
     requires counted { run.before < most_rounds }
     ensures { Onward pool.old input.now out.old run pool.new out.new result }
 {
-    let at = run.at;
-    let end = run.end;
     if out.len() - run.filled < ROOM {
         return Then::Full(run);
     }
-    match frames::read_frame(&input[at..end]) {
-        Framed::Asks { request, size } => Then::Goes(answer(pool, work, request, size, run, out)),
-        Framed::Waits => Then::Waits(run),
-        Framed::Bad => Then::Ends(bad_frame(out, run)),
+    match frames::read_frame(&input[run.at..run.end]) {
+        Ok(Some(frame)) => { Then::Goes(answer(pool, work, frame.request, frame.size, run, out)) }
+        Ok(None) => Then::Waits(run),
+        Err(BadFrame) => Then::Ends(bad_frame(out, run)),
     }
 }
 
 // ---- the reader's and the writer's calls
-
-// What a call of `read` or `write` answered.
-#[derive(Clone, Copy)]
-enum Moved {
-    // So many bytes, one or more.
-    Bytes(usize),
-    // None: at the end of the input.
-    Nothing,
-    // None for now, since a signal came in between or the other side was not ready.
-    Again,
-    Failed(Error),
-}
 
 // A call is made again where a signal came in between, or the other side was not ready.
 fn try_again(error: Error) -> bool
@@ -225,148 +200,101 @@ fn try_again(error: Error) -> bool
     matches!(error.kind(), ErrorKind::Interrupted | ErrorKind::WouldBlock)
 }
 
-// What a call moved, by its answer.
-fn what_moved(answer: Result<usize>) -> Moved
+// How many bytes a call moved, or `None` where it is made again.
+#[tactic(auto, unfolding(crate::specs::Moving::moved_by))]
+fn what_moved(answer: io::Result<usize>) -> io::Result<Option<usize>>
     ensures { result ≡ moved_by answer }
 {
     match answer {
-        Ok(n) => {
-            if n == 0 {
-                return Moved::Nothing;
-            }
-            Moved::Bytes(n)
+        Ok(n) => Ok(Some(n)),
+        Err(error) if try_again(error) => {
+            hint::spin_loop();
+            Ok(None)
         }
-        Err(error) => {
-            if try_again(error) {
-                return Moved::Again;
-            }
-            Moved::Failed(error)
-        }
+        Err(error) => Err(error),
     }
 }
 
-// How far the output is written.
-#[derive(Clone, Copy)]
-enum Sent {
-    UpTo(usize),
-    // Without an error, no byte was taken.
-    Failed(Option<Error>),
-}
-
-// Hands the bytes of the output from `sent` up to `filled` to `write`, once. It may take fewer than all.
-fn send<W: Write>(writer: &mut W, out: &[u8], sent: usize, filled: usize) -> Sent
+// Hands the bytes of the output from `sent` up to `filled` to `write`, once, and says how far the
+// output is written then. It may take fewer than all. `Err(None)`: it took none.
+fn send<W: Write>(
+    writer: &mut W,
+    out: &[u8],
+    sent: usize,
+    filled: usize,
+) -> Result<usize, Option<Error>>
     requires { (sent ≤ filled) × (filled ≤ length out.now) }
     ensures { Sends (W.contents writer.old) (W.contents writer.new) out.now sent filled result }
 {
     let answer = writer.write(&out[sent..filled]);
-    match what_moved(answer) {
-        Moved::Bytes(n) => Sent::UpTo(sent + n),
-        Moved::Nothing => Sent::Failed(None),
-        Moved::Again => {
-            hint::spin_loop();
-            Sent::UpTo(sent)
-        }
-        Moved::Failed(error) => Sent::Failed(Some(error)),
+    match what_moved(answer)? {
+        Some(0) => Err(None),
+        Some(n) => Ok(sent + n),
+        None => Ok(sent),
     }
 }
 
-// What came of writing all lines: the run goes on with an empty output, or only so many bytes were taken.
+// Only so many bytes were taken, and then no more; `error` is what the last `write` said, if it
+// said why.
 #[derive(Clone, Copy)]
-enum Flushed {
-    All(Run),
-    Stopped(usize, Option<Error>),
+struct Stopped {
+    sent: usize,
+    error: Option<Error>,
 }
 
-// Writes all that is not written yet. Nothing is written after a `write` that failed. The tries are counted down from a number that no
-// run uses up, since nothing says that the other side will ever be ready, and a loop has to end.
-fn flush<W: Write>(writer: &mut W, out: &[u8], run: Run) -> Flushed
+// Writes all that is not written yet: the run goes on with an empty output then. Nothing is written
+// after a `write` that failed.
+fn flush<W: Write>(writer: &mut W, out: &[u8], run: Run) -> Result<Run, Stopped>
     requires { run.filled ≤ length out.now }
     ensures { Flushes (W.contents writer.old) (W.contents writer.new) out.now run result }
 {
-    let filled = run.filled;
     let mut sent: usize = 0;
-    let mut tries = u64::MAX;
-    while tries > 0 {
-        if sent == filled {
-            return Flushed::All(filled_to(run, 0));
+    for _ in 0..TRIES {
+        if sent == run.filled {
+            return Ok(Run { filled: 0, ..run });
         }
-        match send(writer, out, sent, filled) {
-            Sent::UpTo(next) => sent = next,
-            Sent::Failed(error) => return Flushed::Stopped(sent, error),
-        }
-        tries -= 1;
+        sent = send(writer, out, sent, run.filled).map_err(|error| Stopped { sent, error })?;
     }
-    Flushed::Stopped(sent, None)
-}
-
-// What came of reading once.
-#[derive(Clone, Copy)]
-enum Got {
-    // Some bytes, or none yet.
-    Came(Run),
-    // The input has ended.
-    Ended(Run),
-    Failed(Error),
+    Err(Stopped { sent, error: None })
 }
 
 // Reads once, to the place after the bytes that wait, which go to the front of the input first.
-fn receive<R: Read>(reader: &mut R, input: &mut [u8], run: Run) -> Got
+// `None`: the input has ended.
+fn receive<R: Read>(reader: &mut R, input: &mut [u8], run: Run) -> io::Result<Option<Run>>
     requires bytes { (run.at ≤ run.end) × (run.end ≤ length input.old) }
     requires room { run.end - run.at < length input.old }
-    ensures { Receives (R.remaining reader.old) (R.remaining reader.new) input.old input.new run result }
+    ensures { Receives (R.remaining reader.old) (R.remaining reader.new) input.old input.new run
+        result }
 {
     let rest = frames::keep_rest(input, run.at, run.end);
     let answer = reader.read(&mut input[rest..]);
-    after_read(run, rest, what_moved(answer))
+    Ok(after_read(run, rest, what_moved(answer)?))
 }
 
 // How the run goes on after a read to the place after the `rest` bytes that wait.
-fn after_read(run: Run, rest: usize, moved: Moved) -> Got
-    requires { rest + bytes_of moved ≤ 18446744073709551615 }
-    ensures { result ≡ got_by run rest moved }
+#[tactic(auto, unfolding(crate::specs::Moving::came_by))]
+fn after_read(run: Run, rest: usize, moved: Option<usize>) -> Option<Run>
+    requires { rest + count_of moved ≤ 18446744073709551615 }
+    ensures { result ≡ came_by run rest moved }
 {
-    match moved {
-        Moved::Bytes(n) => Got::Came(held(run, rest + n)),
-        Moved::Nothing => Got::Ended(held(run, rest)),
-        Moved::Again => {
-            hint::spin_loop();
-            Got::Came(held(run, rest))
-        }
-        Moved::Failed(error) => Got::Failed(error),
-    }
-}
-
-// The run with the bytes of the input from its start up to `end` not done.
-fn held(run: Run, end: usize) -> Run
-    ensures { result ≡ held_up_to run end }
-{
-    let free = run.free;
-    Run {
-        before: run.before,
-        free,
-        at: 0,
-        end,
-        filled: run.filled,
-    }
+    let end = match moved {
+        Some(0) => return None,
+        Some(n) => rest + n,
+        None => rest,
+    };
+    Some(Run { at: 0, end, ..run })
 }
 
 // ---- the run
 
-// What is next after a round: another, or the end of the run.
-#[derive(Clone, Copy)]
-enum Step {
-    Goes(Run),
-    Ends(End),
-}
-
 // The answers are written, and the run goes on.
-fn drain<W: Write>(writer: &mut W, out: &[u8], run: Run) -> Step
+fn drain<W: Write>(writer: &mut W, out: &[u8], run: Run) -> ControlFlow<End, Run>
     requires { run.filled ≤ length out.now }
     ensures { Drains (W.contents writer.old) (W.contents writer.new) out.now run result }
 {
     match flush(writer, out, run) {
-        Flushed::All(r) => Step::Goes(r),
-        Flushed::Stopped(_, error) => Step::Ends(End::NotWritten(error)),
+        Ok(next) => ControlFlow::Continue(next),
+        Err(stopped) => ControlFlow::Break(End::NotWritten(stopped.error)),
     }
 }
 
@@ -376,8 +304,8 @@ fn close<W: Write>(writer: &mut W, out: &[u8], run: Run) -> End
     ensures { Closes (W.contents writer.old) (W.contents writer.new) out.now run result }
 {
     match flush(writer, out, run) {
-        Flushed::All(_) => End::BadFrame,
-        Flushed::Stopped(_, error) => End::NotWritten(error),
+        Ok(_) => End::BadFrame,
+        Err(stopped) => End::NotWritten(stopped.error),
     }
 }
 
@@ -387,22 +315,11 @@ fn last_line<W: Write>(writer: &mut W, out: &mut [u8], run: Run) -> End
     requires room { 31 ≤ length out.old }
     ensures { Ending (W.contents writer.old) (W.contents writer.new) out.old out.new run result }
 {
-    let at = run.at;
-    let end = run.end;
-    let free = run.free;
-    let before = run.before;
-    if at == end {
+    if run.at == run.end {
         return End::Answered;
     }
-    let filled = frames::bad_line(out, 0, before);
-    let last = Run {
-        before,
-        free,
-        at,
-        end,
-        filled,
-    };
-    close(writer, out, last)
+    let filled = frames::bad_line(out, 0, run.before);
+    close(writer, out, Run { filled, ..run })
 }
 
 // The answers to the frames that have arrived are seen before more input is waited for.
@@ -412,22 +329,21 @@ fn wait<R: Read, W: Write>(
     input: &mut [u8],
     out: &mut [u8],
     run: Run,
-) -> Step
+) -> ControlFlow<End, Run>
     requires bytes { (run.at ≤ run.end) × (run.end ≤ length input.old) }
     requires room { run.end - run.at < length input.old }
     requires lines { (run.filled ≤ length out.old) × (31 ≤ length out.old) }
     requires counted { run.before < most_rounds }
-    ensures { Waited (Moves (R.remaining reader.old) (R.remaining reader.new) (W.contents writer.old) (W.contents writer.new)) (R.remaining reader.new)
+    ensures { Waited
+        (Moves (R.remaining reader.old) (R.remaining reader.new) (W.contents writer.old)
+        (W.contents writer.new)) (R.remaining reader.new)
         input.old out.old run input.new out.new result }
 {
-    let next = match flush(writer, out, run) {
-        Flushed::All(next) => next,
-        Flushed::Stopped(_, error) => return Step::Ends(End::NotWritten(error)),
-    };
+    let next = drain(writer, out, run)?;
     match receive(reader, input, next) {
-        Got::Came(r) => Step::Goes(r),
-        Got::Ended(r) => Step::Ends(last_line(writer, out, r)),
-        Got::Failed(error) => Step::Ends(End::NotRead(error)),
+        Ok(Some(more)) => ControlFlow::Continue(more),
+        Ok(None) => ControlFlow::Break(last_line(writer, out, next)),
+        Err(error) => ControlFlow::Break(End::NotRead(error)),
     }
 }
 
@@ -435,36 +351,36 @@ fn wait<R: Read, W: Write>(
 fn round<R: Read, W: Write>(
     reader: &mut R,
     writer: &mut W,
-    pool: &mut [i32],
-    work: &mut [i32],
+    pool: &mut [i32; WORDS],
+    work: &mut [i32; WORDS],
     input: &mut [u8],
     out: &mut [u8],
     run: Run,
-) -> Step
+) -> ControlFlow<End, Run>
     requires stands { Stands pool.old input.old out.old run }
-    requires words { length pool.old ≡ pool_size }
-    requires space { length work.old ≡ pool_size }
     requires bytes { 40 ≤ length input.old }
     requires room { 7124 ≤ length out.old }
     requires counted { run.before < most_rounds }
-    ensures { Rounds (Moves (R.remaining reader.old) (R.remaining reader.new) (W.contents writer.old) (W.contents writer.new)) (R.remaining reader.new)
+    ensures { Rounds
+        (Moves (R.remaining reader.old) (R.remaining reader.new) (W.contents writer.old)
+        (W.contents writer.new)) (R.remaining reader.new)
         pool.old input.old out.old run pool.new input.new out.new result }
 {
     match turn(pool, work, input, run, out) {
-        Then::Goes(r) => Step::Goes(r),
+        Then::Goes(r) => ControlFlow::Continue(r),
         Then::Full(r) => drain(writer, out, r),
         Then::Waits(r) => wait(reader, writer, input, out, r),
-        Then::Ends(r) => Step::Ends(close(writer, out, r)),
+        Then::Ends(r) => ControlFlow::Break(close(writer, out, r)),
     }
 }
 
 // The pool blank, and the run at its start.
-fn first_run(pool: &mut [i32]) -> Run
-    requires { length pool.old ≡ pool_size }
+fn first_run(pool: &mut [i32; WORDS]) -> Run
     ensures { Begins pool.new result }
 {
-    pool::blank::blank(pool, Edition::One);
-    let free = free_slots::free_slots(pool);
+    // The length is right, so nothing is refused.
+    let _ = pool::blank::blank(pool, Edition::One);
+    let free = free_slots::free_slots(Pool::over(pool));
     Run {
         before: 0,
         free,
@@ -474,29 +390,23 @@ fn first_run(pool: &mut [i32]) -> Run
     }
 }
 
-// Reads and answers frame after frame. Nothing says that the input ends, and a loop has to: so the rounds are counted down, from a number
-// that no run uses up.
+// Reads and answers frame after frame, to the end of the input or of the rounds.
 fn answer_all<R: Read, W: Write>(reader: &mut R, writer: &mut W) -> End
-    ensures { RunsTo (Moves (R.remaining reader.old) (R.remaining reader.new) (W.contents writer.old) (W.contents writer.new))
-        (R.remaining reader.new) result }
+    ensures { RunsTo
+        (Moves (R.remaining reader.old) (R.remaining reader.new) (W.contents writer.old)
+        (W.contents writer.new)) (R.remaining reader.new) result }
 {
     let mut pool = [0i32; WORDS];
     let mut work = [0i32; WORDS];
     let mut input = [0u8; BUFFER];
     let mut out = [0u8; BUFFER];
     let mut run = first_run(&mut pool);
-    let mut rounds = u64::MAX;
-    while rounds > 0 {
+    for _ in 0..ROUNDS {
         match round(
             reader, writer, &mut pool, &mut work, &mut input, &mut out, run,
         ) {
-            Step::Goes(next) => {
-                run = next;
-                rounds -= 1;
-            }
-            Step::Ends(end) => {
-                return end;
-            }
+            ControlFlow::Continue(next) => run = next,
+            ControlFlow::Break(end) => return end,
         }
     }
     End::Endless

@@ -12,8 +12,8 @@ pub one_request-served-requires-clause-owner_value : goal.one_request-served-req
 unfolding good_owner
 one_request-served-requires-clause-owner_value c = refl
 
-pub found_list-found-requires-clause-pointing : goal.found_list-found-requires-clause-pointing
-found_list-found-requires-clause-pointing c =
+pub found_list-found-requires : goal.found_list-found-requires
+found_list-found-requires c =
     let x = asks_something (owner_in (edition_of c.args.pool.now) (owner (pos 1))) c.args.q c.requires.asks in
     (c.one_request-served.ensures x.0 x.1).pointing
 

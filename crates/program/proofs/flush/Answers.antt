@@ -1,54 +1,43 @@
 -- `flush`: a turn takes what one `write` takes. All is taken where the run goes on.
-use mathlib.Core.Path.{refl, subst}
-use Prim.Native.Nat.{ℕ, ◌+◌}
-use native.Mathlib.Omega.{arith}
-use Rattle.program.specs.declared.Sent.{Sent}
-use Rattle.program.specs.Moving.{Taken, none, more, Sends, refused, tired, Flushes}
-use Rattle.program.proofs.Moves.{taken_within}
+use Rattle.std.proofs.Common.{rules, ◌≡◌, ℕ, refl, subst, arith}
+use Rattle.program.specs.Moving.{Taken, none, more, tired, Flushes}
+use Rattle.std.proofs.lemmas.Result.{err_from_is_err_and}
+use Rattle.program.proofs.Moves.{taken_within, stops_by, ok_within, err_within}
 use Rattle.program.proofs.flush.Goals as goal
 
-pub loop-tries-init : goal.loop-tries-init
-loop-tries-init g c = record { taken = none; tried = 0; all = omega arith }
+pub loop-init : goal.loop-init
+loop-init g c = none
 
-pub returns-then-sent-filled : goal.returns-then-sent-filled
+pub returns-then-sent-run : goal.returns-then-sent-run
 unfolding Flushes
-returns-then-sent-filled g c = (
+returns-then-sent-run g c = (
   subst
-      (λ (n : ℕ). Taken (g.W.Write.contents c.args.writer.now) c.args.out.now c.args.run.filled n (g.W.Write.contents c.loop-tries.writer))
-      c.if-sent-filled.true c.loop-tries.invariant.taken,
-  rw c.filled_to.ensures (record { before = refl; free = refl; at = refl; end = refl; filled = refl }),
+      (λ (n : ℕ). Taken (g.W.Write.contents c.args.writer.now) c.args.out.now c.args.run.filled n (g.W.Write.contents c.loop.writer))
+      c.if-sent-run.true c.loop.invariant,
+  record { before = refl; free = refl; at = refl; end = refl; filled = refl },
 )
 
 pub send-requires : goal.send-requires
-send-requires g c = (taken_within c.loop-tries.invariant.taken, c.requires)
+send-requires g c = (taken_within c.loop.invariant, c.requires)
 
-pub returns-in-Failed : goal.returns-in-Failed
+pub returns-in_err-sent : goal.returns-in_err-sent
 unfolding Flushes
-returns-in-Failed g c =
-    record {
-      at = g.W.Write.contents c.loop-tries.writer;
-      taken = c.loop-tries.invariant.taken;
-      stuck = refused c.in-Failed.error
-          (subst (λ (x : Sent). Sends (g.W.Write.contents c.loop-tries.writer) (g.W.Write.contents c.send.new.writer) c.args.out.now
-          c.loop-tries.sent c.args.run.filled x) c.in-Failed.is c.send.ensures);
-    }
+returns-in_err-sent g c =
+    let p = err_from_is_err_and c.from_residual.result c.from_residual.ensures.1 in
+    let q = err_within _ c.send.result c.map_err.result c.map_err.ensures.cases c.in_err-sent.was in
+    let r : c.in_err-sent.field-0.0 ≡ record { sent = c.loop.sent; error = q.0 } = search (rules, q.2) in
+    rw (p.1, p.2, r) (stops_by c.loop.invariant c.send.ensures q.1)
 
-pub loop-tries-preserved : goal.loop-tries-preserved
-loop-tries-preserved g c =
-    record {
-      taken = more c.loop-tries.sent c.in-UpTo.next (g.W.Write.contents c.loop-tries.writer) (g.W.Write.contents c.send.new.writer)
-          c.loop-tries.invariant.taken
-          (subst (λ (x : Sent). Sends (g.W.Write.contents c.loop-tries.writer) (g.W.Write.contents c.send.new.writer) c.args.out.now
-          c.loop-tries.sent c.args.run.filled x) c.in-UpTo.is c.send.ensures);
-      tried = c.loop-tries.invariant.tried + 1;
-      all = omega (arith, c.loop-tries.invariant.all, c.loop-tries-test.true);
-    }
+pub loop-preserved : goal.loop-preserved
+loop-preserved g c =
+    more c.loop.sent c.in_ok-sent.sent (g.W.Write.contents c.loop.writer) (g.W.Write.contents c.send.new.writer)
+    c.loop.invariant (rw (← ok_within _ c.send.result c.map_err.result c.map_err.ensures.cases c.in_ok-sent.was) c.send.ensures)
 
 pub returns : goal.returns
 unfolding Flushes
 returns g c =
     record {
-      at = g.W.Write.contents c.loop-tries.writer;
-      taken = c.loop-tries.invariant.taken;
-      stuck = tired c.loop-tries.invariant.tried (omega (arith, c.loop-tries.invariant.all, c.loop-tries-test.false)) refl;
+      at = g.W.Write.contents c.loop.writer;
+      taken = c.loop.invariant;
+      stuck = tired c.loop.counter (omega (arith, c.loop-test.false, c.loop.auto.counter-end)) refl;
     }

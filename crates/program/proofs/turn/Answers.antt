@@ -1,5 +1,5 @@
 -- `turn`: each way on keeps what has to hold (Steps), with what the reader says of the bytes.
-use mathlib.Core.Path.{sym, ◌∙◌}
+use mathlib.Core.Path.{sym}
 use native.Mathlib.Omega.{arith}
 use Rattle.frames.proofs.Pieces.{asks_request}
 use Rattle.program.specs.Moving.{held_in}
@@ -11,19 +11,25 @@ returns-then-out-run-lt-ROOM c = onward_full c.requires.stands
 
 pub answer-requires-clause-asks : goal.answer-requires-clause-asks
 answer-requires-clause-asks c =
-    asks_request (held_in c.args.input.now c.args.run) c.in-Asks.request c.in-Asks.size (sym c.read_frame.ensures ∙ c.in-Asks.is)
+    let told = sym (rw c.in-Ok-Some.field-0-is at c.in-Ok-Some.ensures) in
+    asks_request (held_in c.args.input.now c.args.run) c.in-Ok-Some.frame.request c.in-Ok-Some.frame.size told
 
 pub answer-requires-clause-within : goal.answer-requires-clause-within
-answer-requires-clause-within c = asks_in c.requires.stands c.in-Asks.request c.in-Asks.size (sym c.read_frame.ensures ∙ c.in-Asks.is)
+answer-requires-clause-within c =
+    let told = sym (rw c.in-Ok-Some.field-0-is at c.in-Ok-Some.ensures) in
+    asks_in c.requires.stands c.in-Ok-Some.frame.request c.in-Ok-Some.frame.size told
 
-pub returns-in-Asks : goal.returns-in-Asks
-returns-in-Asks c =
-    onward_goes c.requires.stands c.in-Asks.request c.in-Asks.size c.answer.result (sym c.read_frame.ensures ∙ c.in-Asks.is)
+pub returns-in-Ok-Some : goal.returns-in-Ok-Some
+returns-in-Ok-Some c =
+    let told = sym (rw c.in-Ok-Some.field-0-is at c.in-Ok-Some.ensures) in
+    onward_goes c.requires.stands c.in-Ok-Some.frame.request c.in-Ok-Some.frame.size c.answer.result told
     (omega (arith, c.if-out-run-lt-ROOM.false, c.requires.stands.room)) c.answer.ensures.reply c.answer.ensures.passed
 
-pub returns-in-Waits : goal.returns-in-Waits
-returns-in-Waits c = onward_waits c.requires.stands (sym c.read_frame.ensures ∙ c.in-Waits.is)
+pub returns-in-Ok-None : goal.returns-in-Ok-None
+returns-in-Ok-None c =
+    let told = sym (rw c.in-Ok-None.field-0-is at c.in-Ok-None.ensures) in
+    onward_waits c.requires.stands told
 
-pub returns-in-Bad : goal.returns-in-Bad
-returns-in-Bad c =
-    onward_ends c.requires.stands c.bad_frame.result (sym c.read_frame.ensures ∙ c.in-Bad.is) c.bad_frame.ensures.line.1 c.bad_frame.ensures.line.0
+pub returns-in-Err : goal.returns-in-Err
+returns-in-Err c =
+    onward_ends c.requires.stands c.bad_frame.result (sym c.in-Err.ensures) c.bad_frame.ensures.line.1 c.bad_frame.ensures.line.0
