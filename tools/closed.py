@@ -15,7 +15,8 @@ use Rattle.rules.specs.declared.Edition.TheVariants.{One, Two}
 use Rattle.rules.specs.declared.Request.{Request}
 use Rattle.rules.specs.declared.Answer.{Answer}
 use Rattle.rules.specs.declared.Query.TheVariants.{Point, Box, Disc}
-use Rattle.rules.specs.declared.Surveyed.TheVariants.{Rounded, BadSurvey}
+use Rattle.std.specs.Prelude.{Ok, Err}
+use Rattle.rules.specs.declared.SurveyFault.TheVariants.{BadSurvey}
 use Rattle.rules.specs.Owners.{owner}
 use Rattle.rules.specs.Pool.{number, rectangle, no_record}
 use Rattle.rules.specs.Answers.{answer}
@@ -141,7 +142,7 @@ def survey_statement(name, line):
         query = f"Box (record {{ {sides} }})"
     else:
         query = f"{kind.capitalize()} {' '.join(doubles)}"
-    rounded = "BadSurvey" if becomes == "12" else f"Rounded {rect([int(n) for n in becomes.split()])}"
+    rounded = "Err BadSurvey" if becomes == "12" else f"Ok {rect([int(n) for n in becomes.split()])}"
     return f"""
 {name} : query_window ({query}) ≡ {rounded}
 unfolding document02
