@@ -323,11 +323,11 @@ pub fn reply_lines(
     at: usize,
     before: u64,
     answer: Answer,
-    found: [FoundRecord; 64],
+    found: &[FoundRecord; 64],
 ) -> usize
     requires room { at + 7124 ≤ length out.old }
     requires counted { before < 18446744073709551615 }
-    ensures wrote { Wrote out.old at (F.reply_lines (suc before) answer found) out.new result }
+    ensures wrote { Wrote out.old at (F.reply_lines (suc before) answer found.now) out.new result }
     ensures short { result ≤ at + 7124 }
 {
     let listed = listed_of(answer);

@@ -65,7 +65,7 @@ fn meets(a: Rect, b: Rect) -> bool
 }
 
 #[tactic(auto, unfolding(rules::specs::Lists::same))]
-fn same(a: i32, b: i32) -> bool
+pub fn same(a: i32, b: i32) -> bool
     ensures { result ≡ L.same a b }
 {
     a == b

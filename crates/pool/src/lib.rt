@@ -75,6 +75,25 @@ pub fn slot_size(edition: Edition) -> usize
     SLOT_HEAD + MOST * entry_size(edition)
 }
 
+// "Slot s (from 1) takes 42 words from word 8 + 42(s - 1)", the first of them its level; in edition
+// 2, 50 words.
+fn start_in(edition: Edition, s: SlotNumber) -> usize
+    requires { (1 ≤ s.0) × (s.0 ≤ most_slots) }
+    ensures { result ≡ L.slot_start edition s }
+{
+    HEAD_SIZE + slot_size(edition) * (s.0 - 1)
+}
+
+// Where the words of the entry at place i of slot s begin, its rectangle first: in any pool of the
+// edition, whether or not it has that slot.
+pub fn spot_in(edition: Edition, s: SlotNumber, i: usize) -> usize
+    requires le_s { (1 ≤ s.0) × (s.0 ≤ most_slots) }
+    requires i_lt_most { i < most }
+    ensures { result ≡ L.entry_place edition s i }
+{
+    start_in(edition, s) + SLOT_HEAD + entry_size(edition) * i
+}
+
 // How many slots of an edition fit into so many words. Each division is by a number that the
 // compiler knows: it is asked at every node, and a division by any other is slow.
 #[tactic(auto, unfolding(rules::specs::Layout::slots_fitting))]

@@ -14,8 +14,8 @@ ghost use Rattle.rules.specs.Numbers.{most};
 ghost use Rattle.layout_laws.specs.Slots.{InPool, NoneFrom};
 
 use crate::{
-    HEAD_SIZE, HEIGHT_PLACE, RECORDS_PLACE, RECT_SIZE, ROOT_PLACE, SLOT_HEAD, edition_of,
-    entry_size, no_entry, number_at, owner_in, pointer_of, rect_at, slot_count, slot_size, word,
+    HEIGHT_PLACE, RECORDS_PLACE, RECT_SIZE, ROOT_PLACE, edition_of, no_entry, number_at, owner_in,
+    pointer_of, rect_at, slot_count, spot_in, start_in, word,
 };
 use rules::{Edition, Entry, MOST, Pointer, RecordNumber, Rect, SlotNumber};
 
@@ -96,12 +96,11 @@ impl<'a> Node<'a> {
         }
     }
 
-    // Where its words begin, its level first: "Slot s (from 1) takes 42 words from word 8 + 42(s -
-    // 1)"; in edition 2, 50 words.
+    // Where its words begin, its level first.
     pub(crate) fn start(&self) -> usize
         ensures { result ≡ L.slot_start (L.edition_of self.now.words.now) self.now.slot }
     {
-        HEAD_SIZE + slot_size(self.edition) * (self.slot.0 - 1)
+        start_in(self.edition, self.slot)
     }
 
     // Where the count of its entries stands.
@@ -116,7 +115,7 @@ impl<'a> Node<'a> {
         requires { i < most }
         ensures { result ≡ L.entry_place (L.edition_of self.now.words.now) self.now.slot i }
     {
-        self.start() + SLOT_HEAD + entry_size(self.edition) * i
+        spot_in(self.edition, self.slot, i)
     }
 
     // Where its pointer stands.

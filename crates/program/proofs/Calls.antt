@@ -40,20 +40,22 @@ use Rattle.rules.specs.Pool.{no_record}
 abbrev empties : List FoundRecord
 empties = replicate 64 no_record
 
-module _ (p w : List ℤ) where
-  pub empties_none : empties ≡ sets empties 0 (shown_from p w 0 0)
-  empties_none = rw (items_none (shown_at p w) 0)
+-- what is found goes to the first places of a list, one after another
+module _ (es : List FoundRecord) (p w : List ℤ) where
+  pub filled_none : es ≡ sets es 0 (shown_from p w 0 0)
+  filled_none = rw (items_none (shown_at p w) 0)
 
-  pub empties_more : (k : ℕ) → set (sets empties 0 (shown_from p w 0 k)) k (shown_at p w k) ≡ sets empties 0 (shown_from p w 0 (k + 1))
-  empties_more k =
+  pub filled_more : (k : ℕ) → set (sets es 0 (shown_from p w 0 k)) k (shown_at p w k) ≡ sets es 0 (shown_from p w 0 (k + 1))
+  filled_more k =
       let n = items_length (shown_at p w) 0 k in
       let e : 0 + length (shown_from p w 0 k) ≡ k = omega arith in
       let z : 0 + k ≡ k = omega arith in
       let more : shown_from p w 0 (k + 1) ≡ shown_from p w 0 k ++ shown_at p w k ∷ [] =
       items_append (shown_at p w) 0 k 1 ∙ ap (λ (l : List FoundRecord). shown_from p w 0 k ++ l) (ap (λ (j : ℕ). shown_from p w j 1) z ∙ items_one (shown_at p w) k) in
-      ap (λ (j : ℕ). set (sets empties 0 (shown_from p w 0 k)) j (shown_at p w k)) (sym e)
-      ∙ sets_append (shown_from p w 0 k) (shown_at p w k ∷ []) empties 0 ∙ ap (λ (l : List FoundRecord). sets empties 0 l) (sym more)
+      ap (λ (j : ℕ). set (sets es 0 (shown_from p w 0 k)) j (shown_at p w k)) (sym e)
+      ∙ sets_append (shown_from p w 0 k) (shown_at p w k ∷ []) es 0 ∙ ap (λ (l : List FoundRecord). sets es 0 l) (sym more)
 
+module _ (p w : List ℤ) where
   -- the list has 64 places, so no more are filled
   pub empties_all : (n : ℕ) → sets empties 0 (shown_from p w 0 (min n 64)) ≡ sets empties 0 (shown_from p w 0 n)
   empties_all n = go (dec_le n 64)

@@ -5,7 +5,7 @@
 // what became of them.
 #![tactic(auto)]
 
-ghost use Rattle.std.specs.Prelude.{◌≡◌, true, suc, ◌+◌, ◌-◌, ◌≤◌, ◌<◌, min, length, replicate};
+ghost use Rattle.std.specs.Prelude.{◌≡◌, true, suc, ◌+◌, ◌-◌, ◌≤◌, ◌<◌, min, length};
 ghost use Rattle.std.proofs.lemmas.List.Edits.{sets};
 ghost use Rattle.rules.specs.Pool.{number, no_record};
 ghost use Rattle.rules.specs.Call.{is_request};
@@ -113,17 +113,15 @@ fn no_record() -> FoundRecord
     }
 }
 
-// "a found list of 64", filled with what the request listed.
-fn found_list(pool: &[i32; WORDS], work: &[i32; WORDS], listed: usize) -> [FoundRecord; 64]
+// What the request listed goes to the first places of the found list.
+fn fill_list(pool: &[i32; WORDS], work: &[i32; WORDS], listed: usize, found: &mut [FoundRecord; 64])
     requires { Pointing pool.now work.now 0 listed }
-    ensures { result
-        ≡ sets (replicate 64 no_record) 0 (shown_from pool.now work.now 0 (min listed 64)) }
+    ensures { found.new
+        ≡ sets found.old 0 (shown_from pool.now work.now 0 (min listed 64)) }
 {
-    let mut found = [no_record(); 64];
     for k in 0..listed.min(64) {
         found[k] = found_items::item(pool, work, k);
     }
-    found
 }
 
 // "Each frame is a batch of one with a found list of 64." The run has passed the frame then, and
@@ -146,8 +144,9 @@ fn answer(
     ensures passed { result ≡ passed_by run size result.free result.filled }
 {
     let served = request::one_request(pool, work, 1, q, 0, 64, run.free);
-    let found = found_list(pool, work, served.listed);
-    let filled = frames::reply_lines(out, run.filled, run.before, served.answer, found);
+    let mut found = [no_record(); 64];
+    fill_list(pool, work, served.listed, &mut found);
+    let filled = frames::reply_lines(out, run.filled, run.before, served.answer, &found);
     Run {
         before: run.before + 1,
         free: served.free,

@@ -16,7 +16,7 @@ pub struct Group {
 
 // A group to which places are added, its cover, and its enlargement for each of the places left,
 // kept at the place.
-#[derive(Drop)]
+#[derive(Clone, Copy)]
 pub struct Growing {
     pub group: Group,
     pub cover: Measured,

@@ -10,12 +10,13 @@ ghost use Rattle.rules.specs.Geometry as G;
 ghost use Rattle.rules.specs.Split as S;
 ghost use Rattle.split.specs.State.{AllValid, rects_of, groups_of, Assigned, Next, ends, GroupsWhole};
 
-pub use growing::Group;
-use growing::Growing;
+pub use choice::Keyed;
+pub use growing::{Group, Growing};
 use left::Left;
-use measured::Measured;
+pub use measured::Measured;
 use nexts::pick_next;
 use rules::{LEAST, NINE, Rect};
+pub use seeds::Seeds;
 use seeds::pick_seeds;
 
 mod choice;

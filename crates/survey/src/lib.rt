@@ -130,7 +130,8 @@ pub fn disc_window(x: f64, y: f64, radius: f64) -> Surveyed
 {
     if good_disc(x, y, radius) {
         let r = outward(spread(x, y, radius));
-        finish(further(r))
+        let s = further(r);
+        finish(s)
     } else {
         Err(SurveyFault::BadSurvey)
     }

@@ -7,7 +7,7 @@ use Prim.Native.Nat.{suc}
 use Rattle.frames.proofs.reply_lines.Goals as goal
 
 pub loop-record-init : goal.loop-record-init
-loop-record-init c = lines_none c.args.found
+loop-record-init c = lines_none c.args.found.now
 
 pub loop-record-preserved : goal.loop-record-preserved
 loop-record-preserved c =
@@ -15,7 +15,7 @@ loop-record-preserved c =
 
 pub returns : goal.returns
 returns c =
-    let a = lines_all (suc c.args.before) c.args.answer c.args.found (search rules)
+    let a = lines_all (suc c.args.before) c.args.answer c.args.found.now (search rules)
     c.listed_of-listed.ensures (omega arith) c.loop-record.auto.record-index-end c.answer.ensures
     c.loop-record.invariant in
     let w = a.wrote in

@@ -12,8 +12,8 @@ pub one_request-served-requires-clause-owner_value : goal.one_request-served-req
 unfolding good_owner
 one_request-served-requires-clause-owner_value c = refl
 
-pub found_list-found-requires : goal.found_list-found-requires
-found_list-found-requires c =
+pub fill_list-requires : goal.fill_list-requires
+fill_list-requires c =
     let x = asks_something (owner_in (edition_of c.args.pool.now) (owner (pos 1))) c.args.q c.requires.asks in
     (c.one_request-served.ensures x.0 x.1).pointing
 
@@ -22,5 +22,5 @@ returns-clause-reply c =
     let x = asks_something (owner_in (edition_of c.args.pool.now) (owner (pos 1))) c.args.q c.requires.asks in
     replies_by c.args.pool.now c.args.q x.0 c.args.run.before c.args.run.filled c.args.out.now c.reply_lines-filled.new.out
     c.one_request-served.new.pool c.one_request-served.new.work c.one_request-served.result c.reply_lines-filled.result
-    c.found_list-found.result c.requires.ready.right c.requires.ready.sound c.requires.asks x.1 (c.one_request-served.ensures x.0 x.1)
-    c.found_list-found.ensures c.reply_lines-filled.ensures.wrote c.reply_lines-filled.ensures.short
+    c.fill_list.new.found c.requires.ready.right c.requires.ready.sound c.requires.asks x.1 (c.one_request-served.ensures x.0 x.1)
+    (rw c.no_record-found.ensures at c.fill_list.ensures) c.reply_lines-filled.ensures.wrote c.reply_lines-filled.ensures.short

@@ -17,6 +17,9 @@ invariant_of-item c =
     (omega (arith, slot_few n.in_pool, c.requires.i_in_bounds)) in
     record { spot_fits = omega (arith, c.spot.ensures, ap (λ e. entry_place e n.slot c.args.i) n.told, at) }
 
+pub write-requires : goal.write-requires
+write-requires c = omega (arith, c.requires.next_in_bounds)
+
 pub returns : goal.returns
 returns c =
     let r = c.requires in

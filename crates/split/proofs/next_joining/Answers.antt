@@ -1,11 +1,33 @@
 -- `split::next_joining` meets its contract: forced into group 1, forced into group 2, or by
 -- PickNext and the choice of group.
-use mathlib.Core.Path.{sym, ◌∙◌}
+use mathlib.Core.Path.{refl, sym, ◌∙◌}
 use native.Mathlib.Omega.{arith}
 use Rattle.split.specs.State.{rects_of}
 use Rattle.split.proofs.Nine.{rect_is}
 use Rattle.split.proofs.Preferences.{grows_at}
 use Rattle.split.proofs.next_joining.Goals as goal
+
+pub returns-then-one-n-eq-LEAST : goal.returns-then-one-n-eq-LEAST
+returns-then-one-n-eq-LEAST c =
+    let all = (rw c.count-n.ensures at c.if-one-n-eq-LEAST.true) in
+    record {
+      there = c.requires.some;
+      one = λ q. refl;
+      two = λ p q. absurd (p all);
+      place = λ p q. absurd (p all);
+      group = λ p q. absurd (p all);
+    }
+
+pub returns-then-two-n-eq-LEAST : goal.returns-then-two-n-eq-LEAST
+returns-then-two-n-eq-LEAST c =
+    let all = (rw c.count-n.ensures at c.if-two-n-eq-LEAST.true) in
+    record {
+      there = c.requires.some;
+      one = λ q. absurd ((rw c.count-n.ensures at c.if-one-n-eq-LEAST.false) q);
+      two = λ n q. refl;
+      place = λ n q. absurd (q all);
+      group = λ n q. absurd (q all);
+    }
 
 pub second_first-requires-clause-grow_one_value : goal.second_first-requires-clause-grow_one_value
 second_first-requires-clause-grow_one_value c =

@@ -19,8 +19,8 @@ outward-r-requires c =
     (of_doubles _ _ _ (is_double c.args.x c.well_formed.0.1) (is_double c.args.y c.well_formed.1.0.1)
     (is_double c.args.radius c.well_formed.1.1.0.1)) g)
 
-pub further-requires : goal.further-requires
-further-requires c =
+pub further-s-requires : goal.further-s-requires
+further-s-requires c =
     let g = sym c.good_disc.ensures ∙ c.if-good_disc.true in
     rw (c.outward-r.ensures, c.spread.ensures)
     (spread_small c.args.x c.args.y c.args.radius
@@ -31,8 +31,8 @@ pub returns-then-good_disc : goal.returns-then-good_disc
 returns-then-good_disc c =
     let g = sym c.good_disc.ensures ∙ c.if-good_disc.true in
     c.finish.ensures
-    ∙ disc_yes c.args.x c.args.y c.args.radius c.further.result g
-    (c.further.ensures ∙ ap further (c.outward-r.ensures ∙ ap outward c.spread.ensures))
+    ∙ disc_yes c.args.x c.args.y c.args.radius c.further-s.result g
+    (c.further-s.ensures ∙ ap further (c.outward-r.ensures ∙ ap outward c.spread.ensures))
 
 pub returns-else-good_disc : goal.returns-else-good_disc
 returns-else-good_disc c =
